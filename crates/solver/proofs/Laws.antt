@@ -1,0 +1,7 @@
+-- Laws that several proofs cite.
+pub mod Parts
+pub mod Counting
+pub mod Fill
+pub mod Signs
+pub mod Sums
+pub mod Solver

@@ -1,0 +1,77 @@
+use mathlib.Core.Path.{_≡_, refl, sym, ap, _∙_}
+use Prim.Native.Nat.{_-_, _≤_}
+use native.Mathlib.Omega.{arith}
+use Rattle.solver.specs.Each.{eachDown}
+use Rattle.solver.specs.Lu.{backStep, backSubstitution}
+use Rattle.solver.proofs.Laws.Counting.{down-next, down-done}
+use borrow.Author.Needs.{needs}
+use Rattle.solver.proofs.lu.back_substitution.Statement.{statement}
+use Rattle.solver.proofs.lu.back_substitution.Tie as tie
+
+abbrev Inv-loop : tie.InvT-loop
+Inv-loop m b₀ w k₀ b k = (k ≤ w) × (eachDown k (backStep m) b ≡ eachDown w (backStep m) b₀)
+
+abbrev μ-loop : tie.MeasureT-loop
+μ-loop m b₀ w k₀ b k = k
+
+loop-holds : tie.Need-loop-holds Inv-loop μ-loop
+loop-holds c = (omega arith, refl)
+
+sub-k : tie.Need-sub-k Inv-loop μ-loop
+sub-k c = search needs
+
+mul-x : tie.Need-mul-x Inv-loop μ-loop
+mul-x c = search needs
+
+element-copy-out-x : tie.Need-element-copy-out-x Inv-loop μ-loop
+element-copy-out-x c = search needs
+
+entry-requires : tie.Need-entry-requires Inv-loop μ-loop
+entry-requires c κs = search needs
+
+mul-b : tie.Need-mul-b Inv-loop μ-loop
+mul-b c = search needs
+
+element-write-b : tie.Need-element-write-b Inv-loop μ-loop
+element-write-b c = search needs
+
+subtract-shares-requires : tie.Need-subtract-shares-requires Inv-loop μ-loop
+subtract-shares-requires c κs = search needs
+
+loop-less : tie.Need-loop-less Inv-loop μ-loop
+loop-less c = search needs
+
+loop-again : tie.Need-loop-again Inv-loop μ-loop
+unfolding backStep
+loop-again c =
+    let l = c .before .before .before .before .before .loop in
+    let s = c .before .before .before .before .before .before in (
+      omega (arith, l .inv .0),
+      ap (eachDown (l .k - 1) (backStep (s .args .m .now))) (rw (c .before .before .entry .ensures) at (c .subtract-shares .ensures))
+          ∙ sym (down-next (backStep (s .args .m .now)) (l .k) (l .b) (c .before .before .before .before .loop-test .taken)) ∙ l .inv .1,
+    )
+
+returns : tie.Need-returns Inv-loop μ-loop
+unfolding backSubstitution
+returns c =
+    let l = c .before .loop in
+    let s = c .before .before in
+    sym (down-done (backStep (s .args .m .now)) (l .k) (l .b) (c .loop-test .left)) ∙ l .inv .1
+
+pub back-substitution-spec : {M : Type 1} → statement M
+back-substitution-spec =
+    tie.close
+    (tie.spec
+    Inv-loop
+    μ-loop
+    loop-holds
+    sub-k
+    mul-x
+    element-copy-out-x
+    entry-requires
+    mul-b
+    element-write-b
+    subtract-shares-requires
+    loop-less
+    loop-again
+    returns)

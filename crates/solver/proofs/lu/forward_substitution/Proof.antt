@@ -1,0 +1,65 @@
+use mathlib.Core.Path.{_≡_, refl, sym, _∙_}
+use Prim.Native.Nat.{_-_}
+use Rattle.solver.specs.Each.{each}
+use Rattle.solver.specs.Lu.{forwardStep, forwardSubstitution}
+use Rattle.solver.proofs.Laws.Counting.{each-next, each-done}
+use borrow.Author.Needs.{needs}
+use Rattle.solver.proofs.lu.forward_substitution.Statement.{statement}
+use Rattle.solver.proofs.lu.forward_substitution.Tie as tie
+
+abbrev Inv-loop : tie.InvT-loop
+Inv-loop m b₀ w k₀ b k = each k w (forwardStep w m) b ≡ each 0 w (forwardStep w m) b₀
+
+abbrev μ-loop : tie.MeasureT-loop
+μ-loop m b₀ w k₀ b k = w - k
+
+loop-holds : tie.Need-loop-holds Inv-loop μ-loop
+loop-holds c = refl
+
+mul-x : tie.Need-mul-x Inv-loop μ-loop
+mul-x c = search needs
+
+element-copy-out-x : tie.Need-element-copy-out-x Inv-loop μ-loop
+element-copy-out-x c = search needs
+
+add-subtract-shares : tie.Need-add-subtract-shares Inv-loop μ-loop
+add-subtract-shares c = search needs
+
+subtract-shares-requires : tie.Need-subtract-shares-requires Inv-loop μ-loop
+subtract-shares-requires c κs = search needs
+
+add-k : tie.Need-add-k Inv-loop μ-loop
+add-k c = search needs
+
+loop-less : tie.Need-loop-less Inv-loop μ-loop
+loop-less c = search needs
+
+loop-again : tie.Need-loop-again Inv-loop μ-loop
+unfolding forwardStep
+loop-again c =
+    let l = c .before .before .before .before .loop in
+    let s = c .before .before .before .before .before in
+    rw (c .subtract-shares .ensures) (sym (each-next (forwardStep (s .args .w) (s .args .m .now)) (l .k) (s .args .w) (l .b) (c .before .before .before .loop-test .taken)) ∙ l .inv)
+
+returns : tie.Need-returns Inv-loop μ-loop
+unfolding forwardSubstitution
+returns c =
+    let l = c .before .loop in
+    let s = c .before .before in
+    sym (each-done (forwardStep (s .args .w) (s .args .m .now)) (l .k) (s .args .w) (l .b) (c .loop-test .left)) ∙ l .inv
+
+pub forward-substitution-spec : {M : Type 1} → statement M
+forward-substitution-spec =
+    tie.close
+    (tie.spec
+    Inv-loop
+    μ-loop
+    loop-holds
+    mul-x
+    element-copy-out-x
+    add-subtract-shares
+    subtract-shares-requires
+    add-k
+    loop-less
+    loop-again
+    returns)

@@ -1,0 +1,68 @@
+use mathlib.Core.Path.{_≡_, refl, sym, _∙_}
+use Prim.Native.Nat.{_-_}
+use Rattle.solver.specs.Each.{each}
+use Rattle.solver.specs.FastSolver.{setInnerDiagonal, setInnerDiagonals}
+use Rattle.solver.proofs.Laws.Counting.{each-next, each-done}
+use borrow.Author.Needs.{needs}
+use Rattle.solver.proofs.system.set_inner_diagonals.Statement.{statement}
+use Rattle.solver.proofs.system.set_inner_diagonals.Tie as tie
+
+abbrev Inv-loop : tie.InvT-loop
+Inv-loop diag n m₀ e₀ dense e = each e n (setInnerDiagonal diag) dense ≡ each 0 n (setInnerDiagonal diag) m₀
+
+abbrev μ-loop : tie.MeasureT-loop
+μ-loop diag n m₀ e₀ dense e = n - e
+
+loop-holds : tie.Need-loop-holds Inv-loop μ-loop
+loop-holds c = refl
+
+mul-set-entry : tie.Need-mul-set-entry Inv-loop μ-loop
+mul-set-entry c = search needs
+
+add-set-entry : tie.Need-add-set-entry Inv-loop μ-loop
+add-set-entry c = search needs
+
+mul-set-entry-2 : tie.Need-mul-set-entry-2 Inv-loop μ-loop
+mul-set-entry-2 c = search needs
+
+element-copy-out-set-entry : tie.Need-element-copy-out-set-entry Inv-loop μ-loop
+element-copy-out-set-entry c = search needs
+
+set-entry-requires : tie.Need-set-entry-requires Inv-loop μ-loop
+set-entry-requires c κs = search needs
+
+add-e : tie.Need-add-e Inv-loop μ-loop
+add-e c = search needs
+
+loop-less : tie.Need-loop-less Inv-loop μ-loop
+loop-less c = search needs
+
+loop-again : tie.Need-loop-again Inv-loop μ-loop
+loop-again c =
+    let l = c .before .before .before .before .loop in
+    let s = c .before .before .before .before .before in
+    rw (c .set-entry .ensures) (sym (each-next (setInnerDiagonal (s .args .diag .now)) (l .e) (s .args .n) (l .dense) (c .before .before .before .loop-test .taken)) ∙ l .inv)
+
+returns : tie.Need-returns Inv-loop μ-loop
+unfolding setInnerDiagonals
+returns c =
+    let l = c .before .loop in
+    let s = c .before .before in
+    sym (each-done (setInnerDiagonal (s .args .diag .now)) (l .e) (s .args .n) (l .dense) (c .loop-test .left)) ∙ l .inv
+
+pub set-inner-diagonals-spec : {M : Type 1} → statement M
+set-inner-diagonals-spec =
+    tie.close
+    (tie.spec
+    Inv-loop
+    μ-loop
+    loop-holds
+    mul-set-entry
+    add-set-entry
+    mul-set-entry-2
+    element-copy-out-set-entry
+    set-entry-requires
+    add-e
+    loop-less
+    loop-again
+    returns)

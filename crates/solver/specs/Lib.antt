@@ -1,0 +1,9 @@
+pub mod F64
+pub mod Each
+pub mod Res
+pub mod Near
+pub mod Sums
+pub mod Rows
+pub mod Lu
+pub mod Chain
+pub mod FastSolver

@@ -1,0 +1,144 @@
+// The dense solve of w unknowns: elimination with partial pivoting, and substitution.
+use crate::near::valid_divisor;
+use crate::rows::eliminate_rows;
+use crate::rows::entry;
+use crate::rows::pivot_row;
+use crate::rows::row;
+use crate::rows::set_row;
+ghost use mathlib.Core.Path.{_≡_};
+ghost use Prim.Native.Nat.{_+_, _-_, _*_, _<_, _≤_};
+ghost use lib.ListN.{length, drop};
+ghost use Rattle.solver.specs.Each.{each};
+ghost use Rattle.solver.specs.Rows.{pivotRow};
+ghost use Rattle.solver.specs.Lu.{luWith, eliminateColumn, luFactor, exchangeRows, pivotsValid, applyExchanges, subtractShare, forwardSubstitution, backSubstitution, luSolve};
+
+// The pivot row of column k: the rows from row k on, one part of the flat matrix, are handed to the pivot search.
+pub fn pivot_row_from(m: &[f64], w: usize, k: usize) -> usize
+    requires { ⌜ (length (now m) ≡ 625) × (w ≤ 25) × (k < w) ⌝ }
+    ensures { λ r. ⌜ (r ≡ k + pivotRow k (w - k) (drop (25 * k) (now (m .entry)))) × (r < w) ⌝ }
+{
+    let start = 25 * k;
+    k + pivot_row(&m[start..], k, w - k)
+}
+
+// Row k and row q, of which `pivots` is a copy, change places.
+pub fn exchange_rows(m: &mut [f64; 625], k: usize, q: usize, pivots: &[f64; 25])
+    requires { ⌜ (k < 25) × (q < 25) ⌝ }
+    ensures { λ _. ⌜ now (m .exit) ≡ exchangeRows k q (now (pivots .entry)) (now (m .entry)) ⌝ }
+{
+    if q == k {
+        return;
+    }
+    let old = row(m, k);
+    set_row(m, q, &old);
+    set_row(m, k, pivots);
+}
+
+// Column k: the pivot row comes to row k, and the column is eliminated from each row below.
+pub fn eliminate_column(m: &mut [f64; 625], exchanges: &mut [usize; 25], w: usize, k: usize)
+    requires { ⌜ (w ≤ 25) × (k < w) ⌝ }
+    ensures { λ _. ⌜ luWith (now (m .exit)) (now (exchanges .exit)) ≡ eliminateColumn w k (luWith (now (m .entry)) (now (exchanges .entry))) ⌝ }
+{
+    let q = pivot_row_from(m, w, k);
+    let pivot = entry(m, q, k);
+    let pivots = row(m, q);
+    exchange_rows(m, k, q, &pivots);
+    exchanges[k] = q;
+    eliminate_rows(m, w, k, &pivots, 1.0 / pivot);
+}
+
+// Each column in turn. Whether the pivots are valid is tested afterwards: they stay on the diagonal.
+pub fn lu_factor(m: &mut [f64; 625], exchanges: &mut [usize; 25], w: usize)
+    requires { ⌜ w ≤ 25 ⌝ }
+    ensures { λ _. ⌜ luWith (now (m .exit)) (now (exchanges .exit)) ≡ luFactor w (now (m .entry)) (now (exchanges .entry)) ⌝ }
+{
+    let mut k = 0;
+    while k < w {
+        eliminate_column(m, exchanges, w, k);
+        k += 1;
+    }
+}
+
+pub fn pivots_valid(m: &[f64; 625], w: usize) -> bool
+    requires { ⌜ w ≤ 25 ⌝ }
+    ensures { λ r. ⌜ r ≡ pivotsValid w (now (m .entry)) ⌝ }
+{
+    let mut valid = true;
+    let mut k = 0;
+    while k < w {
+        valid = valid & valid_divisor(entry(m, k, k));
+        k += 1;
+    }
+    valid
+}
+
+// The row exchanges of the factorisation, made on a right side.
+pub fn apply_exchanges(b: &mut [f64; 25], exchanges: &[usize; 25], w: usize)
+    requires { ⌜ w ≤ 25 ⌝ }
+    ensures { λ _. ⌜ now (b .exit) ≡ applyExchanges w (now (exchanges .entry)) (now (b .entry)) ⌝ }
+{
+    let mut k = 0;
+    while k < w {
+        let q = exchanges[k];
+        if q < 25 {
+            let x = b[k];
+            b[k] = b[q];
+            b[q] = x;
+        }
+        k += 1;
+    }
+}
+
+// The share of unknown k, which is x, is subtracted from the right sides of the rows from `start` up to `end`.
+pub fn subtract_shares(
+    m: &[f64; 625],
+    b: &mut [f64; 25],
+    k: usize,
+    x: f64,
+    start: usize,
+    end: usize,
+)
+    requires { ⌜ (k < 25) × (end ≤ 25) ⌝ }
+    ensures { λ _. ⌜ now (b .exit) ≡ each start end (subtractShare (now (m .entry)) k x) (now (b .entry)) ⌝ }
+{
+    let mut i = start;
+    while i < end {
+        b[i] = b[i] - entry(m, i, k) * x;
+        i += 1;
+    }
+}
+
+pub fn forward_substitution(m: &[f64; 625], b: &mut [f64; 25], w: usize)
+    requires { ⌜ w ≤ 25 ⌝ }
+    ensures { λ _. ⌜ now (b .exit) ≡ forwardSubstitution w (now (m .entry)) (now (b .entry)) ⌝ }
+{
+    let mut k = 0;
+    while k < w {
+        let x = b[k];
+        subtract_shares(m, b, k, x, k + 1, w);
+        k += 1;
+    }
+}
+
+pub fn back_substitution(m: &[f64; 625], b: &mut [f64; 25], w: usize)
+    requires { ⌜ w ≤ 25 ⌝ }
+    ensures { λ _. ⌜ now (b .exit) ≡ backSubstitution w (now (m .entry)) (now (b .entry)) ⌝ }
+{
+    let mut k = w;
+    while 0 < k {
+        k -= 1;
+        let x = b[k] / entry(m, k, k);
+        b[k] = x;
+        subtract_shares(m, b, k, x, 0, k);
+    }
+}
+
+// The unknowns stand where the right side stood.
+pub fn lu_solve(m: &[f64; 625], exchanges: &[usize; 25], b: &mut [f64; 25], w: usize)
+    requires { ⌜ w ≤ 25 ⌝ }
+    ensures { λ _. ⌜ now (b .exit) ≡ luSolve w (now (m .entry)) (now (exchanges .entry)) (now (b .entry)) ⌝ }
+{
+    apply_exchanges(b, exchanges, w);
+    forward_substitution(m, b, w);
+    back_substitution(m, b, w);
+}
