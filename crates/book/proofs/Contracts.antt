@@ -1,0 +1,35 @@
+-- What the three functions' own contracts ensure is what a session holds of their calls: a contract that said less would be refused here.
+use mathlib.Core.Path.{_≡_}
+use contract.Lifetimes.{Lfts}
+use denote.Ref.{now}
+use denote.Triple.Clauses.{AtExit}
+use borrow.Fn.Kinds.{Dens, endedOf}
+use Rattle.plain_book.specs.Calls as Book
+use Rattle.plain_book.specs.Session.{Meets}
+use Rattle.book.specs.Year.{year}
+use Rattle.book.specs.Answers.{givenOf, replyIn, code}
+use Rattle.book.specs.declared.book.Reply.{Reply}
+use Rattle.book.proofs.book.begin.Kinds as begin-kinds
+use Rattle.book.proofs.book.begin.Reads as begin-reads
+use Rattle.book.proofs.book.append.Kinds as append-kinds
+use Rattle.book.proofs.book.append.Reads as append-reads
+use Rattle.book.proofs.book.take_up.Kinds as take-up-kinds
+use Rattle.book.proofs.book.take_up.Reads as take-up-reads
+
+-- fn begin(given, head, buf): e has the buffer as the call left it
+pub begin-ensures : (κs : Lfts 2) (a : Dens κs begin-kinds.ps) (r : Reply) (e : AtExit (endedOf 2 begin-kinds.ps begin-kinds.r) κs)
+    → begin-reads.Post κs a r e
+    → Meets year code r (now (e .1 .1 .0)) (Book.begin year (now (a .1 .0)) (givenOf (a .0)) (now (a .1 .1 .0)))
+begin-ensures κs a r e p = p
+
+-- fn append(z, given, conditions, buf)
+pub append-ensures : (κs : Lfts 2) (a : Dens κs append-kinds.ps) (r : Reply) (e : AtExit (endedOf 2 append-kinds.ps append-kinds.r) κs)
+    → append-reads.Post κs a r e
+    → Meets year code r (now (e .1 .1 .1 .0)) (Book.append year (a .0) (givenOf (a .1 .0)) (now (a .1 .1 .0)) (now (a .1 .1 .1 .0)))
+append-ensures κs a r e p = p
+
+-- fn take_up(given, bytes)
+pub take-up-ensures : (κs : Lfts 1) (a : Dens κs take-up-kinds.ps) (r : Reply) (e : AtExit (endedOf 1 take-up-kinds.ps take-up-kinds.r) κs)
+    → take-up-reads.Post κs a r e
+    → r ≡ replyIn (Book.takeUp year (givenOf (a .0)) (now (a .1 .0)))
+take-up-ensures κs a r e p = p

@@ -1,0 +1,26 @@
+-- Demand 3 for the year book, and what else is claimed of books.
+use mathlib.Core.Path.{_≡_}
+use mathlib.Core.List.{List, map}
+use mathlib.Core.Option.{none}
+use Rattle.plain_book.specs.Plain.{empty}
+use Rattle.plain_book.specs.Run.{Calls, plainRun}
+use Rattle.plain_book.specs.Session.{Returned, Session, returnedOf}
+use Rattle.plain_book.specs.Claims.{Claims}
+use Rattle.plain_book.proofs.Claims.{claims}
+use Rattle.book.specs.Year.{year}
+use Rattle.book.specs.Answers.{code}
+use Rattle.book.proofs.Laws.Layers.{year-laws}
+
+-- All claims of specs/Claims.antt of the plain book, at the year book's layers: two books are equal byte for byte exactly when heads and hours
+-- are; a cut is a take-up of the bytes before it, is never refused and keeps the first hours; hours that a cut took are held again once
+-- accepted anew; which bytes are taken up, and which number and index there is otherwise; bytes behind the used ones stay.
+pub year-claims : Claims year
+year-claims = claims year year-laws
+
+-- "Demand 3 is one claim about the whole list, not one for each call." For every list of calls that starts with no book, of begins, appends,
+-- cuts and take-ups with whatever arguments, and for whatever `begin`, `append` and `take_up` returned and left in the lent buffers, of which
+-- a session holds what their contracts ensure and nothing else: each reply (verdict, number, index, temperatures, count, used length), each
+-- buffer, byte for byte, and the book held after each call are those of the plain book, which is fed the calls' arguments only.
+pub demand-3 : (cs : Calls year) (rs : List (Returned year code)) → Session year code none cs rs
+    → rs ≡ map (returnedOf year code) (plainRun year empty cs)
+demand-3 = year-claims .demand-3 code

@@ -1,0 +1,8 @@
+-- Laws of bytes in a buffer and of the loops that write them, of an entry's length, of the layers below, and those that the plain book
+-- asks of its layers.
+pub mod Replace
+pub mod Loops
+pub mod Entry
+pub mod Writing
+pub mod Accepted
+pub mod Layers

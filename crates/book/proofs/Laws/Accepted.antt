@@ -1,0 +1,39 @@
+-- What is known of an accepted head and an accepted hour.
+use Prim.Native.Nat.{ℕ, _≤_}
+use mathlib.Core.Path.{_≡_}
+use mathlib.Core.List.{List}
+use native.Mathlib.Omega.{arith}
+use lib.ListN.{length}
+use Rattle.solver.specs.Res.{ok, bind-ok}
+use Rattle.zone_head.specs.BuildingElement.{standardCoefficients, nodeCount}
+use Rattle.zone_head.specs.Head.{headOf}
+use Rattle.zone_head.specs.ZoneTest.{countsTest, zoneTest}
+use Rattle.zone_head.specs.declared.zone.Zone.{Zone}
+use Rattle.zone_head.proofs.Laws.Ranges.{counts-few}
+use Rattle.zone_head.proofs.Claims.Head.{head-tested}
+use Rattle.zone.specs.Hour.{HourResult}
+use Rattle.zone.specs.declared.state.State.{State}
+use Rattle.zone.proofs.Laws.Accepted.{conditions-length, count-few, temps-length}
+use Rattle.book.specs.Entry.{conditionsLength, wholeLength, entryOf}
+use Rattle.book.specs.Year.{hour}
+use Rattle.book.proofs.Laws.Entry.{node-count-few, length-entry}
+
+pub tested-few : (z : Zone) → zoneTest z ≡ ok tt → z .count ≤ 24
+unfolding zoneTest
+tested-few z e = counts-few z (bind-ok (countsTest z) _ tt e .1)
+
+pub head-few : (bs : List ℕ) (z : Zone) (n : ℕ) → headOf bs ≡ ok (z, n) → z .count ≤ 24
+head-few bs z n e = tested-few z (head-tested bs z n e)
+
+module _ (z : Zone) (s : State) (i : List ℕ) (r : HourResult) (e : hour z s i ≡ ok r) where
+  pub hour-conditions : length i ≡ conditionsLength z
+  hour-conditions = conditions-length standardCoefficients z s i r e
+
+  pub hour-few : z .count ≤ 24
+  hour-few = count-few standardCoefficients z s i r e
+
+  pub hour-temps : nodeCount z ≤ length (r .state .temps)
+  hour-temps = omega (arith, temps-length standardCoefficients z s i r e, node-count-few z hour-few)
+
+  pub hour-entry : length (entryOf z i (r .demand) (r .state)) ≡ wholeLength z
+  hour-entry = length-entry z i (r .demand) (r .state) hour-conditions hour-temps

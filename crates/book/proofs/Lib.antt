@@ -1,0 +1,6 @@
+-- Demand3 is the claim about the whole list, Contracts its tie to the functions; Calls and TakeUp have the functions' returns case by case.
+pub mod Laws
+pub mod Calls
+pub mod TakeUp
+pub mod Demand3
+pub mod Contracts

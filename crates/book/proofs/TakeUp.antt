@@ -1,0 +1,163 @@
+-- What take-up's functions answer at each return: one entry, the loop over the whole entries, and the call.
+use mathlib.Core.Path.{_≡_, sym, ap, _∙_}
+use mathlib.Core.Bool.{Bool, true, false}
+use mathlib.Core.List.{List, _∷_}
+use mathlib.Core.Option.{some}
+use Prim.Native.Nat.{ℕ, _+_, _-_, _*_, _≤_, _<_}
+use native.Mathlib.Nat.{add-sub-cancel-left}
+use native.Mathlib.Omega.{arith}
+use lib.ListN.{length, take, drop, length-drop}
+use lib.Seq.{length-take-le, drop-drop}
+use borrow.Author.Tests.{lt-ltb, le-ltb}
+use Rattle.solver.specs.Res.{Res, ok, refused}
+use Rattle.zone_head.specs.BuildingElement.{standardCoefficients}
+use Rattle.zone_head.specs.Head.{headOf, headAnswer}
+use Rattle.zone_head.specs.declared.zone.Zone.{Zone}
+use Rattle.zone_head.specs.declared.zone.Verdict.the-variants.{Accepted, Refused}
+use Rattle.zone_head.specs.declared.head.Head.{Head}
+use Rattle.zone_temps.specs.declared.balance.HeatBalance.{HeatBalance}
+use Rattle.zone.specs.Hour.{hourStep}
+use Rattle.zone.specs.StartUp.{initNodeTemps}
+use Rattle.zone.specs.Answers.{hourStepped, startedUp}
+use Rattle.zone.specs.declared.state.State.{State}
+use Rattle.zone.specs.declared.state.Demand.{Demand}
+use Rattle.zone.specs.declared.state.HourAnswer.the-variants as HourAnswer
+use Rattle.zone.specs.declared.state.HourStep.{HourStep}
+use Rattle.zone.specs.declared.state.StartUp.{StartUp}
+use Rattle.plain_book.specs.Bytes.{equalBytes}
+use Rattle.plain_book.specs.Calls as Book
+use Rattle.plain_book.proofs.Laws.Reading.{whole-none, whole-some}
+use Rattle.book.specs.Entry.{conditionsLength, wholeLength, entryOf}
+use Rattle.book.specs.Year.{hour, step, entryLength, conditionsIn, year}
+use Rattle.book.specs.Answers.{givenOf, replyIn, checkedEntry}
+use Rattle.book.specs.declared.book.Values.{Values}
+use Rattle.book.specs.declared.book.Reply.{Reply}
+use Rattle.book.specs.declared.book.CheckedEntry.{CheckedEntry}
+use Rattle.book.proofs.Laws.Layers.{length-here, length-none, year-laws}
+use Rattle.book.proofs.Calls.{apart, same-refusal, head-no, head-yes, start-no, start-yes, hour-no, hour-yes}
+
+-- ---- one entry
+
+module _ (z : Zone) (k : ℕ) (s : State) (c : List ℕ) where
+  -- the conditions, as the code cuts them out
+  abbrev part : List ℕ
+  part = take (118 + 41 * z .count - 5) (drop 5 c)
+
+  part-is : part ≡ conditionsIn z c
+  part-is = let e : 118 + 41 * z .count - 5 ≡ conditionsLength z = omega arith in ap (λ (n : ℕ). take n (drop 5 c)) e
+
+  abbrev Checked : CheckedEntry → Type 0
+  Checked y = y ≡ checkedEntry s (Book.checkEntry year k c (step z k s (conditionsIn z c)))
+
+  abbrev False : CheckedEntry → Type 0
+  False y = y ≡ record { verdict = Refused 18 k; state = s }
+
+  module _ (x : HourStep) (r : x ≡ hourStepped s (hourStep standardCoefficients z s part)) where
+    pub entry-refused : (n j : ℕ) → x .answer ≡ HourAnswer.Refused n j → (y : CheckedEntry) → False y → Checked y
+    unfolding step
+    entry-refused n j f y q =
+        let w : hour z s (conditionsIn z c) ≡ refused n j = ap (hour z s) (sym part-is) ∙ hour-no z s part x r n j f in
+        rw w q
+
+    module _ (d : Demand) (b : HeatBalance) (f : x .answer ≡ HourAnswer.Accepted d b) (t : Bool) (g : t ≡ equalBytes (entryOf z part d (x .state)) c) where
+      gives : hour z s (conditionsIn z c) ≡ ok (record { demand = d; state = x .state; balance = b })
+      gives = ap (hour z s) (sym part-is) ∙ hour-yes z s part x r d b f
+
+      same : equalBytes (entryOf z (conditionsIn z c) d (x .state)) c ≡ t
+      same = ap (λ (i : List ℕ). equalBytes (entryOf z i d (x .state)) c) (sym part-is) ∙ sym g
+
+      pub entry-right : t ≡ true → Checked (record { verdict = Accepted; state = x .state })
+      unfolding step
+      entry-right q = rw (gives, same ∙ q)
+
+      pub entry-other : t ≡ false → (y : CheckedEntry) → False y → Checked y
+      unfolding step
+      entry-other q y h = rw (gives, same ∙ q) h
+
+pub ruleset entry-cases = (entry-refused, entry-right, entry-other)
+
+-- ---- the loop over the whole entries
+
+check-no : (s : State) (r : Res State) (x : CheckedEntry) → x ≡ checkedEntry s r → (n j : ℕ) → x .verdict ≡ Refused n j → r ≡ refused n j
+check-no s (ok a) x e n j f = apart n j (sym (ap (λ y. y .verdict) e) ∙ f)
+check-no s (refused m k) x e n j f = same-refusal m k n j (sym (ap (λ y. y .verdict) e) ∙ f)
+
+check-yes : (s : State) (r : Res State) (x : CheckedEntry) → x ≡ checkedEntry s r → x .verdict ≡ Accepted → r ≡ ok (x .state)
+check-yes s (ok a) x e f = λ i. ok (sym e i .state)
+check-yes s (refused m k) x e f = apart m k (sym f ∙ ap (λ y. y .verdict) e)
+
+module _ (z : Zone) (m : ℕ) (l : m ≡ wholeLength z) (k : ℕ) (t : State) (at : ℕ) (b : List ℕ) (g : Values) (J : Res (Book.Values State))
+    (within : at ≤ length b) (inv : J ≡ Book.checkEntries year z k t at (Book.wholeEntries year z (drop at b))) where
+  abbrev Told : Reply → Type 0
+  Told r = r ≡ replyIn (Book.answerOf (givenOf g) J)
+
+  abbrev TurnsDown : Reply → (number index : ℕ) → Type 0
+  TurnsDown r n j = r ≡ replyIn (Book.refusedWith n j (givenOf g))
+
+  -- no whole entry is left
+  pub check-end : length b - at < m → (r : Reply) → r ≡ replyIn (Book.accepted (record { state = t; count = k; used = at })) → Told r
+  unfolding Book.checkEntries
+  check-end h r q =
+      rw (inv, whole-none year year-laws z (drop at b) (length-none z (drop at b) (omega (arith, length-drop at b)))) q
+
+  module _ (more : m ≤ length b - at) where
+    opened : Book.wholeEntries year z (drop at b) ≡ take m (drop at b) ∷ Book.wholeEntries year z (drop (at + m) b)
+    opened =
+        let w : entryLength z (drop at b) ≡ some m = length-here z (drop at b) (omega (arith, length-drop at b)) ∙ ap some (sym l) in
+        whole-some year year-laws z (drop at b) m w ∙ ap (λ (x : List ℕ). take m (drop at b) ∷ Book.wholeEntries year z x) (drop-drop m at b)
+
+    pub check-many : 8784 ≤ k → (r : Reply) → TurnsDown r 17 0 → Told r
+    unfolding Book.checkEntries
+    check-many h r q = rw (inv, opened, le-ltb k 8784 h) q
+
+    pub left-length : length (take (at + m - at) (drop at b)) ≡ wholeLength z
+    left-length = rw (add-sub-cancel-left at m) (length-take-le m (drop at b) (omega (arith, length-drop at b)) ∙ l)
+
+    module _ (few : k < 8784) (x : CheckedEntry)
+        (r : x ≡ checkedEntry t (Book.checkEntry year k (take (at + m - at) (drop at b)) (step z k t (conditionsIn z (take (at + m - at) (drop at b)))))) where
+      abbrev Entry : Res State
+      Entry = Book.checkEntry year k (take m (drop at b)) (step z k t (conditionsIn z (take m (drop at b))))
+
+      r′ : x ≡ checkedEntry t Entry
+      r′ =
+          r
+          ∙ ap (λ (n : ℕ). checkedEntry t (Book.checkEntry year k (take n (drop at b)) (step z k t (conditionsIn z (take n (drop at b))))))
+          (add-sub-cancel-left at m)
+
+      pub check-false : (n j : ℕ) → x .verdict ≡ Refused n j → (y : Reply) → TurnsDown y n j → Told y
+      unfolding Book.checkEntries
+      check-false n j e y q =
+          let w : Entry ≡ refused n j = check-no t Entry x r′ n j e in
+          rw (inv, opened, lt-ltb k 8784 few, w) q
+
+      pub check-right : x .verdict ≡ Accepted → J ≡ Book.checkEntries year z (k + 1) (x .state) (at + m) (Book.wholeEntries year z (drop (at + m) b))
+      unfolding Book.checkEntries
+      check-right e =
+          let n : length (take m (drop at b)) ≡ m = length-take-le m (drop at b) (omega (arith, length-drop at b)) in
+          let w : Entry ≡ ok (x .state) = check-yes t Entry x r′ e in
+          rw (inv, opened, lt-ltb k 8784 few, w, n)
+
+pub ruleset loop-cases = (check-end, check-many, check-false)
+
+-- ---- the call
+
+module _ (bytes : List ℕ) (h : Head) (e : h ≡ headAnswer (headOf bytes)) (g : Values) where
+  abbrev TakenUp : Reply → Type 0
+  TakenUp r = r ≡ replyIn (Book.takeUp year (givenOf g) bytes)
+
+  pub take-up-head : (r : Reply) (n j : ℕ) → r ≡ replyIn (Book.refusedWith n j (givenOf g)) → h .verdict ≡ Refused n j → TakenUp r
+  unfolding Book.takeUp Book.takeUpRes
+  take-up-head r n j q f = rw (head-no bytes h e n j f) q
+
+  module _ (f : h .verdict ≡ Accepted) (s : StartUp) (i : s ≡ startedUp (initNodeTemps standardCoefficients (h .zone))) where
+    pub take-up-start : (r : Reply) (n j : ℕ) → r ≡ replyIn (Book.refusedWith n j (givenOf g)) → s .verdict ≡ Refused n j → TakenUp r
+    unfolding Book.takeUp Book.takeUpRes
+    take-up-start r n j q k = rw (head-yes bytes h e f, start-no (h .zone) s i n j k) q
+
+    pub take-up-entries : s .verdict ≡ Accepted → (r : Reply)
+        → r ≡ replyIn (Book.answerOf (givenOf g) (Book.checkEntries year (h .zone) 0 (s .state) (h .length) (Book.wholeEntries year (h .zone) (drop (h .length) bytes))))
+        → TakenUp r
+    unfolding Book.takeUp Book.takeUpRes
+    take-up-entries k r q = rw (head-yes bytes h e f, start-yes (h .zone) s i k) q
+
+pub ruleset take-up-cases = (take-up-head, take-up-start, take-up-entries)

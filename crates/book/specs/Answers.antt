@@ -1,0 +1,53 @@
+-- What the functions answer, for what the definitions say: document 01's number and index of a refusal, and the values handed back.
+use Prim.Native.Nat.{ℕ}
+use mathlib.Core.Path.{_≡_, refl}
+use Rattle.solver.specs.Res.{Res, ok, refused}
+use Rattle.zone_head.specs.declared.zone.Verdict.{Verdict}
+use Rattle.zone_head.specs.declared.zone.Verdict.the-variants.{Accepted, Refused}
+use Rattle.zone.specs.declared.state.State.{State}
+use Rattle.plain_book.specs.Calls as Book
+use Rattle.plain_book.specs.Session.{CodeTypes}
+use Rattle.book.specs.Year.{year}
+use Rattle.book.specs.declared.book.Values.{Values}
+use Rattle.book.specs.declared.book.Reply.{Reply}
+use Rattle.book.specs.declared.book.CheckedEntry.{CheckedEntry}
+
+abbrev pub givenOf : Values → Book.Values State
+givenOf v = record { state = v .state; count = v .count; used = v .used }
+
+abbrev pub valuesIn : Book.Values State → Values
+valuesIn v = record { state = v .state; count = v .count; used = v .used }
+
+-- the reply of a call
+abbrev pub replyIn : Book.Answer State → Reply
+replyIn (Book.accepted v) = record { verdict = Accepted; values = valuesIn v }
+replyIn (Book.refusedWith number index v) = record { verdict = Refused number index; values = valuesIn v }
+
+abbrev answerBy : Verdict → Book.Values State → Book.Answer State
+answerBy Accepted v = Book.accepted v
+answerBy (Refused number index) v = Book.refusedWith number index v
+
+abbrev pub answerOf : Reply → Book.Answer State
+answerOf r = answerBy (r .verdict) (givenOf (r .values))
+
+abbrev pub code : CodeTypes year
+code =
+    record {
+      Values = Values;
+      Reply = Reply;
+      givenOf = givenOf;
+      valuesIn = valuesIn;
+      answerOf = answerOf;
+      replyIn = replyIn;
+      given-back = λ v. refl;
+      answer-back = back;
+    }
+  where
+    back : (a : Book.Answer State) → answerOf (replyIn a) ≡ a
+    back (Book.accepted v) = refl
+    back (Book.refusedWith number index v) = refl
+
+-- an entry's check: the state after it, or 18 and the state before it
+abbrev pub checkedEntry : (before : State) → Res State → CheckedEntry
+checkedEntry s (ok t) = record { verdict = Accepted; state = t }
+checkedEntry s (refused number index) = record { verdict = Refused number index; state = s }

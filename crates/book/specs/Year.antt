@@ -1,0 +1,53 @@
+-- The layers of the year book: the head's reader, start-up and the hour step of the crates below, and the bytes of an entry.
+use Prim.Native.Nat.{ℕ}
+use mathlib.Core.List.{List}
+use mathlib.Core.Option.{Option, none, some}
+use lib.ListN.{length, take, drop}
+use lib.Dec.{leb}
+use Rattle.solver.specs.Res.{Res, ok, bind}
+use Rattle.zone_head.specs.BuildingElement.{standardCoefficients}
+use Rattle.zone_head.specs.Head.{headOf}
+use Rattle.zone_head.specs.ZoneTest.{zoneTest}
+use Rattle.zone_head.specs.declared.zone.Zone.{Zone}
+use Rattle.zone.specs.Hour.{HourResult, hourStep}
+use Rattle.zone.specs.StartUp.{initNodeTemps}
+use Rattle.zone.specs.declared.state.State.{State}
+use Rattle.plain_book.specs.Bytes.{cond}
+use Rattle.plain_book.specs.Layers.{Layers}
+use Rattle.book.specs.Entry.{conditionsLength, wholeLength, entryOf}
+
+abbrev pub startUp : Zone → Res State
+startUp z = initNodeTemps standardCoefficients z
+
+abbrev pub hour : Zone → State → (conditions : List ℕ) → Res HourResult
+hour z s i = hourStep standardCoefficients z s i
+
+-- the entry that an hour has, and the state after it: how many entries are before it does not matter
+unfoldable pub step : Zone → (count : ℕ) → State → (conditions : List ℕ) → Res (List ℕ × State)
+step z k s i =
+    bind (hour z s i) λ r.
+    ok (entryOf z i (r .demand) (r .state), r .state)
+
+-- "a rest of the book begins with a whole entry if it has at least 4 bytes more than that"
+unfoldable pub entryLength : Zone → (rest : List ℕ) → Option ℕ
+entryLength z rest = cond (leb (wholeLength z) (length rest)) (some (wholeLength z)) none
+
+-- the conditions stand behind the length and the version
+abbrev pub conditionsIn : Zone → (entry : List ℕ) → List ℕ
+conditionsIn z e = take (conditionsLength z) (drop 5 e)
+
+abbrev pub year : Layers
+year =
+    record {
+      Zone = Zone;
+      State = State;
+      Item = List ℕ;
+      limit = 8784;
+      headOf = headOf;
+      zoneTest = zoneTest;
+      startUp = startUp;
+      step = step;
+      appendStep = step;
+      entryLength = entryLength;
+      itemOf = conditionsIn;
+    }

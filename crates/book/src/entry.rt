@@ -1,0 +1,121 @@
+// The bytes of an entry.
+use crate::bytes::begins_with;
+use crate::bytes::copy;
+use crate::bytes::put_float;
+use crate::bytes::put_floats;
+use crate::bytes::put_num;
+use zone::AchToTriggerHeating;
+use zone::Demand;
+use zone::State;
+use zone_head::Zone;
+use zone_head::node_count;
+ghost use mathlib.Core.Path.{_≡_};
+ghost use Prim.Native.Nat.{_+_, _*_, _≤_};
+ghost use lib.ListN.{length, take};
+ghost use Rattle.zone_head.specs.BuildingElement.{nodeCount};
+ghost use Rattle.plain_book.specs.Bytes.{equalBytes};
+ghost use Rattle.book.specs.Bytes.{replaceAt, floatsBytes};
+ghost use Rattle.book.specs.Entry.{
+  conditionsLength,
+  lengthField,
+  wholeLength,
+  frontBytes,
+  triggerBytes,
+  demandBytes,
+  entryOf,
+};
+
+// The version that entries are written with.
+const VERSION: u64 = 1;
+
+// N, the air's node included.
+fn nodes_of(z: Zone) -> usize
+    requires { ⌜ z .count ≤ 24 ⌝ }
+    ensures { λ r. ⌜ (r ≡ nodeCount z) × (r ≤ 121) ⌝ }
+{
+    node_count(z)
+}
+
+// The length that stands in an entry's first 4 bytes.
+fn length_field(z: Zone) -> usize
+    requires { ⌜ z .count ≤ 24 ⌝ }
+    ensures { λ r. ⌜ (r ≡ lengthField z) × (r ≤ 2099) ⌝ }
+{
+    147 + 41 * z.count + 8 * nodes_of(z)
+}
+
+// All bytes of an entry.
+pub fn entry_length(z: Zone) -> usize
+    requires { ⌜ z .count ≤ 24 ⌝ }
+    ensures { λ r. ⌜ (r ≡ wholeLength z) × (r ≤ 2103) ⌝ }
+{
+    4 + length_field(z)
+}
+
+// Length and version. The version is read in a comparison with these bytes, and nowhere else.
+fn put_front(z: Zone, b: &mut [u8], at: usize)
+    requires { ⌜ (z .count ≤ 24) × (at + 5 ≤ length (now b)) ⌝ }
+    ensures { λ _. ⌜ now (b .exit) ≡ replaceAt at (frontBytes z) (now (b .entry)) ⌝ }
+{
+    let length = length_field(z);
+    put_num(b, at, 4, length as u64);
+    put_num(b, at + 4, 1, VERSION);
+}
+
+fn put_trigger(trigger: AchToTriggerHeating, b: &mut [u8], at: usize)
+    requires { ⌜ at + 9 ≤ length (now b) ⌝ }
+    ensures { λ _. ⌜ now (b .exit) ≡ replaceAt at (triggerBytes trigger) (now (b .entry)) ⌝ }
+{
+    match trigger {
+        AchToTriggerHeating::Absent => {
+            put_num(b, at, 1, 0);
+            put_num(b, at + 1, 8, 0);
+        }
+        AchToTriggerHeating::At(rate) => {
+            put_num(b, at, 1, 1);
+            put_float(b, at + 1, rate);
+        }
+    }
+}
+
+fn put_demand(d: Demand, b: &mut [u8], at: usize)
+    requires { ⌜ at + 33 ≤ length (now b) ⌝ }
+    ensures { λ _. ⌜ now (b .exit) ≡ replaceAt at (demandBytes d) (now (b .entry)) ⌝ }
+{
+    let row = [d.space_heat_demand, d.space_cool_demand, d.ach_cooling];
+    put_floats(b, at, &row, 3);
+    let trigger = d.ach_to_trigger_heating;
+    put_trigger(trigger, b, at + 24);
+}
+
+// The first `nodes` temperatures.
+fn put_temperatures(s: State, nodes: usize, b: &mut [u8], at: usize)
+    requires { ⌜ (nodes ≤ 121) × (at + 8 * nodes ≤ length (now b)) ⌝ }
+    ensures { λ _. ⌜ now (b .exit) ≡ replaceAt at (floatsBytes (take nodes (s .temps))) (now (b .entry)) ⌝ }
+{
+    let temps = s.temps;
+    put_floats(b, at, &temps, nodes);
+}
+
+// An entry from `at` on: length and version, the conditions as they were given, the demand and the temperatures after the hour.
+pub fn put_entry(z: Zone, conditions: &[u8], d: Demand, s: State, b: &mut [u8], at: usize)
+    requires { ⌜ (z .count ≤ 24) × (length (now conditions) ≡ conditionsLength z) × (at + wholeLength z ≤ length (now b)) ⌝ }
+    ensures { λ _. ⌜ now (b .exit) ≡ replaceAt at (entryOf z (now (conditions .entry)) d s) (now (b .entry)) ⌝ }
+{
+    let n = conditions.len();
+    let nodes = nodes_of(z);
+    put_front(z, b, at);
+    copy(conditions, n, b, at + 5);
+    put_demand(d, b, at + 5 + n);
+    put_temperatures(s, nodes, b, at + 38 + n);
+}
+
+// Is a whole entry the one that these conditions, this demand and these temperatures have: it is written anew and compared.
+pub fn is_entry(z: Zone, conditions: &[u8], d: Demand, s: State, entry: &[u8]) -> bool
+    requires { ⌜ (z .count ≤ 24) × (length (now conditions) ≡ conditionsLength z) × (length (now entry) ≡ wholeLength z) × (length (entryOf z (now conditions) d s) ≡ wholeLength z) × (wholeLength z ≤ 2103) ⌝ }
+    ensures { λ r. ⌜ r ≡ equalBytes (entryOf z (now (conditions .entry)) d s) (now (entry .entry)) ⌝ }
+{
+    let mut expected = [0u8; 2103];
+    put_entry(z, conditions, d, s, &mut expected, 0);
+    begins_with(&expected, entry)
+}

@@ -1,0 +1,122 @@
+-- What each call returns and leaves at each of its returns, from the callees' answers on the way.
+use Prim.Native.Nat.{ℕ}
+use mathlib.Core.Path.{_≡_, refl, ap, _∙_}
+use mathlib.Core.List.{List, [], _∷_}
+use lib.Ieee.{Float}
+use Rattle.solver.specs.F64.{zero64, one64}
+use Rattle.zone.specs.declared.state.AchToTriggerHeating.the-variants.{Absent, At}
+use Rattle.solver.specs.Res.{Res}
+use Rattle.zone_head.specs.declared.zone.Zone.{Zone}
+use Rattle.zone_head.specs.declared.zone.Verdict.the-variants.{Accepted, Refused}
+use Rattle.zone_head.specs.declared.head.Head.{Head}
+use Rattle.zone_head.specs.BuildingElement.{standardCoefficients}
+use Rattle.zone_head.specs.Head.{headOf, headAnswer}
+use Rattle.zone_temps.specs.declared.balance.HeatBalance.{HeatBalance}
+use Rattle.zone.specs.declared.state.State.{State}
+use Rattle.zone.specs.declared.state.Demand.{Demand}
+use Rattle.zone.specs.declared.state.DemandAnswer.the-variants as DemandAnswer
+use Rattle.zone.specs.declared.state.UpdateAnswer.the-variants as UpdateAnswer
+use Rattle.zone.specs.declared.state.HourAnswer.the-variants as HourAnswer
+use Rattle.zone.specs.declared.state.Demanded.{Demanded}
+use Rattle.zone.specs.declared.state.Updated.{Updated}
+use Rattle.zone.specs.declared.state.HourStep.{HourStep}
+use Rattle.zone.specs.declared.state.StartUp.{StartUp}
+use Rattle.zone.specs.Hour.{demand, updateTemperatures, hourStep}
+use Rattle.zone.specs.StartUp.{initNodeTemps}
+use Rattle.zone.specs.Answers.{demanded, updated, hourStepped, startedUp}
+use Rattle.hem_zone.specs.Code.{refusalCode, answerCode, answered}
+use Rattle.hem_zone.specs.Arrays.{stateIn, demandOut, balanceOut}
+use Rattle.hem_zone.specs.Zone.{withZone, startUpOut, updateOut, hourOut, hemHead}
+use Rattle.hem_zone.proofs.Laws.Code.{answered-refused, answered-ok}
+use Rattle.hem_zone.proofs.Laws.Answers.{head-no, head-yes, start-no, start-yes, demand-no, demand-yes, update-no, update-yes, hour-no, hour-yes}
+
+-- ---- the head's refusal, or what the call makes of its zone
+
+module _ (head : List ℕ) (h : Head) (e : h ≡ headAnswer (headOf head)) where
+  module _ {A B : Type 0} (w : A → B) (before : B) (f : Zone → Res A) where
+    pub zone-refused : (n j code : ℕ) → h .verdict ≡ Refused n j → code ≡ refusalCode n j → (code, before) ≡ answered w before (withZone head f)
+    unfolding withZone
+    zone-refused n j code v q = answered-refused w before (withZone head f) n j code q (rw (head-no (headOf head) h e n j v))
+
+    pub zone-accepted : (x : ℕ × B) → h .verdict ≡ Accepted → x ≡ answered w before (f (h .zone)) → x ≡ answered w before (withZone head f)
+    unfolding withZone
+    zone-accepted x v q = q ∙ ap (answered w before) (rw (head-yes (headOf head) h e v))
+
+  pub head-refused : (n j code : ℕ) → h .verdict ≡ Refused n j → code ≡ refusalCode n j → code ≡ hemHead head
+  unfolding hemHead answerCode
+  head-refused n j code v q = rw (head-no (headOf head) h e n j v) q
+
+  pub head-accepted : h .verdict ≡ Accepted → 0 ≡ hemHead head
+  unfolding hemHead answerCode
+  head-accepted v = rw (head-yes (headOf head) h e v)
+
+pub ruleset zone-cases = (zone-refused, zone-accepted)
+
+pub ruleset head-cases = (head-refused, head-accepted)
+
+-- ---- start-up
+
+module _ (z : Zone) (before : List Float × ℕ) (s : StartUp) (e : s ≡ startedUp (initNodeTemps standardCoefficients z)) where
+  pub start-refused : (n j code : ℕ) → s .verdict ≡ Refused n j → code ≡ refusalCode n j → (code, before) ≡ answered startUpOut before (initNodeTemps standardCoefficients z)
+  start-refused n j code v q = answered-refused startUpOut before _ n j code q (start-no _ s e n j v)
+
+  pub start-accepted : s .verdict ≡ Accepted → (0, (s .state .temps, s .state .nodes)) ≡ answered startUpOut before (initNodeTemps standardCoefficients z)
+  start-accepted v = answered-ok startUpOut before _ (s .state) _ (start-yes _ s e v) refl
+
+pub ruleset start-cases = (start-refused, start-accepted)
+
+-- ---- demand, update, hour step: from the state that stands in the arrays
+
+module _ (z : Zone) (s : State) (temps : List Float) (nodes : ℕ) (p : s ≡ stateIn temps nodes) (conditions : List ℕ) where
+  module _ (before : List Float) (x : Demanded) (e : x ≡ demanded s (demand standardCoefficients z s conditions)) where
+    abbrev Demands : ℕ × List Float → Type 0
+    Demands y = y ≡ answered demandOut before (demand standardCoefficients z (stateIn temps nodes) conditions)
+
+    pub demand-refused : (n j code : ℕ) → x .answer ≡ DemandAnswer.Refused n j → code ≡ refusalCode n j → Demands (code, before)
+    demand-refused n j code v q = rw (← p) (answered-refused demandOut before _ n j code q (demand-no s _ x e n j v))
+
+    pub demand-accepted : (d : Demand) (out : List Float) → x .answer ≡ DemandAnswer.Accepted d → out ≡ demandOut d → Demands (0, out)
+    demand-accepted d out v q = rw (← p) (answered-ok demandOut before _ d out (demand-yes s _ x e d v) q)
+
+  module _ (gains fraction rate : Float) (before : List Float × List Float) (x : Updated)
+      (e : x ≡ updated s (updateTemperatures standardCoefficients z s conditions gains fraction rate)) where
+    abbrev Updates : ℕ × (List Float × List Float) → Type 0
+    Updates y = y ≡ answered updateOut before (updateTemperatures standardCoefficients z (stateIn temps nodes) conditions gains fraction rate)
+
+    pub update-refused : (n j code : ℕ) → x .answer ≡ UpdateAnswer.Refused n j → code ≡ refusalCode n j → Updates (code, before)
+    update-refused n j code v q = rw (← p) (answered-refused updateOut before _ n j code q (update-no s _ x e n j v))
+
+    pub update-accepted : (b : HeatBalance) (balance : List Float) → x .answer ≡ UpdateAnswer.Accepted b → balance ≡ balanceOut b
+        → Updates (0, (x .state .temps, balance))
+    update-accepted b balance v q =
+        rw (← p) (answered-ok updateOut before _ (x .state, b) (x .state .temps, balance) (update-yes s _ x e b v) (rw q))
+
+  module _ (before : List Float × List Float × List Float) (x : HourStep) (e : x ≡ hourStepped s (hourStep standardCoefficients z s conditions)) where
+    abbrev Steps : ℕ × (List Float × List Float × List Float) → Type 0
+    Steps y = y ≡ answered hourOut before (hourStep standardCoefficients z (stateIn temps nodes) conditions)
+
+    pub hour-refused : (n j code : ℕ) → x .answer ≡ HourAnswer.Refused n j → code ≡ refusalCode n j → Steps (code, before)
+    hour-refused n j code v q = rw (← p) (answered-refused hourOut before _ n j code q (hour-no s _ x e n j v))
+
+    pub hour-accepted : (d : Demand) (b : HeatBalance) (out balance : List Float) → x .answer ≡ HourAnswer.Accepted d b
+        → out ≡ demandOut d → balance ≡ balanceOut b → Steps (0, (x .state .temps, out, balance))
+    hour-accepted d b out balance v o q =
+        rw (← p)
+        (answered-ok hourOut before _ (record { demand = d; state = x .state; balance = b }) (x .state .temps, out, balance) (hour-yes s _ x e d b v) (rw (o, q)))
+
+pub ruleset demand-cases = (demand-refused, demand-accepted)
+
+pub ruleset update-cases = (update-refused, update-accepted)
+
+pub ruleset hour-cases = (hour-refused, hour-accepted)
+
+-- ---- a demand in `out`, by its trigger
+
+module _ (d : Demand) where
+  pub out-absent : d .«ach_to_trigger_heating» ≡ Absent → d .«space_heat_demand» ∷ d .«space_cool_demand» ∷ d .«ach_cooling» ∷ zero64 ∷ zero64 ∷ [] ≡ demandOut d
+  out-absent e = rw e
+
+  pub out-at : (ach : Float) → d .«ach_to_trigger_heating» ≡ At ach → d .«space_heat_demand» ∷ d .«space_cool_demand» ∷ d .«ach_cooling» ∷ one64 ∷ ach ∷ [] ≡ demandOut d
+  out-at ach e = rw e
+
+pub ruleset out-cases = (out-absent, out-at)

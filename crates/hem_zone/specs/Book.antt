@@ -1,0 +1,42 @@
+-- The calls on a book: those of the plain book at the layers of the year. Each definition gives the returned number, then what stands
+-- after the call in the buffer (a take-up has none), `temps`, `nodes`, `count` and `used`.
+use Prim.Native.Nat.{ℕ}
+use mathlib.Core.List.{List}
+use lib.Ieee.{Float}
+use Rattle.plain_book.specs.Calls as Book
+use Rattle.zone.specs.declared.state.State.{State}
+use Rattle.book.specs.Year.{year}
+use Rattle.hem_zone.specs.Code.{answered}
+use Rattle.hem_zone.specs.Arrays.{stateIn}
+use Rattle.hem_zone.specs.Zone.{withZone}
+
+-- `temps`, `nodes`, `count`, `used`
+abbrev pub Held : Type 0
+Held = List Float × ℕ × ℕ × ℕ
+
+-- the values of a book that a caller holds, and back
+abbrev pub valuesOf : Held → Book.Values State
+valuesOf h = record { state = stateIn (h .0) (h .1); count = h .2; used = h .3 }
+
+abbrev pub heldOf : Book.Values State → Held
+heldOf v = (v .state .temps, v .state .nodes, v .count, v .used)
+
+-- what a begin or an append writes: the buffer, and the values
+abbrev pub bookOut : Book.Values State × List ℕ → List ℕ × Held
+bookOut r = (r .1, heldOf (r .0))
+
+unfoldable pub hemBegin : (head buf : List ℕ) → Held → ℕ × (List ℕ × Held)
+hemBegin head buf held =
+    answered bookOut (buf, held)
+    (Book.beginRes year head buf)
+
+-- the zone is that of the given head
+unfoldable pub hemAppend : (head buf : List ℕ) → Held → (conditions : List ℕ) → ℕ × (List ℕ × Held)
+hemAppend head buf held conditions =
+    answered bookOut (buf, held)
+    (withZone head λ z. Book.appendRes year z (valuesOf held) conditions buf)
+
+unfoldable pub hemTakeUp : (bytes : List ℕ) → Held → ℕ × Held
+hemTakeUp bytes held =
+    answered heldOf held
+    (Book.takeUpRes year bytes)

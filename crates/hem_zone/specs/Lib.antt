@@ -1,0 +1,6 @@
+-- In this order: what a call returns and what it leaves in what it was lent, the C arrays of states, demands and heat balances, the calls on
+-- a zone, the calls on a book.
+pub mod Code
+pub mod Arrays
+pub mod Zone
+pub mod Book

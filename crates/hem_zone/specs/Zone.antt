@@ -1,0 +1,59 @@
+-- The calls on a zone: head, start-up, demand, update, hour step. The head is read first, 1 to 5. Each definition gives the returned number,
+-- then what stands after the call in the arrays that it was lent to write, in the order of its parameters.
+use Prim.Native.Nat.{ℕ}
+use mathlib.Core.List.{List}
+use lib.Ieee.{Float}
+use Rattle.solver.specs.Res.{Res, ok, bind}
+use Rattle.zone_head.specs.declared.zone.Zone.{Zone}
+use Rattle.zone_head.specs.BuildingElement.{standardCoefficients}
+use Rattle.zone_head.specs.Head.{headOf}
+use Rattle.zone_temps.specs.declared.balance.HeatBalance.{HeatBalance}
+use Rattle.zone.specs.declared.state.State.{State}
+use Rattle.zone.specs.declared.state.Demand.{Demand}
+use Rattle.zone.specs.Hour.{HourResult, demand, updateTemperatures, hourStep}
+use Rattle.zone.specs.StartUp.{initNodeTemps}
+use Rattle.hem_zone.specs.Code.{answerCode, answered}
+use Rattle.hem_zone.specs.Arrays.{stateIn, demandOut, balanceOut}
+
+-- a call on the zone of a head
+unfoldable pub withZone : {A : Type 0} → (head : List ℕ) → (Zone → Res A) → Res A
+withZone head f = bind (headOf head) λ h. f (h .0)
+
+unfoldable pub hemHead : (head : List ℕ) → ℕ
+hemHead head = answerCode (headOf head)
+
+-- what a start-up writes to `temps` and `nodes`
+abbrev pub startUpOut : State → List Float × ℕ
+startUpOut s = (s .temps, s .nodes)
+
+unfoldable pub hemStartUp : (head : List ℕ) → (temps : List Float) → (nodes : ℕ) → ℕ × (List Float × ℕ)
+hemStartUp head temps nodes =
+    answered startUpOut (temps, nodes)
+    (withZone head (initNodeTemps standardCoefficients))
+
+unfoldable pub hemDemand : (head : List ℕ) → (temps : List Float) → (nodes : ℕ) → (conditions : List ℕ) → (out : List Float) → ℕ × List Float
+hemDemand head temps nodes conditions out =
+    answered demandOut out
+    (withZone head λ z. demand standardCoefficients z (stateIn temps nodes) conditions)
+
+-- what an update writes to `temps` and `balance`
+abbrev pub updateOut : State × HeatBalance → List Float × List Float
+updateOut r = (r .0 .temps, balanceOut (r .1))
+
+unfoldable pub hemUpdate :
+    (head : List ℕ) → (temps : List Float) → (nodes : ℕ) → (conditions : List ℕ) → (gains fraction rate : Float) → (balance : List Float)
+    → ℕ × (List Float × List Float)
+hemUpdate head temps nodes conditions gains fraction rate balance =
+    answered updateOut (temps, balance)
+    (withZone head λ z. updateTemperatures standardCoefficients z (stateIn temps nodes) conditions gains fraction rate)
+
+-- what an hour step writes to `temps`, `out` and `balance`
+abbrev pub hourOut : HourResult → List Float × List Float × List Float
+hourOut r = (r .state .temps, demandOut (r .demand), balanceOut (r .balance))
+
+unfoldable pub hemHourStep :
+    (head : List ℕ) → (temps : List Float) → (nodes : ℕ) → (conditions : List ℕ) → (out balance : List Float)
+    → ℕ × (List Float × List Float × List Float)
+hemHourStep head temps nodes conditions out balance =
+    answered hourOut (temps, out, balance)
+    (withZone head λ z. hourStep standardCoefficients z (stateIn temps nodes) conditions)

@@ -1,0 +1,134 @@
+// The calls on a book. What a caller holds of a book is `temps`, `nodes`, `count` and `used`.
+use crate::arrays::state_in;
+use crate::code::refusal_code;
+use book::Values;
+use book::append;
+use book::begin;
+use book::take_up;
+use zone_head::Verdict;
+use zone_head::Zone;
+use zone_head::zone_of_head;
+ghost use mathlib.Core.Path.{_≡_};
+ghost use Rattle.plain_book.specs.Calls as Book;
+ghost use Rattle.book.specs.Year.{year};
+ghost use Rattle.book.specs.Answers.{givenOf};
+ghost use Rattle.hem_zone.specs.Code.{answered};
+ghost use Rattle.hem_zone.specs.Book.{valuesOf, heldOf, bookOut, hemBegin, hemAppend, hemTakeUp};
+
+// The values of a book that stand in the arrays of C.
+fn values_in(temps: &[f64; 121], nodes: u64, count: u64, used: u64) -> Values
+    ensures { λ r. ⌜ givenOf r ≡ valuesOf (now (temps .entry), nodes, count, used) ⌝ }
+{
+    let state = state_in(temps, nodes);
+    Values {
+        state,
+        count: count as usize,
+        used: used as usize,
+    }
+}
+
+// Puts them there.
+fn write_values(v: Values, temps: &mut [f64; 121], nodes: &mut u64, count: &mut u64, used: &mut u64)
+    ensures { λ _. ⌜ (now (temps .exit), now (nodes .exit), now (count .exit), now (used .exit)) ≡ heldOf (givenOf v) ⌝ }
+{
+    let state = v.state;
+    let t = state.temps;
+    *temps = t;
+    *nodes = state.nodes as u64;
+    *count = v.count as u64;
+    *used = v.used as u64;
+}
+
+// Begins a book: the head into the buffer, the values of a book with no entries.
+#[no_mangle]
+pub extern "C" fn hem_begin(
+    head: &[u8],
+    buf: &mut [u8],
+    temps: &mut [f64; 121],
+    nodes: &mut u64,
+    count: &mut u64,
+    used: &mut u64,
+) -> u32
+    ensures { λ r. ⌜ (r, (now (buf .exit), (now (temps .exit), now (nodes .exit), now (count .exit), now (used .exit)))) ≡ hemBegin (now (head .entry)) (now (buf .entry)) (now (temps .entry), now (nodes .entry), now (count .entry), now (used .entry)) ⌝ }
+{
+    let given = values_in(temps, *nodes, *count, *used);
+    let x = begin(given, head, buf);
+    let v = x.verdict;
+    match v {
+        Verdict::Refused { number, index } => refusal_code(number, index),
+        Verdict::Accepted => {
+            let after = x.values;
+            write_values(after, temps, nodes, count, used);
+            0
+        }
+    }
+}
+
+fn append_to(
+    z: Zone,
+    buf: &mut [u8],
+    temps: &mut [f64; 121],
+    nodes: &mut u64,
+    count: &mut u64,
+    used: &mut u64,
+    conditions: &[u8],
+) -> u32
+    ensures { λ r. ⌜ (r, (now (buf .exit), (now (temps .exit), now (nodes .exit), now (count .exit), now (used .exit)))) ≡ answered bookOut (now (buf .entry), (now (temps .entry), now (nodes .entry), now (count .entry), now (used .entry))) (Book.appendRes year z (valuesOf (now (temps .entry), now (nodes .entry), now (count .entry), now (used .entry))) (now (conditions .entry)) (now (buf .entry))) ⌝ }
+{
+    let given = values_in(temps, *nodes, *count, *used);
+    let x = append(z, given, conditions, buf);
+    let v = x.verdict;
+    match v {
+        Verdict::Refused { number, index } => refusal_code(number, index),
+        Verdict::Accepted => {
+            let after = x.values;
+            write_values(after, temps, nodes, count, used);
+            0
+        }
+    }
+}
+
+// Appends the entry of one hour behind the used bytes. The zone is that of the given head.
+#[no_mangle]
+pub extern "C" fn hem_append(
+    head: &[u8],
+    buf: &mut [u8],
+    temps: &mut [f64; 121],
+    nodes: &mut u64,
+    count: &mut u64,
+    used: &mut u64,
+    conditions: &[u8],
+) -> u32
+    ensures { λ r. ⌜ (r, (now (buf .exit), (now (temps .exit), now (nodes .exit), now (count .exit), now (used .exit)))) ≡ hemAppend (now (head .entry)) (now (buf .entry)) (now (temps .entry), now (nodes .entry), now (count .entry), now (used .entry)) (now (conditions .entry)) ⌝ }
+{
+    let h = zone_of_head(head);
+    let v = h.verdict;
+    match v {
+        Verdict::Refused { number, index } => refusal_code(number, index),
+        Verdict::Accepted => append_to(h.zone, buf, temps, nodes, count, used, conditions),
+    }
+}
+
+// Takes up the bytes of a book: the values after its last whole entry.
+#[no_mangle]
+pub extern "C" fn hem_take_up(
+    bytes: &[u8],
+    temps: &mut [f64; 121],
+    nodes: &mut u64,
+    count: &mut u64,
+    used: &mut u64,
+) -> u32
+    ensures { λ r. ⌜ (r, (now (temps .exit), now (nodes .exit), now (count .exit), now (used .exit))) ≡ hemTakeUp (now (bytes .entry)) (now (temps .entry), now (nodes .entry), now (count .entry), now (used .entry)) ⌝ }
+{
+    let given = values_in(temps, *nodes, *count, *used);
+    let x = take_up(given, bytes);
+    let v = x.verdict;
+    match v {
+        Verdict::Refused { number, index } => refusal_code(number, index),
+        Verdict::Accepted => {
+            let after = x.values;
+            write_values(after, temps, nodes, count, used);
+            0
+        }
+    }
+}

@@ -1,0 +1,15 @@
+// The C interface (include/hem_zone.h): the zone's and the book's calls on lent arrays, for C and Rust to link.
+mod arrays;
+mod book_calls;
+mod code;
+mod head;
+mod step;
+
+pub use book_calls::hem_append;
+pub use book_calls::hem_begin;
+pub use book_calls::hem_take_up;
+pub use head::hem_head;
+pub use step::hem_demand;
+pub use step::hem_hour_step;
+pub use step::hem_start_up;
+pub use step::hem_update;

@@ -1,0 +1,187 @@
+// Start-up, demand, update and hour step on the zone of a head.
+use crate::arrays::balance_out;
+use crate::arrays::demand_out;
+use crate::arrays::state_in;
+use crate::code::refusal_code;
+use zone::DemandAnswer;
+use zone::HourAnswer;
+use zone::UpdateAnswer;
+use zone::init_node_temps;
+use zone_head::Verdict;
+use zone_head::Zone;
+use zone_head::zone_of_head;
+ghost use mathlib.Core.Path.{_≡_};
+ghost use Rattle.zone_head.specs.BuildingElement.{standardCoefficients};
+ghost use Rattle.zone.specs.StartUp.{initNodeTemps};
+ghost use Rattle.zone.specs.Hour.{demand, updateTemperatures, hourStep};
+ghost use Rattle.hem_zone.specs.Code.{answered};
+ghost use Rattle.hem_zone.specs.Arrays.{stateIn, demandOut};
+ghost use Rattle.hem_zone.specs.Zone.{startUpOut, updateOut, hourOut, hemStartUp, hemDemand, hemUpdate, hemHourStep};
+
+fn start_up(z: Zone, temps: &mut [f64; 121], nodes: &mut u64) -> u32
+    ensures { λ r. ⌜ (r, (now (temps .exit), now (nodes .exit))) ≡ answered startUpOut (now (temps .entry), now (nodes .entry)) (initNodeTemps standardCoefficients z) ⌝ }
+{
+    let s = init_node_temps(z);
+    let v = s.verdict;
+    match v {
+        Verdict::Refused { number, index } => refusal_code(number, index),
+        Verdict::Accepted => {
+            let after = s.state;
+            let t = after.temps;
+            *temps = t;
+            *nodes = after.nodes as u64;
+            0
+        }
+    }
+}
+
+// The settled temperatures before the first hour, and their count.
+#[no_mangle]
+pub extern "C" fn hem_start_up(head: &[u8], temps: &mut [f64; 121], nodes: &mut u64) -> u32
+    ensures { λ r. ⌜ (r, (now (temps .exit), now (nodes .exit))) ≡ hemStartUp (now (head .entry)) (now (temps .entry)) (now (nodes .entry)) ⌝ }
+{
+    let h = zone_of_head(head);
+    let v = h.verdict;
+    match v {
+        Verdict::Refused { number, index } => refusal_code(number, index),
+        Verdict::Accepted => start_up(h.zone, temps, nodes),
+    }
+}
+
+fn demand_of(z: Zone, temps: &[f64; 121], nodes: u64, conditions: &[u8], out: &mut [f64; 5]) -> u32
+    ensures { λ r. ⌜ (r, now (out .exit)) ≡ answered demandOut (now (out .entry)) (demand standardCoefficients z (stateIn (now (temps .entry)) nodes) (now (conditions .entry))) ⌝ }
+{
+    let s = state_in(temps, nodes);
+    let x = s.space_heat_cool_demand(z, conditions);
+    let a = x.answer;
+    match a {
+        DemandAnswer::Refused { number, index } => refusal_code(number, index),
+        DemandAnswer::Accepted(d) => {
+            *out = demand_out(d);
+            0
+        }
+    }
+}
+
+// The demand of one hour. The temperatures stay.
+#[no_mangle]
+pub extern "C" fn hem_demand(
+    head: &[u8],
+    temps: &[f64; 121],
+    nodes: u64,
+    conditions: &[u8],
+    out: &mut [f64; 5],
+) -> u32
+    ensures { λ r. ⌜ (r, now (out .exit)) ≡ hemDemand (now (head .entry)) (now (temps .entry)) nodes (now (conditions .entry)) (now (out .entry)) ⌝ }
+{
+    let h = zone_of_head(head);
+    let v = h.verdict;
+    match v {
+        Verdict::Refused { number, index } => refusal_code(number, index),
+        Verdict::Accepted => demand_of(h.zone, temps, nodes, conditions, out),
+    }
+}
+
+fn update_of(
+    z: Zone,
+    temps: &mut [f64; 121],
+    nodes: u64,
+    conditions: &[u8],
+    gains: f64,
+    fraction: f64,
+    rate: f64,
+    balance: &mut [f64; 25],
+) -> u32
+    ensures { λ r. ⌜ (r, (now (temps .exit), now (balance .exit))) ≡ answered updateOut (now (temps .entry), now (balance .entry)) (updateTemperatures standardCoefficients z (stateIn (now (temps .entry)) nodes) (now (conditions .entry)) gains fraction rate) ⌝ }
+{
+    let s = state_in(temps, nodes);
+    let x = s.update_temperatures(z, conditions, gains, fraction, rate);
+    let a = x.answer;
+    match a {
+        UpdateAnswer::Refused { number, index } => refusal_code(number, index),
+        UpdateAnswer::Accepted(b) => {
+            let after = x.state;
+            let t = after.temps;
+            *temps = t;
+            *balance = balance_out(b);
+            0
+        }
+    }
+}
+
+// The temperatures after one hour with the given gains, and its heat balance.
+#[no_mangle]
+pub extern "C" fn hem_update(
+    head: &[u8],
+    temps: &mut [f64; 121],
+    nodes: u64,
+    conditions: &[u8],
+    gains: f64,
+    fraction: f64,
+    rate: f64,
+    balance: &mut [f64; 25],
+) -> u32
+    ensures { λ r. ⌜ (r, (now (temps .exit), now (balance .exit))) ≡ hemUpdate (now (head .entry)) (now (temps .entry)) nodes (now (conditions .entry)) gains fraction rate (now (balance .entry)) ⌝ }
+{
+    let h = zone_of_head(head);
+    let v = h.verdict;
+    match v {
+        Verdict::Refused { number, index } => refusal_code(number, index),
+        Verdict::Accepted => update_of(
+            h.zone,
+            temps,
+            nodes,
+            conditions,
+            gains,
+            fraction,
+            rate,
+            balance,
+        ),
+    }
+}
+
+fn hour_step_of(
+    z: Zone,
+    temps: &mut [f64; 121],
+    nodes: u64,
+    conditions: &[u8],
+    out: &mut [f64; 5],
+    balance: &mut [f64; 25],
+) -> u32
+    ensures { λ r. ⌜ (r, (now (temps .exit), now (out .exit), now (balance .exit))) ≡ answered hourOut (now (temps .entry), now (out .entry), now (balance .entry)) (hourStep standardCoefficients z (stateIn (now (temps .entry)) nodes) (now (conditions .entry))) ⌝ }
+{
+    let s = state_in(temps, nodes);
+    let x = s.hour_step(z, conditions);
+    let a = x.answer;
+    match a {
+        HourAnswer::Refused { number, index } => refusal_code(number, index),
+        HourAnswer::Accepted(d, b) => {
+            let after = x.state;
+            let t = after.temps;
+            *temps = t;
+            *out = demand_out(d);
+            *balance = balance_out(b);
+            0
+        }
+    }
+}
+
+// One hour: its demand, and the temperatures and the heat balance once that is met.
+#[no_mangle]
+pub extern "C" fn hem_hour_step(
+    head: &[u8],
+    temps: &mut [f64; 121],
+    nodes: u64,
+    conditions: &[u8],
+    out: &mut [f64; 5],
+    balance: &mut [f64; 25],
+) -> u32
+    ensures { λ r. ⌜ (r, (now (temps .exit), now (out .exit), now (balance .exit))) ≡ hemHourStep (now (head .entry)) (now (temps .entry)) nodes (now (conditions .entry)) (now (out .entry)) (now (balance .entry)) ⌝ }
+{
+    let h = zone_of_head(head);
+    let v = h.verdict;
+    match v {
+        Verdict::Refused { number, index } => refusal_code(number, index),
+        Verdict::Accepted => hour_step_of(h.zone, temps, nodes, conditions, out, balance),
+    }
+}

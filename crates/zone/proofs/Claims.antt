@@ -1,0 +1,3 @@
+-- What a reader of document 01 looks for: theorems of the definitions.
+pub mod StartUp
+pub mod Refusals

@@ -1,0 +1,7 @@
+-- Laws that several proofs cite.
+pub mod Solves
+pub mod Ventilation
+pub mod Demand
+pub mod Hour
+pub mod StartUp
+pub mod Accepted

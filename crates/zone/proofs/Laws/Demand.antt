@@ -1,0 +1,160 @@
+-- The ways out of the functions of demand.rt.
+use mathlib.Core.Path.{_≡_, refl, sym, ap, subst, _∙_}
+use mathlib.Core.Bool.{true, false}
+use mathlib.Core.List.{List}
+use Prim.Native.Nat.{ℕ}
+use native.Mathlib.Omega.{arith}
+use lib.Ieee.{Float, lt}
+use Rattle.solver.specs.F64.{zero64}
+use Rattle.solver.specs.Res.{Res, ok, refused, bind-ok}
+use Rattle.solver.specs.declared.system.Solved.{Solved}
+use Rattle.solver.specs.FastSolver.{solvedRes}
+use Rattle.zone_head.specs.declared.zone.Zone.{Zone}
+use Rattle.zone_head.specs.declared.conditions.Conditions.{Conditions}
+use Rattle.zone_head.specs.BuildingElement.{standardCoefficients}
+use Rattle.zone.specs.declared.state.Demand.{Demand}
+use Rattle.zone.specs.declared.state.DemandAnswer.{DemandAnswer}
+use Rattle.zone.specs.declared.state.DemandAnswer.the-variants.{Accepted, Refused}
+use Rattle.zone.specs.declared.ventilation.ZoneTemperatures.{ZoneTemperatures}
+use Rattle.zone.specs.declared.ventilation.Ventilated.{Ventilated}
+use Rattle.zone.specs.declared.ventilation.VentilatedAnswer.{VentilatedAnswer}
+use Rattle.zone.specs.declared.ventilation.VentilatedAnswer.the-variants as VentilatedAnswer
+use Rattle.zone.specs.declared.demand.Wanted.{Wanted}
+use Rattle.zone.specs.declared.demand.Wanted.the-variants.{Neither, Towards}
+use Rattle.zone.specs.declared.demand.Interpolated.{Interpolated}
+use Rattle.zone.specs.declared.demand.Interpolated.the-variants as Interpolated
+use Rattle.zone.specs.Demand.{
+  achTarget,
+  controlTemperature,
+  zoneTemperatures,
+  wanted,
+  gainsUpper,
+  fracUpper,
+  interpHeatCoolDemand,
+  demandBy,
+  temperaturesWith,
+  freeTemperatures,
+  calcCoolingPotentialFromVentilation,
+  loadedDemand,
+  demandTowards,
+  demandFrom,
+  spaceHeatCoolDemand,
+}
+use Rattle.zone.specs.Solves.{factorsAt, interpolated, demandAnswer, VentilatedAt, DemandedAt}
+use Rattle.zone.proofs.Laws.Solves.{solved-refused, solved-ok}
+use Rattle.zone.proofs.Laws.Ventilation.{ventilated-refused, ventilated-accepted}
+
+interpolated-refused : (x : Res Float) (r : Interpolated) (n i : ℕ) → r ≡ interpolated x → r ≡ Interpolated.Refused n i → x ≡ refused n i
+interpolated-refused (ok v) r n i e f = let w : _≡_ {A = ℕ} 0 1 = cc in absurd (omega arith)
+interpolated-refused (refused k j) r n i e f = cc
+
+interpolated-accepted : (x : Res Float) (r : Interpolated) (v : Float) → r ≡ interpolated x → r ≡ Interpolated.Accepted v → x ≡ ok v
+interpolated-accepted (ok u) r v e f = cc
+interpolated-accepted (refused k j) r v e f = let w : _≡_ {A = ℕ} 0 1 = cc in absurd (omega arith)
+
+pub demand-refused : (x : Res Demand) (r : DemandAnswer) (n i : ℕ) → r ≡ demandAnswer x → r ≡ Refused n i → x ≡ refused n i
+demand-refused (ok v) r n i e f = let w : _≡_ {A = ℕ} 0 1 = cc in absurd (omega arith)
+demand-refused (refused k j) r n i e f = cc
+
+pub demand-accepted : (x : Res Demand) (r : DemandAnswer) (d : Demand) → r ≡ demandAnswer x → r ≡ Accepted d → x ≡ ok d
+demand-accepted (ok u) r v e f = cc
+demand-accepted (refused k j) r v e f = let w : _≡_ {A = ℕ} 0 1 = cc in absurd (omega arith)
+
+-- the chosen rate stands in the demand
+by-rate : (kWh : Float) (v : Ventilated) (d : Demand) → ok (demandBy kWh v) ≡ ok d → d .«ach_cooling» ≡ v .«ach_cooling»
+unfolding demandBy
+by-rate kWh v d e = let p : demandBy kWh v ≡ d = cc in rw (← p) refl
+
+module _ (z : Zone) (t : List Float) (h : Conditions) where
+  module _ (v : Ventilated) (setpoint load fraction : Float) where
+    loaded-rate : (d : Demand) → loadedDemand standardCoefficients z t h v setpoint load fraction ≡ ok d → d .«ach_cooling» ≡ v .«ach_cooling»
+    unfolding loadedDemand
+    loaded-rate d e =
+        let upper = bind-ok (temperaturesWith standardCoefficients z t h (gainsUpper h load) (fracUpper h load fraction) (v .«ach_cooling»)) _ d e in
+        let kWh = bind-ok (interpHeatCoolDemand (h .«delta_t_h») setpoint load (v .«temp_free») (controlTemperature z (upper .0))) _ d (upper .2) in
+        by-rate (kWh .0) v d (kWh .2)
+
+    module _ (r : Solved) (upper-is : solvedRes r ≡ temperaturesWith standardCoefficients z t h (gainsUpper h load) (fracUpper h load fraction) (v .«ach_cooling»)) where
+      pub loaded-refused : (r .number ≡ 0 → ⊥) → Refused (r .number) 0 ≡ demandAnswer (loadedDemand standardCoefficients z t h v setpoint load fraction)
+      unfolding loadedDemand
+      loaded-refused k = rw (solved-refused r _ upper-is k) refl
+
+      module _ (well : r .number ≡ 0) (tempUpper : Float) (temp-is : tempUpper ≡ controlTemperature z (r .temps))
+          (a : Interpolated) (a-is : a ≡ interpolated (interpHeatCoolDemand (h .«delta_t_h») setpoint load (v .«temp_free») tempUpper)) where
+        pub loaded-14 : (n i : ℕ) → a ≡ Interpolated.Refused n i → Refused n i ≡ demandAnswer (loadedDemand standardCoefficients z t h v setpoint load fraction)
+        unfolding loadedDemand
+        loaded-14 n i e =
+            let w : interpHeatCoolDemand (h .«delta_t_h») setpoint load (v .«temp_free») tempUpper ≡ refused n i = interpolated-refused _ a n i a-is e in
+            rw (solved-ok r _ upper-is well, ← temp-is, w) refl
+
+        pub loaded-by : (kWh : Float) (d : Demand) → a ≡ Interpolated.Accepted kWh → d ≡ demandBy kWh v → Accepted d ≡ demandAnswer (loadedDemand standardCoefficients z t h v setpoint load fraction)
+        unfolding loadedDemand
+        loaded-by kWh d e p =
+            let w : interpHeatCoolDemand (h .«delta_t_h») setpoint load (v .«temp_free») tempUpper ≡ ok kWh = interpolated-accepted _ a kWh a-is e in
+            rw (solved-ok r _ upper-is well, ← temp-is, w, p) refl
+
+  pub towards-rate : (v : Ventilated) (w : Wanted) (d : Demand) → demandTowards standardCoefficients z t h v w ≡ ok d → d .«ach_cooling» ≡ v .«ach_cooling»
+  unfolding demandTowards
+  towards-rate v Neither d e = by-rate zero64 v d e
+  towards-rate v (Towards setpoint load fraction) d e = loaded-rate v setpoint load fraction d e
+
+  pub towards-neither : (v : Ventilated) (w : Wanted) (d : Demand) → w ≡ Neither → d ≡ demandBy zero64 v → Accepted d ≡ demandAnswer (demandTowards standardCoefficients z t h v w)
+  unfolding demandTowards
+  towards-neither v w d e p = rw (e, p) refl
+
+  pub towards-loaded : (v : Ventilated) (w : Wanted) (setpoint load fraction : Float) (r : DemandAnswer) → w ≡ Towards setpoint load fraction
+      → r ≡ demandAnswer (loadedDemand standardCoefficients z t h v setpoint load fraction) → r ≡ demandAnswer (demandTowards standardCoefficients z t h v w)
+  unfolding demandTowards
+  towards-loaded v w setpoint load fraction r e p = rw (e, p) refl
+
+  module _ (diag dense : List Float) (exchanges : List ℕ) where
+    refused-at : (x : Res Demand) (n i : ℕ) → x ≡ refused n i → DemandedAt z t h x (Refused n i) diag dense exchanges
+    refused-at x n i e =
+        record {
+          answered = rw e refl;
+          factors = λ v f. absurd (let w : _≡_ {A = ℕ} 0 1 = cc in omega arith);
+        }
+
+    same-at : (x y : Res Demand) (r : DemandAnswer) → x ≡ y → DemandedAt z t h x r diag dense exchanges → DemandedAt z t h y r diag dense exchanges
+    same-at x y r e w = subst (λ (a : Res Demand). DemandedAt z t h a r diag dense exchanges) e w
+
+    module _ (free : ZoneTemperatures) (a : VentilatedAnswer)
+        (chosen : VentilatedAt z t h (calcCoolingPotentialFromVentilation standardCoefficients z t h free (h .«ach_args»)) a diag dense exchanges) where
+      pub from-refused : (n i : ℕ) → a ≡ VentilatedAnswer.Refused n i → DemandedAt z t h (demandFrom standardCoefficients z t h free) (Refused n i) diag dense exchanges
+      unfolding demandFrom
+      from-refused n i e =
+          let w : calcCoolingPotentialFromVentilation standardCoefficients z t h free (h .«ach_args») ≡ refused n i = ventilated-refused _ a n i (chosen .answered) e in
+          refused-at _ n i (rw w refl)
+
+      pub from-towards : (v : Ventilated) (w : Wanted) (r : DemandAnswer) → a ≡ VentilatedAnswer.Accepted v → w ≡ wanted (z .«useful_area») h (v .«temp_free»)
+          → r ≡ demandAnswer (demandTowards standardCoefficients z t h v w) → DemandedAt z t h (demandFrom standardCoefficients z t h free) r diag dense exchanges
+      unfolding demandFrom
+      from-towards v w r e p q =
+          let u : calcCoolingPotentialFromVentilation standardCoefficients z t h free (h .«ach_args») ≡ ok v = ventilated-accepted _ a v (chosen .answered) e in
+          same-at (demandTowards standardCoefficients z t h v w) _ r (rw (u, p) refl)
+          (record {
+            answered = q;
+            factors = λ d f. chosen .factors v e ∙ ap (factorsAt z t h) (sym (towards-rate v w d (demand-accepted _ r d q f)));
+          })
+
+    pub setpoints-10 : lt (h .«temp_setpnt_cool») (h .«temp_setpnt_heat») ≡ true → DemandedAt z t h (spaceHeatCoolDemand standardCoefficients z t h) (Refused 10 0) diag dense exchanges
+    unfolding spaceHeatCoolDemand
+    setpoints-10 k = refused-at _ 10 0 (rw k refl)
+
+    module _ (ten : lt (h .«temp_setpnt_cool») (h .«temp_setpnt_heat») ≡ false) where
+      pub setpoints-11 : lt (h .«temp_setpnt_cool_vent») (h .«temp_setpnt_heat») ≡ true → DemandedAt z t h (spaceHeatCoolDemand standardCoefficients z t h) (Refused 11 0) diag dense exchanges
+      unfolding spaceHeatCoolDemand
+      setpoints-11 k = refused-at _ 11 0 (rw (ten, k) refl)
+
+      module _ (eleven : lt (h .«temp_setpnt_cool_vent») (h .«temp_setpnt_heat») ≡ false)
+          (target : Float) (target-is : target ≡ achTarget (h .«ach_args»)) (r : Solved)
+          (free-is : solvedRes r ≡ freeTemperatures standardCoefficients z t h target) where
+        pub free-refused : (r .number ≡ 0 → ⊥) → DemandedAt z t h (spaceHeatCoolDemand standardCoefficients z t h) (Refused (r .number) 0) diag dense exchanges
+        unfolding spaceHeatCoolDemand
+        free-refused k = refused-at _ (r .number) 0 (rw (ten, eleven, ← target-is, solved-refused r _ free-is k) refl)
+
+        pub free-demand : (free : ZoneTemperatures) (a : DemandAnswer) → r .number ≡ 0 → free ≡ zoneTemperatures z (r .temps)
+            → DemandedAt z t h (demandFrom standardCoefficients z t h free) a diag dense exchanges
+            → DemandedAt z t h (spaceHeatCoolDemand standardCoefficients z t h) a diag dense exchanges
+        unfolding spaceHeatCoolDemand
+        free-demand free a k p w = same-at _ _ a (rw (ten, eleven, ← target-is, solved-ok r _ free-is k, p) refl) w

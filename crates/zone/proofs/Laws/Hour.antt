@@ -1,0 +1,199 @@
+-- The ways out of the functions of tests.rt, update.rt and hour_step.rt.
+use mathlib.Core.Path.{_≡_, refl, sym, ap, _∙_}
+use mathlib.Core.Bool.{Bool, true, false, not, _&&_}
+use mathlib.Core.List.{List}
+use Prim.Native.Nat.{ℕ, zero, suc}
+use native.Mathlib.Omega.{arith}
+use lib.ListN.{take, replicate}
+use lib.Dec.{eqb}
+use lib.Ieee.{Float}
+use Rattle.solver.specs.F64.{zero64}
+use Rattle.solver.specs.Res.{Res, ok, refused}
+use Rattle.solver.specs.declared.system.Solved.{Solved}
+use Rattle.solver.specs.FastSolver.{solvedOrRefused, solvedRes, fastSolver, fastSolverRes}
+use Rattle.zone_head.specs.declared.building_element.Coefficients.{Coefficients}
+use Rattle.zone_head.specs.declared.zone.Zone.{Zone}
+use Rattle.zone_head.specs.declared.zone.Verdict.{Verdict}
+use Rattle.zone_head.specs.declared.zone.Verdict.the-variants as Verdict
+use Rattle.zone_head.specs.declared.conditions.Conditions.{Conditions}
+use Rattle.zone_head.specs.declared.conditions.HourConditions.{HourConditions}
+use Rattle.zone_head.specs.BuildingElement.{standardCoefficients, nodeCount}
+use Rattle.zone_head.specs.Ventilation.{calcVentHeatTransferCoeff}
+use Rattle.zone_head.specs.Ranges.{gainsRange, fractionRange, rateRange}
+use Rattle.zone_head.specs.ZoneTest.{zoneTest, verdictOf}
+use Rattle.zone_head.specs.Conditions.{conditionsOf, conditionsAnswer}
+use Rattle.zone_head.proofs.Laws.Ranges.{verdict-accepted, verdict-refused}
+use Rattle.zone_temps.specs.declared.balance.HeatBalance.{HeatBalance}
+use Rattle.zone_temps.specs.HeatBalance.{heatBalance}
+use Rattle.zone_temps.specs.Assembly.{chains}
+use Rattle.zone_temps.specs.System.{Assembled, assemble, assembled}
+use Rattle.zone_temps.specs.CalcTemperatures.{assembleStep, matrixOf, rightSideOf, calcTemperatures, solvedOrBefore}
+use Rattle.zone.specs.declared.state.State.{State}
+use Rattle.zone.specs.declared.state.Demand.{Demand}
+use Rattle.zone.specs.declared.state.DemandAnswer.{DemandAnswer}
+use Rattle.zone.specs.declared.state.DemandAnswer.the-variants as DemandAnswer
+use Rattle.zone.specs.declared.state.UpdateAnswer.the-variants as UpdateAnswer
+use Rattle.zone.specs.declared.state.HourAnswer.the-variants as HourAnswer
+use Rattle.zone.specs.declared.state.Demanded.{Demanded}
+use Rattle.zone.specs.declared.state.Updated.{Updated}
+use Rattle.zone.specs.declared.state.HourStep.{HourStep}
+use Rattle.zone.specs.State.{allWithinMillion, stateTest, zoneAndStateTest, slotsOf, stateOf}
+use Rattle.zone.specs.Demand.{deltaT, temperaturesWith, spaceHeatCoolDemand}
+use Rattle.zone.specs.Hour.{tested, step, updateIn, updateTemperatures, demand, delivered, totalGains, convectiveShare, meetDemand, hourMet, hourResult, hourStep}
+use Rattle.zone.specs.Answers.{demanded, updated, hourStepped}
+use Rattle.zone.specs.Solves.{hourSystem, demandAnswer, verdictRes}
+use Rattle.zone.proofs.Laws.Solves.{solved-refused, solved-ok}
+use Rattle.zone.proofs.Laws.Demand.{demand-refused, demand-accepted}
+
+-- a verdict with its value
+module _ {A : Type 0} (v : Verdict) (x : A) (r : Res A) (e : verdictRes v x ≡ r) where
+  pub res-accepted : v ≡ Verdict.Accepted → r ≡ ok x
+  res-accepted p = sym e ∙ ap (λ (w : Verdict). verdictRes w x) p
+
+  pub res-refused : (n i : ℕ) → v ≡ Verdict.Refused n i → r ≡ refused n i
+  res-refused n i p = sym e ∙ ap (λ (w : Verdict). verdictRes w x) p
+
+-- ---- the tests
+
+module _ (z : Zone) (s : State) where
+  module _ (v : Verdict) (zone : v ≡ verdictOf (zoneTest z)) where
+    pub zone-refused : (n i : ℕ) → v ≡ Verdict.Refused n i → Verdict.Refused n i ≡ verdictOf (zoneAndStateTest z s)
+    unfolding zoneAndStateTest
+    zone-refused n i e = let w : zoneTest z ≡ refused n i = verdict-refused (zoneTest z) n i (sym zone ∙ e) in rw w refl
+
+    module _ (good : v ≡ Verdict.Accepted) (test : Bool) (state : test ≡ (eqb (s .nodes) (nodeCount z) && allWithinMillion (take (s .nodes) (s .temps)))) where
+      pub state-accepted : test ≡ true → Verdict.Accepted ≡ verdictOf (zoneAndStateTest z s)
+      unfolding zoneAndStateTest stateTest
+      state-accepted k = rw (verdict-accepted (zoneTest z) (sym zone ∙ good), ← state, k) refl
+
+      pub state-6 : test ≡ false → Verdict.Refused 6 0 ≡ verdictOf (zoneAndStateTest z s)
+      unfolding zoneAndStateTest stateTest
+      state-6 k = rw (verdict-accepted (zoneTest z) (sym zone ∙ good), ← state, k) refl
+
+  module _ (bytes : List ℕ) (v : Verdict) (before : v ≡ verdictOf (zoneAndStateTest z s)) where
+    pub tested-refused : (n i : ℕ) → v ≡ Verdict.Refused n i → refused n i ≡ tested z s bytes
+    unfolding tested
+    tested-refused n i e = let w : zoneAndStateTest z s ≡ refused n i = verdict-refused (zoneAndStateTest z s) n i (sym before ∙ e) in rw w refl
+
+    pub tested-read : (r : HourConditions) → v ≡ Verdict.Accepted → r ≡ conditionsAnswer (conditionsOf z bytes) → verdictRes (r .verdict) (r .conditions) ≡ tested z s bytes
+    unfolding tested
+    tested-read r e p = rw (verdict-accepted (zoneAndStateTest z s) (sym before ∙ e), p) (go (conditionsOf z bytes))
+      where
+        go : (x : Res Conditions) → verdictRes (conditionsAnswer x .verdict) (conditionsAnswer x .conditions) ≡ x
+        go (ok h) = refl
+        go (refused n i) = refl
+
+  -- what the tests let through, and what not
+  module _ (bytes : List ℕ) (v : Verdict) (h : Conditions) (read : verdictRes v h ≡ tested z s bytes) where
+    pub update-refused : (gains fraction ach : Float) (n i : ℕ) (r : Updated) → v ≡ Verdict.Refused n i → r ≡ updated s (refused n i)
+        → r ≡ updated s (updateTemperatures standardCoefficients z s bytes gains fraction ach)
+    unfolding updateTemperatures
+    update-refused gains fraction ach n i r e p = rw (res-refused v h (tested z s bytes) read n i e) p
+
+    pub update-accepted : (gains fraction ach : Float) (r : Updated) → v ≡ Verdict.Accepted → r ≡ updated s (updateIn standardCoefficients z s h gains fraction ach)
+        → r ≡ updated s (updateTemperatures standardCoefficients z s bytes gains fraction ach)
+    unfolding updateTemperatures
+    update-accepted gains fraction ach r e p = rw (res-accepted v h (tested z s bytes) read e) p
+
+    pub asked-refused : (n i : ℕ) (r : Demanded) → v ≡ Verdict.Refused n i → r ≡ demanded s (refused n i) → r ≡ demanded s (demand standardCoefficients z s bytes)
+    unfolding demand
+    asked-refused n i r e p = rw (res-refused v h (tested z s bytes) read n i e) p
+
+    pub asked-accepted : (r : Demanded) → v ≡ Verdict.Accepted → r ≡ demanded s (spaceHeatCoolDemand standardCoefficients z (slotsOf z s) h) → r ≡ demanded s (demand standardCoefficients z s bytes)
+    unfolding demand
+    asked-accepted r e p = rw (res-accepted v h (tested z s bytes) read e) p
+
+    pub hour-refused : (n i : ℕ) (r : HourStep) → v ≡ Verdict.Refused n i → r ≡ hourStepped s (refused n i) → r ≡ hourStepped s (hourStep standardCoefficients z s bytes)
+    unfolding hourStep
+    hour-refused n i r e p = rw (res-refused v h (tested z s bytes) read n i e) p
+
+    pub hour-accepted : (r : HourStep) → v ≡ Verdict.Accepted → r ≡ hourStepped s (hourResult standardCoefficients z s h) → r ≡ hourStepped s (hourStep standardCoefficients z s bytes)
+    unfolding hourStep
+    hour-accepted r e p = rw (res-accepted v h (tested z s bytes) read e) p
+
+-- ---- one time step
+
+before-refused : (n : ℕ) (l t : List Float) (r : Solved) → r ≡ solvedOrBefore t (solvedOrRefused n l) → (r .number ≡ 0 → ⊥) → solvedOrRefused n l ≡ refused (r .number) 0
+before-refused zero l t r e k = absurd (k (ap (λ (y : Solved). y .number) e))
+before-refused (suc n) l t r e k = sym (ap (λ (y : Solved). refused (y .number) 0) e)
+
+before-ok : (n : ℕ) (l t : List Float) (r : Solved) → r ≡ solvedOrBefore t (solvedOrRefused n l) → r .number ≡ 0 → solvedOrRefused n l ≡ ok (r .temps)
+before-ok zero l t r e k = sym (ap (λ (y : Solved). ok (y .temps)) e)
+before-ok (suc n) l t r e k = let w : r .number ≡ suc n = ap (λ (y : Solved). y .number) e in absurd (omega arith)
+
+module _ (c : Coefficients) (z : Zone) (t : List Float) (h : Conditions) (dt gains fraction ach : Float) (r : Solved)
+    (after : r ≡ solvedOrBefore t (calcTemperatures c z t h dt gains fraction ach)) where
+  answer : Solved
+  answer = fastSolver (matrixOf (assembleStep c z t h dt) (calcVentHeatTransferCoeff (z .volume) ach)) (rightSideOf (assembleStep c z t h dt) (calcVentHeatTransferCoeff (z .volume) ach) gains fraction)
+
+  calc-refused : (r .number ≡ 0 → ⊥) → calcTemperatures c z t h dt gains fraction ach ≡ refused (r .number) 0
+  unfolding calcTemperatures fastSolverRes answer
+  calc-refused k = before-refused (answer .number) (answer .temps) t r after k
+
+  calc-ok : r .number ≡ 0 → calcTemperatures c z t h dt gains fraction ach ≡ ok (r .temps)
+  unfolding calcTemperatures fastSolverRes answer
+  calc-ok k = before-ok (answer .number) (answer .temps) t r after k
+
+module _ (z : Zone) (s : State) (h : Conditions) (gains fraction ach : Float) where
+  module _ (c : Coefficients) (c-is : c ≡ standardCoefficients) (t : List Float) (t-is : t ≡ slotsOf z s) (dt : Float) (dt-is : dt ≡ deltaT h)
+      (r : Solved) (after : r ≡ solvedOrBefore t (calcTemperatures c z t h dt gains fraction ach)) where
+    pub step-refused : (a : Updated) → (r .number ≡ 0 → ⊥) → a ≡ updated s (refused (r .number) 0) → a ≡ updated s (step standardCoefficients z s h gains fraction ach)
+    unfolding step
+    step-refused a k p = rw (← c-is, ← t-is, ← dt-is, calc-refused c z t h dt gains fraction ach r after k) p
+
+    pub step-ok : (balance : HeatBalance) (state : State) → r .number ≡ 0
+        → balance ≡ heatBalance c z t h dt gains fraction ach (r .temps) → state ≡ stateOf z (r .temps)
+        → record { answer = UpdateAnswer.Accepted balance; state = state } ≡ updated s (step standardCoefficients z s h gains fraction ach)
+    unfolding step
+    step-ok balance state k p q = rw (← c-is, ← t-is, ← dt-is, calc-ok c z t h dt gains fraction ach r after k, p, q) refl
+
+  module _ (test : Bool) (load : test ≡ (gainsRange gains && fractionRange fraction && rateRange ach)) (r : Updated) where
+    pub load-in : test ≡ true → r ≡ updated s (step standardCoefficients z s h gains fraction ach) → r ≡ updated s (updateIn standardCoefficients z s h gains fraction ach)
+    unfolding updateIn
+    load-in k p = rw (← load, k) p
+
+    pub load-out : test ≡ false → r ≡ updated s (refused 9 0) → r ≡ updated s (updateIn standardCoefficients z s h gains fraction ach)
+    unfolding updateIn
+    load-out k p = rw (← load, k) p
+
+-- ---- demand and hour step
+
+-- the system of the hour, assembled on arrays of zeros
+pub system-is : (z : Zone) (t : List Float) (h : Conditions) (c : Coefficients) (dt : Float) (a : Assembled) → c ≡ standardCoefficients → dt ≡ deltaT h
+    → a ≡ assemble c z h dt t (replicate 24 false) (chains (replicate 120 zero64) (replicate 120 zero64) (replicate 120 zero64)) (replicate 625 zero64) (replicate 121 zero64)
+    → a ≡ hourSystem z t h
+unfolding hourSystem assembleStep
+system-is z t h c dt a p q e = rw (← p, ← q) e
+
+demanded-is : (s : State) (x : Res Demand) (a : DemandAnswer) → a ≡ demandAnswer x → record { answer = a; state = s } ≡ demanded s x
+demanded-is s (ok d) a e = rw e refl
+demanded-is s (refused n i) a e = rw e refl
+
+module _ (z : Zone) (s : State) (h : Conditions) (t : List Float) (t-is : t ≡ slotsOf z s) where
+  module _ (a : DemandAnswer) (asked : a ≡ demandAnswer (spaceHeatCoolDemand standardCoefficients z t h)) where
+    pub demand-in : record { answer = a; state = s } ≡ demanded s (spaceHeatCoolDemand standardCoefficients z (slotsOf z s) h)
+    demand-in = rw (← t-is) (demanded-is s (spaceHeatCoolDemand standardCoefficients z t h) a asked)
+
+    pub not-met : (n i : ℕ) (r : HourStep) → a ≡ DemandAnswer.Refused n i → r ≡ hourStepped s (refused n i) → r ≡ hourStepped s (hourResult standardCoefficients z s h)
+    unfolding hourResult
+    not-met n i r e p =
+        let w : spaceHeatCoolDemand standardCoefficients z t h ≡ refused n i = demand-refused _ a n i asked e in
+        rw (← t-is, w) p
+
+    pub met : (d : Demand) (r : HourStep) → a ≡ DemandAnswer.Accepted d → r ≡ hourStepped s (hourMet standardCoefficients z s h d) → r ≡ hourStepped s (hourResult standardCoefficients z s h)
+    unfolding hourResult
+    met d r e p =
+        let w : spaceHeatCoolDemand standardCoefficients z t h ≡ ok d = demand-accepted _ a d asked e in
+        rw (← t-is, w) p
+
+  module _ (d : Demand) (w g share : Float) (w-is : w ≡ delivered h d) (g-is : g ≡ totalGains h w) (share-is : share ≡ convectiveShare h w g)
+      (r : Solved) (after : solvedRes r ≡ temperaturesWith standardCoefficients z t h g share (d .«ach_cooling»)) where
+    pub meet-refused : (a : HourStep) → (r .number ≡ 0 → ⊥) → a ≡ hourStepped s (refused (r .number) 0) → a ≡ hourStepped s (hourMet standardCoefficients z s h d)
+    unfolding hourMet meetDemand step
+    meet-refused a k p = rw (← w-is, ← g-is, ← share-is, ← t-is, solved-refused r _ after k) p
+
+    pub meet-ok : (c : Coefficients) (dt : Float) (balance : HeatBalance) (state : State) → r .number ≡ 0 → c ≡ standardCoefficients → dt ≡ deltaT h
+        → balance ≡ heatBalance c z t h dt g share (d .«ach_cooling») (r .temps) → state ≡ stateOf z (r .temps)
+        → record { answer = HourAnswer.Accepted d balance; state = state } ≡ hourStepped s (hourMet standardCoefficients z s h d)
+    unfolding hourMet meetDemand step
+    meet-ok c dt balance state k c-is dt-is p q = rw (← w-is, ← g-is, ← share-is, ← t-is, solved-ok r _ after k, p, q, c-is, dt-is) refl

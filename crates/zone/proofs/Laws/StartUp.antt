@@ -1,0 +1,159 @@
+-- The ways out of the functions of start_up.rt, and its loops.
+use mathlib.Core.Path.{_≡_, refl, sym, ap, _∙_}
+use mathlib.Core.Bool.{Bool, true, false, not, _&&_}
+use mathlib.Core.List.{List, [], _∷_, _++_, map}
+use Prim.Native.Nat.{ℕ, _+_, _-_, _<_, _≤_}
+use native.Mathlib.Omega.{arith}
+use lib.ListN.{length, getD, set, take, drop, drop-of-length-le}
+use lib.Ieee.{Float, nan, lt}
+use Rattle.solver.specs.F64.{dec, zero64}
+use Rattle.solver.specs.Near as Near
+use Rattle.solver.specs.Res.{Res, ok, refused, bind-ok, need}
+use Rattle.solver.proofs.Laws.Fill.{fill-next, fill-done}
+use Rattle.solver.proofs.Laws.Parts.{drop-next}
+use Rattle.zone_head.specs.declared.building_element.Element.{Element}
+use Rattle.zone_head.specs.declared.building_element.ElementHour.{ElementHour}
+use Rattle.zone_head.specs.declared.zone.Zone.{Zone}
+use Rattle.zone_head.specs.declared.zone.Verdict.{Verdict}
+use Rattle.zone_head.specs.declared.zone.Verdict.the-variants as Verdict
+use Rattle.zone_head.specs.declared.conditions.Conditions.{Conditions}
+use Rattle.zone_head.specs.declared.conditions.AirChangesPerHourArgument.{AirChangesPerHourArgument}
+use Rattle.zone_head.specs.declared.conditions.AirChangesPerHourArgument.the-variants.{Cooling}
+use Rattle.zone_head.specs.BuildingElement.{standardCoefficients}
+use Rattle.zone_head.specs.ZoneTest.{zoneTest, verdictOf}
+use Rattle.zone_head.proofs.Laws.Ranges.{verdict-accepted, verdict-refused}
+use Rattle.zone_head.proofs.Laws.Lists.{one-left}
+use Rattle.zone.specs.declared.state.Demand.{Demand}
+use Rattle.zone.specs.declared.state.DemandAnswer.{DemandAnswer}
+use Rattle.zone.specs.declared.state.DemandAnswer.the-variants as DemandAnswer
+use Rattle.zone.specs.declared.state.StartUp.{StartUp}
+use Rattle.zone.specs.declared.state.AchToTriggerHeating.the-variants.{Absent}
+use Rattle.zone.specs.declared.ventilation.ZoneTemperatures.{ZoneTemperatures}
+use Rattle.zone.specs.declared.ventilation.Ventilated.{Ventilated}
+use Rattle.zone.specs.State.{slotsOf, stateOf}
+use Rattle.zone.specs.Demand.{achTarget, zoneTemperatures, freeTemperatures, temperaturesWith, ventilated, calcCoolingPotentialFromVentilation, wanted, demandFrom, spaceHeatCoolDemand}
+use Rattle.zone.specs.Hour.{delivered}
+use Rattle.zone.specs.StartUp.{firstHour, startUpConditions, startState, isclose, close, pass, settle, settleFrom, initNodeTemps}
+use Rattle.zone.specs.Answers.{startedUp}
+use Rattle.zone.specs.Solves.{demandAnswer, verdictRes}
+use Rattle.zone.proofs.Laws.Demand.{demand-refused, demand-accepted, towards-rate}
+use Rattle.zone.proofs.Laws.Hour.{res-accepted, res-refused}
+
+-- ---- the first hours: one more is stored, all are stored
+
+pub first-next : (es : List Element) (out : List ElementHour) (i : ℕ) (d : Element) → i < length es → i < length out
+    → take (i + 1) (set out i (getD es i d .«first_hour»)) ++ map firstHour (drop (i + 1) es) ≡ take i out ++ map firstHour (drop i es)
+first-next es out i d h r = rw (drop-next es i d h) (fill-next out (map firstHour (drop (i + 1) es)) i (getD es i d .«first_hour») r)
+
+pub first-done : (es : List Element) (out : List ElementHour) (i : ℕ) → length es ≤ i → length out ≤ i → out ≡ take i out ++ map firstHour (drop i es)
+first-done es out i h r = rw (drop-of-length-le es h) (sym (fill-done out i r))
+
+-- ---- the comparison of two vectors
+
+module _ (a b : List Float) (i : ℕ) (p : i < length a) (q : i < length b) where
+  close-step : isclose (drop i a) (drop i b) ≡ (Near.isclose (getD a i nan) (getD b i nan) && isclose (drop (i + 1) a) (drop (i + 1) b))
+  unfolding isclose
+  close-step = rw (drop-next a i nan p, drop-next b i nan q) refl
+
+  pub close-next : Near.isclose (getD a i nan) (getD b i nan) ≡ true → isclose (drop i a) (drop i b) ≡ isclose (drop (i + 1) a) (drop (i + 1) b)
+  close-next e = close-step ∙ rw e refl
+
+  pub close-not : Near.isclose (getD a i nan) (getD b i nan) ≡ false → isclose (drop i a) (drop i b) ≡ false
+  close-not e = close-step ∙ rw e refl
+
+close-empty : (a : List Float) → isclose a [] ≡ true
+unfolding isclose
+close-empty [] = refl
+close-empty (x ∷ xs) = refl
+
+pub close-first : (a b : List Float) (i : ℕ) → length a ≤ i → isclose (drop i a) (drop i b) ≡ true
+unfolding isclose
+close-first a b i h = rw (drop-of-length-le a h) refl
+
+pub close-second : (a b : List Float) (i : ℕ) → length b ≤ i → isclose (drop i a) (drop i b) ≡ true
+close-second a b i h = rw (drop-of-length-le b h) (close-empty (drop i a))
+
+-- ---- a pass
+
+-- the demand of a fixed rate chooses that rate
+potential-rate : (z : Zone) (t : List Float) (h : Conditions) (ach : Float) (free : ZoneTemperatures) (v : Ventilated)
+    → calcCoolingPotentialFromVentilation standardCoefficients z t h free (Cooling ach) ≡ ok v → v .«ach_cooling» ≡ ach
+unfolding calcCoolingPotentialFromVentilation
+potential-rate z t h ach free v e =
+    let p : ventilated (free .«temp_control») ach Absent ≡ v = cc in
+    sym (ap (λ (y : Ventilated). y .«ach_cooling») p)
+
+module _ (z : Zone) (t : List Float) (h : Conditions) (ach : Float) (fixed : h .«ach_args» ≡ Cooling ach) where
+  from-rate : (free : ZoneTemperatures) (d : Demand) → demandFrom standardCoefficients z t h free ≡ ok d → d .«ach_cooling» ≡ ach
+  unfolding demandFrom
+  from-rate free d e =
+      let v = bind-ok (calcCoolingPotentialFromVentilation standardCoefficients z t h free (h .«ach_args»)) _ d e in
+      towards-rate z t h (v .0) (wanted (z .«useful_area») h (v .0 .«temp_free»)) d (v .2)
+      ∙ potential-rate z t h ach free (v .0) (sym (ap (λ (a : AirChangesPerHourArgument). calcCoolingPotentialFromVentilation standardCoefficients z t h free a) fixed) ∙ v .1)
+
+  pub fixed-rate : (d : Demand) → spaceHeatCoolDemand standardCoefficients z t h ≡ ok d → d .«ach_cooling» ≡ ach
+  unfolding spaceHeatCoolDemand
+  fixed-rate d e =
+      let ten = bind-ok (need (not (lt (h .«temp_setpnt_cool») (h .«temp_setpnt_heat»))) 10) _ d e in
+      let eleven = bind-ok (need (not (lt (h .«temp_setpnt_cool_vent») (h .«temp_setpnt_heat»))) 11) _ d (ten .2) in
+      let free = bind-ok (freeTemperatures standardCoefficients z t h (achTarget (h .«ach_args»))) _ d (eleven .2) in
+      from-rate (zoneTemperatures z (free .0)) d (free .2)
+
+start-rate : (z : Zone) (h : Conditions) → h ≡ startUpConditions z → h .«ach_args» ≡ Cooling zero64
+unfolding startUpConditions
+start-rate z h e = ap (λ (y : Conditions). y .«ach_args») e
+
+start-fraction : (z : Zone) (h : Conditions) → h ≡ startUpConditions z → h .«frac_convective_heat» ≡ dec 4 1
+unfolding startUpConditions
+start-fraction z h e = ap (λ (y : Conditions). y .«frac_convective_heat») e
+
+module _ (z : Zone) (t : List Float) (h : Conditions) (h-is : h ≡ startUpConditions z) (a : DemandAnswer) (asked : a ≡ demandAnswer (spaceHeatCoolDemand standardCoefficients z t h)) where
+  pub pass-refused : (n i : ℕ) → a ≡ DemandAnswer.Refused n i → refused n i ≡ pass standardCoefficients z t
+  unfolding pass
+  pass-refused n i e =
+      let w : spaceHeatCoolDemand standardCoefficients z t h ≡ refused n i = demand-refused _ a n i asked e in
+      rw (← h-is, w) refl
+
+  pub pass-solved : (d : Demand) (w fraction : Float) (x : Res (List Float)) → a ≡ DemandAnswer.Accepted d → w ≡ delivered h d → fraction ≡ h .«frac_convective_heat»
+      → x ≡ temperaturesWith standardCoefficients z t h w fraction (d .«ach_cooling») → x ≡ pass standardCoefficients z t
+  unfolding pass
+  pass-solved d w fraction x e w-is f-is p =
+      let u : spaceHeatCoolDemand standardCoefficients z t h ≡ ok d = demand-accepted _ a d asked e in
+      let g : h .«frac_convective_heat» ≡ dec 4 1 = start-fraction z h h-is in
+      let k : d .«ach_cooling» ≡ zero64 = fixed-rate z t h zero64 (start-rate z h h-is) d u in
+      p ∙ rw (← h-is, u, w-is, f-is, g, k) refl
+
+-- ---- the passes
+
+pub settle-start : (z : Zone) (limit : ℕ) (t₀ t : List Float) → t ≡ t₀ → settle standardCoefficients z limit t₀ ≡ settle standardCoefficients z (limit - 0) t
+settle-start z limit t₀ t p = let e : limit - 0 ≡ limit = omega arith in rw (e, p) refl
+
+module _ (z : Zone) (limit : ℕ) (t₀ t : List Float) (passes : ℕ)
+    (left : settle standardCoefficients z limit t₀ ≡ settle standardCoefficients z (limit - passes) t) where
+  pub settle-15 : (r : StartUp) → limit ≤ passes → r ≡ startedUp (refused 15 0) → r ≡ startedUp (settleFrom standardCoefficients z limit t₀)
+  unfolding settleFrom settle
+  settle-15 r h p = let e : limit - passes ≡ 0 = omega arith in rw (left, e) p
+
+  module _ (more : passes < limit) (v : Verdict) (after : List Float) (passed : verdictRes v after ≡ pass standardCoefficients z t) where
+    pub settle-refused : (n i : ℕ) (r : StartUp) → v ≡ Verdict.Refused n i → r ≡ startedUp (refused n i) → r ≡ startedUp (settleFrom standardCoefficients z limit t₀)
+    unfolding settleFrom settle
+    settle-refused n i r e p = rw (left, one-left limit passes more, res-refused v after (pass standardCoefficients z t) passed n i e) p
+
+    module _ (good : v ≡ Verdict.Accepted) (test : Bool) (tested : test ≡ close z t after) where
+      pub settle-settled : (r : StartUp) → test ≡ true → r ≡ startedUp (ok (stateOf z t)) → r ≡ startedUp (settleFrom standardCoefficients z limit t₀)
+      unfolding settleFrom settle
+      settle-settled r k p = rw (left, one-left limit passes more, res-accepted v after (pass standardCoefficients z t) passed good, ← tested, k) p
+
+      pub settle-next : test ≡ false → settle standardCoefficients z limit t₀ ≡ settle standardCoefficients z (limit - (passes + 1)) after
+      unfolding settle
+      settle-next k = left ∙ rw (one-left limit passes more, res-accepted v after (pass standardCoefficients z t) passed good, ← tested, k) refl
+
+module _ (z : Zone) (v : Verdict) (zone : v ≡ verdictOf (zoneTest z)) (r : StartUp) where
+  pub start-refused : (n i : ℕ) → v ≡ Verdict.Refused n i → r ≡ startedUp (refused n i) → r ≡ startedUp (initNodeTemps standardCoefficients z)
+  unfolding initNodeTemps
+  start-refused n i e p = let w : zoneTest z ≡ refused n i = verdict-refused (zoneTest z) n i (sym zone ∙ e) in rw w p
+
+  pub start-settle : v ≡ Verdict.Accepted → r ≡ startedUp (settleFrom standardCoefficients z (z .«start_up_limit») (slotsOf z (startState z)))
+      → r ≡ startedUp (initNodeTemps standardCoefficients z)
+  unfolding initNodeTemps
+  start-settle e p = rw (verdict-accepted (zoneTest z) (sym zone ∙ e)) p

@@ -1,0 +1,13 @@
+use mathlib.Core.Path.{refl}
+use borrow.Author.Needs.{needs}
+use Rattle.zone.proofs.hour_step.total_gains.Statement.{statement}
+use Rattle.zone.proofs.hour_step.total_gains.Tie as tie
+
+gains-heat-cool-of-requires : tie.Need-gains-heat-cool-of-requires
+gains-heat-cool-of-requires c κs = search needs
+
+returns : tie.Need-returns
+returns c = rw (c .gains-heat-cool-of .ensures) refl
+
+pub total-gains-spec : {M : Type 1} → statement M
+total-gains-spec = tie.close (tie.spec gains-heat-cool-of-requires returns)

@@ -1,0 +1,60 @@
+use borrow.Author.Needs.{needs}
+use Rattle.zone.proofs.Laws.StartUp.{pass-refused, pass-solved}
+use Rattle.zone.proofs.Laws.Hour.{system-is}
+use Rattle.zone.proofs.Laws.Solves.{with-load}
+use mathlib.Core.Path.{refl, _∙_}
+use Rattle.zone.proofs.start_up.pass.Statement.{statement}
+use Rattle.zone.proofs.start_up.pass.Tie as tie
+
+standard-coefficients-requires : tie.Need-standard-coefficients-requires
+standard-coefficients-requires c κs = tt
+
+delta-t-of-requires : tie.Need-delta-t-of-requires
+delta-t-of-requires c κs = tt
+
+assemble-requires : tie.Need-assemble-requires
+assemble-requires c κs = tt
+
+hour-demand-requires : tie.Need-hour-demand-requires
+hour-demand-requires c κs = system-is _ _ _ _ _ _ (c .before .before .before .before .before .before .before .before .before .before .before .before .before .before .before .before .before .before .before .standard-coefficients .ensures) (c .before .before .before .before .before .before .before .before .before .before .before .before .before .before .before .before .before .before .delta-t-of .ensures) (c .before .before .before .before .before .before .before .before .before .before .assemble .ensures)
+
+enum-known-demand : tie.Need-enum-known-demand
+enum-known-demand c = search needs
+
+enum-known-demand-2 : tie.Need-enum-known-demand-2
+enum-known-demand-2 c = search needs
+
+delivered-of-requires : tie.Need-delivered-of-requires
+delivered-of-requires c κs = tt
+
+calc-vent-heat-transfer-coeff-requires : tie.Need-calc-vent-heat-transfer-coeff-requires
+calc-vent-heat-transfer-coeff-requires c κs = tt
+
+solve-at-requires : tie.Need-solve-at-requires
+solve-at-requires c κs = tt
+
+passed-of-requires : tie.Need-passed-of-requires
+passed-of-requires c κs = tt
+
+returns : tie.Need-returns
+returns c = pass-refused _ _ _ (c .before .before .before .before .before .before .before .before .before .before .before .before .before .before .before .before .before .before .before .before .before .before .before .before .pre) _ (c .before .before .before .hour-demand .ensures .answered) _ _ (c .before .demand .given .1)
+
+returns-2 : tie.Need-returns-2
+returns-2 c = pass-solved _ _ _ (c .before .before .before .before .before .before .before .before .before .before .before .before .before .before .before .before .before .before .before .before .before .before .before .before .before .before .before .before .before .before .before .before .before .before .before .pre) _ (c .before .before .before .before .before .before .before .before .before .before .before .before .before .before .hour-demand .ensures .answered) _ _ _ _ (c .before .before .before .before .before .before .before .before .before .before .before .before .demand2 .given .1) (c .before .before .before .before .before .before .before .before .before .before .delivered-of .ensures) refl (c .passed-of .ensures ∙ with-load _ _ _ _ _ _ _ _ _ _ (system-is _ _ _ _ _ _ (c .before .before .before .before .before .before .before .before .before .before .before .before .before .before .before .before .before .before .before .before .before .before .before .before .before .before .before .before .before .before .before .before .before .before .standard-coefficients .ensures) (c .before .before .before .before .before .before .before .before .before .before .before .before .before .before .before .before .before .before .before .before .before .before .before .before .before .before .before .before .before .before .before .before .before .delta-t-of .ensures) (c .before .before .before .before .before .before .before .before .before .before .before .before .before .before .before .before .before .before .before .before .before .before .before .before .before .assemble .ensures)) _ _ (c .before .before .before .before .before .before .before .before .before .calc-vent-heat-transfer-coeff .ensures) 0 _ _ _ (c .before .before .before .before .before .before .before .before .before .before .before .before .before .before .hour-demand .ensures .factors _ (c .before .before .before .before .before .before .before .before .before .before .before .before .demand2 .given .1)) refl _ _ _ (c .before .solve-at .ensures))
+
+pub pass-spec : {M : Type 1} → statement M
+pass-spec =
+    tie.close
+    (tie.spec
+    standard-coefficients-requires
+    delta-t-of-requires
+    assemble-requires
+    hour-demand-requires
+    enum-known-demand
+    enum-known-demand-2
+    delivered-of-requires
+    calc-vent-heat-transfer-coeff-requires
+    solve-at-requires
+    passed-of-requires
+    returns
+    returns-2)

@@ -1,0 +1,13 @@
+use mathlib.Core.Path.{refl}
+use borrow.Author.Needs.{needs}
+use Rattle.zone.proofs.start_up.settled.Statement.{statement}
+use Rattle.zone.proofs.start_up.settled.Tie as tie
+
+state-of-requires : tie.Need-state-of-requires
+state-of-requires c κs = search needs
+
+returns : tie.Need-returns
+returns c = rw (c .state-of .ensures) refl
+
+pub settled-spec : {M : Type 1} → statement M
+settled-spec = tie.close (tie.spec state-of-requires returns)

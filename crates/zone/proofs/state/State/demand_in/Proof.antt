@@ -1,0 +1,32 @@
+use Rattle.zone.proofs.Laws.Hour.{system-is, demand-in}
+use Rattle.zone.proofs.state.State.demand_in.Statement.{statement}
+use Rattle.zone.proofs.state.State.demand_in.Tie as tie
+
+slots-of-requires : tie.Need-slots-of-requires
+slots-of-requires c κs = tt
+
+standard-coefficients-requires : tie.Need-standard-coefficients-requires
+standard-coefficients-requires c κs = tt
+
+delta-t-of-requires : tie.Need-delta-t-of-requires
+delta-t-of-requires c κs = tt
+
+assemble-requires : tie.Need-assemble-requires
+assemble-requires c κs = tt
+
+hour-demand-requires : tie.Need-hour-demand-requires
+hour-demand-requires c κs = system-is _ _ _ _ _ _ (c .before .before .before .before .before .before .before .before .before .before .before .before .before .before .before .before .before .before .before .standard-coefficients .ensures) (c .before .before .before .before .before .before .before .before .before .before .before .before .before .before .before .before .before .before .delta-t-of .ensures) (c .before .before .before .before .before .before .before .before .before .before .assemble .ensures)
+
+returns : tie.Need-returns
+returns c = demand-in _ _ _ _ (c .before .before .before .before .before .before .before .before .before .before .before .before .before .before .before .before .before .before .before .before .before .slots-of .ensures) _ (c .hour-demand .ensures .answered)
+
+pub demand-in-spec : {M : Type 1} → statement M
+demand-in-spec =
+    tie.close
+    (tie.spec
+    slots-of-requires
+    standard-coefficients-requires
+    delta-t-of-requires
+    assemble-requires
+    hour-demand-requires
+    returns)

@@ -1,0 +1,29 @@
+use Rattle.zone.proofs.Laws.Ventilation.{choose-refused, choose-choice}
+use borrow.Author.Needs.{needs}
+use Rattle.zone.proofs.ventilation.choose_rate.Statement.{statement}
+use Rattle.zone.proofs.ventilation.choose_rate.Tie as tie
+
+free-temperatures-requires : tie.Need-free-temperatures-requires
+free-temperatures-requires c κs = search needs
+
+returns : tie.Need-returns
+returns c = choose-refused _ _ _ _ _ _ _ _ _ _ (c .before .before .free-temperatures .ensures .answer) (c .if1 .taken)
+
+zone-temperatures-requires : tie.Need-zone-temperatures-requires
+zone-temperatures-requires c κs = search needs
+
+with-choice-requires : tie.Need-with-choice-requires
+with-choice-requires c κs = search needs
+
+returns-2 : tie.Need-returns-2
+returns-2 c = choose-choice _ _ _ _ _ _ _ _ _ _ (c .before .before .before .before .before .before .before .before .before .free-temperatures .ensures .answer) _ _ (c .before .before .before .before .before .before .before .if1 .left) (c .before .before .before .before .zone-temperatures .ensures) (c .with-choice .ensures)
+
+pub choose-rate-spec : {M : Type 1} → statement M
+choose-rate-spec =
+    tie.close
+    (tie.spec
+    free-temperatures-requires
+    returns
+    zone-temperatures-requires
+    with-choice-requires
+    returns-2)

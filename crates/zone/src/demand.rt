@@ -1,0 +1,407 @@
+// Space heating and cooling demand.
+use crate::solves::control_temperature;
+use crate::solves::frac_conv_gains_heat_cool_of;
+use crate::solves::free_temperatures;
+use crate::solves::gains_heat_cool_of;
+use crate::solves::solve_at;
+use crate::state::Demand;
+use crate::state::DemandAnswer;
+use crate::ventilation::Ventilated;
+use crate::ventilation::VentilatedAnswer;
+use crate::ventilation::ZoneTemperatures;
+use crate::ventilation::calc_cooling_potential_from_ventilation;
+use crate::ventilation::zone_temperatures;
+use solver::close_in_demand;
+use zone_head::AirChangesPerHourArgument;
+use zone_head::Conditions;
+use zone_head::Zone;
+use zone_head::calc_vent_heat_transfer_coeff;
+use zone_temps::ZoneTerms;
+ghost use mathlib.Core.Path.{_≡_};
+ghost use mathlib.Core.Bool.{not, _&&_};
+ghost use lib.Ieee.{lt, neg};
+ghost use Rattle.solver.specs.F64.{_*ᶠ_, dec};
+ghost use Rattle.solver.specs.Near.{closeInDemand};
+ghost use Rattle.solver.specs.FastSolver.{factored};
+ghost use Rattle.zone_head.specs.BuildingElement.{standardCoefficients};
+ghost use Rattle.zone_temps.specs.System.{assembled};
+ghost use Rattle.zone.specs.Demand.{
+  achTarget,
+  wanted,
+  fracUpper,
+  interpolation,
+  interpHeatCoolDemand,
+  demandBy,
+  loadedDemand,
+  demandTowards,
+  demandFrom,
+  spaceHeatCoolDemand,
+};
+ghost use Rattle.zone.specs.Solves.{hourSystem, factorsAt, interpolated, demandAnswer, DemandedAt};
+
+// The setpoint to be reached and the load with which the second calculation is made, with its convective fraction.
+pub enum Wanted {
+    Neither,
+    Towards {
+        setpoint: f64,
+        load: f64,
+        fraction: f64,
+    },
+}
+
+pub enum Interpolated {
+    Accepted(f64),
+    Refused { number: u32, index: usize },
+}
+
+// Ten watts for each square metre.
+fn load_of(useful_area: f64) -> f64
+    ensures { λ r. ⌜ r ≡ dec 10 0 *ᶠ «useful_area» ⌝ }
+{
+    10.0 * useful_area
+}
+
+fn cooling_load_of(useful_area: f64) -> f64
+    ensures { λ r. ⌜ r ≡ neg (dec 10 0) *ᶠ «useful_area» ⌝ }
+{
+    -10.0 * useful_area
+}
+
+fn above(temp_free: f64, temp_setpnt_cool: f64) -> bool
+    ensures { λ r. ⌜ r ≡ (lt «temp_setpnt_cool» «temp_free» && not (closeInDemand «temp_free» «temp_setpnt_cool»)) ⌝ }
+{
+    let above = temp_setpnt_cool < temp_free;
+    let close = close_in_demand(temp_free, temp_setpnt_cool);
+    above & !close
+}
+
+// The second test is against the cooling setpoint, as in the Rust.
+fn below(temp_free: f64, temp_setpnt_heat: f64, temp_setpnt_cool: f64) -> bool
+    ensures { λ r. ⌜ r ≡ (lt «temp_free» «temp_setpnt_heat» && not (closeInDemand «temp_free» «temp_setpnt_cool»)) ⌝ }
+{
+    let below = temp_free < temp_setpnt_heat;
+    let close = close_in_demand(temp_free, temp_setpnt_cool);
+    below & !close
+}
+
+fn wanted_of(useful_area: f64, h: Conditions, temp_free: f64) -> Wanted
+    ensures { λ r. ⌜ r ≡ wanted «useful_area» h «temp_free» ⌝ }
+{
+    if above(temp_free, h.temp_setpnt_cool) {
+        return Wanted::Towards {
+            setpoint: h.temp_setpnt_cool,
+            load: cooling_load_of(useful_area),
+            fraction: h.frac_convective_cool,
+        };
+    }
+    if below(temp_free, h.temp_setpnt_heat, h.temp_setpnt_cool) {
+        return Wanted::Towards {
+            setpoint: h.temp_setpnt_heat,
+            load: load_of(useful_area),
+            fraction: h.frac_convective_heat,
+        };
+    }
+    Wanted::Neither
+}
+
+// The convective fraction of the gains with the load.
+fn frac_upper(h: Conditions, load: f64, fraction: f64) -> f64
+    ensures { λ r. ⌜ r ≡ fracUpper h load fraction ⌝ }
+{
+    let gains = gains_heat_cool_of(h);
+    let frac_conv = frac_conv_gains_heat_cool_of(h);
+    (gains * frac_conv + load * fraction) / (gains + load)
+}
+
+fn kwh_of(delta_t_h: f64, setpoint: f64, load: f64, temp_free: f64, temp_upper: f64) -> f64
+    ensures { λ r. ⌜ r ≡ interpolation «delta_t_h» setpoint load «temp_free» «temp_upper» ⌝ }
+{
+    load * (setpoint - temp_free) / (temp_upper - temp_free) / 1000.0 * delta_t_h
+}
+
+// By interpolation between the free and the loaded temperature.
+fn interp_heat_cool_demand(
+    delta_t_h: f64,
+    setpoint: f64,
+    load: f64,
+    temp_free: f64,
+    temp_upper: f64,
+) -> Interpolated
+    ensures { λ r. ⌜ r ≡ interpolated (interpHeatCoolDemand «delta_t_h» setpoint load «temp_free» «temp_upper») ⌝ }
+{
+    if close_in_demand(temp_upper - temp_free, 0.0) {
+        return Interpolated::Refused {
+            number: 14,
+            index: 0,
+        };
+    }
+    if close_in_demand(setpoint, temp_free) {
+        return Interpolated::Accepted(0.0);
+    }
+    Interpolated::Accepted(kwh_of(delta_t_h, setpoint, load, temp_free, temp_upper))
+}
+
+// Heating where positive, cooling where negative.
+fn demand_by(kwh: f64, v: Ventilated) -> Demand
+    ensures { λ r. ⌜ r ≡ demandBy kwh v ⌝ }
+{
+    let mut space_heat_demand = 0.0;
+    let mut space_cool_demand = 0.0;
+    if kwh < 0.0 {
+        space_cool_demand = kwh;
+    } else if 0.0 < kwh {
+        space_heat_demand = kwh;
+    }
+    let trigger = v.ach_to_trigger_heating;
+    Demand {
+        space_heat_demand,
+        space_cool_demand,
+        ach_cooling: v.ach_cooling,
+        ach_to_trigger_heating: trigger,
+    }
+}
+
+fn loaded_demand(
+    z: Zone,
+    t: &[f64; 121],
+    h: Conditions,
+    v: Ventilated,
+    setpoint: f64,
+    load: f64,
+    fraction: f64,
+    terms: ZoneTerms,
+    two_nodes: &[bool; 24],
+    diag: &[f64; 120],
+    next: &[f64; 120],
+    prev: &[f64; 120],
+    dense: &[f64; 625],
+    b: &[f64; 121],
+    factor_diag: &[f64; 120],
+    factor_dense: &[f64; 625],
+    exchanges: &[usize; 25],
+) -> DemandAnswer
+    requires { ⌜ (assembled terms (now «two_nodes») (now diag) (now next) (now prev) (now dense) (now b) ≡ hourSystem z (now t) h) × (factored 0 (now «factor_diag») (now «factor_dense») (now exchanges) ≡ factorsAt z (now t) h (v .«ach_cooling»)) ⌝ }
+    ensures { λ r. ⌜ r ≡ demandAnswer (loadedDemand standardCoefficients z (now (t .entry)) h v setpoint load fraction) ⌝ }
+{
+    let gains = gains_heat_cool_of(h) + load;
+    let frac = frac_upper(h, load, fraction);
+    let h_ve = calc_vent_heat_transfer_coeff(z.volume, v.ach_cooling);
+    let upper = solve_at(
+        terms,
+        h_ve,
+        gains,
+        frac,
+        two_nodes,
+        next,
+        prev,
+        b,
+        factor_diag,
+        factor_dense,
+        exchanges,
+    );
+    if upper.number != 0 {
+        return DemandAnswer::Refused {
+            number: upper.number,
+            index: 0,
+        };
+    }
+    let temps = upper.temps;
+    let temp_upper = control_temperature(z, &temps);
+    let kwh = interp_heat_cool_demand(h.delta_t_h, setpoint, load, v.temp_free, temp_upper);
+    match kwh {
+        Interpolated::Refused { number, index } => DemandAnswer::Refused { number, index },
+        Interpolated::Accepted(x) => DemandAnswer::Accepted(demand_by(x, v)),
+    }
+}
+
+fn demand_towards(
+    z: Zone,
+    t: &[f64; 121],
+    h: Conditions,
+    v: Ventilated,
+    w: Wanted,
+    terms: ZoneTerms,
+    two_nodes: &[bool; 24],
+    diag: &[f64; 120],
+    next: &[f64; 120],
+    prev: &[f64; 120],
+    dense: &[f64; 625],
+    b: &[f64; 121],
+    factor_diag: &[f64; 120],
+    factor_dense: &[f64; 625],
+    exchanges: &[usize; 25],
+) -> DemandAnswer
+    requires { ⌜ (assembled terms (now «two_nodes») (now diag) (now next) (now prev) (now dense) (now b) ≡ hourSystem z (now t) h) × (factored 0 (now «factor_diag») (now «factor_dense») (now exchanges) ≡ factorsAt z (now t) h (v .«ach_cooling»)) ⌝ }
+    ensures { λ r. ⌜ r ≡ demandAnswer (demandTowards standardCoefficients z (now (t .entry)) h v w) ⌝ }
+{
+    match w {
+        Wanted::Neither => DemandAnswer::Accepted(demand_by(0.0, v)),
+        Wanted::Towards {
+            setpoint,
+            load,
+            fraction,
+        } => loaded_demand(
+            z,
+            t,
+            h,
+            v,
+            setpoint,
+            load,
+            fraction,
+            terms,
+            two_nodes,
+            diag,
+            next,
+            prev,
+            dense,
+            b,
+            factor_diag,
+            factor_dense,
+            exchanges,
+        ),
+    }
+}
+
+fn demand_from(
+    z: Zone,
+    t: &[f64; 121],
+    h: Conditions,
+    free: ZoneTemperatures,
+    terms: ZoneTerms,
+    two_nodes: &[bool; 24],
+    diag: &[f64; 120],
+    next: &[f64; 120],
+    prev: &[f64; 120],
+    dense: &[f64; 625],
+    b: &[f64; 121],
+    factor_diag: &mut [f64; 120],
+    factor_dense: &mut [f64; 625],
+    exchanges: &mut [usize; 25],
+) -> DemandAnswer
+    requires { ⌜ (assembled terms (now «two_nodes») (now diag) (now next) (now prev) (now dense) (now b) ≡ hourSystem z (now t) h) × (factored 0 (now «factor_diag») (now «factor_dense») (now exchanges) ≡ factorsAt z (now t) h (achTarget (h .«ach_args»))) ⌝ }
+    ensures { λ r. ⌜ DemandedAt z (now (t .entry)) h (demandFrom standardCoefficients z (now (t .entry)) h free) r (now («factor_diag» .exit)) (now («factor_dense» .exit)) (now (exchanges .exit)) ⌝ }
+{
+    let ventilated = calc_cooling_potential_from_ventilation(
+        z,
+        t,
+        h,
+        free,
+        terms,
+        two_nodes,
+        diag,
+        next,
+        prev,
+        dense,
+        b,
+        factor_diag,
+        factor_dense,
+        exchanges,
+    );
+    match ventilated {
+        VentilatedAnswer::Refused { number, index } => DemandAnswer::Refused { number, index },
+        VentilatedAnswer::Accepted(v) => {
+            let w = wanted_of(z.useful_area, h, v.temp_free);
+            demand_towards(
+                z,
+                t,
+                h,
+                v,
+                w,
+                terms,
+                two_nodes,
+                diag,
+                next,
+                prev,
+                dense,
+                b,
+                factor_diag,
+                factor_dense,
+                exchanges,
+            )
+        }
+    }
+}
+
+fn ach_target(ach_args: AirChangesPerHourArgument) -> f64
+    ensures { λ r. ⌜ r ≡ achTarget «ach_args» ⌝ }
+{
+    match ach_args {
+        AirChangesPerHourArgument::Cooling(ach) => ach,
+        AirChangesPerHourArgument::TargetAndWindowsOpen(target, _) => target,
+    }
+}
+
+// The demand of an hour that is assembled; where it is accepted, the factors of the chosen rate are left for its last calculation.
+pub fn hour_demand(
+    z: Zone,
+    t: &[f64; 121],
+    h: Conditions,
+    terms: ZoneTerms,
+    two_nodes: &[bool; 24],
+    diag: &[f64; 120],
+    next: &[f64; 120],
+    prev: &[f64; 120],
+    dense: &[f64; 625],
+    b: &[f64; 121],
+    factor_diag: &mut [f64; 120],
+    factor_dense: &mut [f64; 625],
+    exchanges: &mut [usize; 25],
+) -> DemandAnswer
+    requires { ⌜ (assembled terms (now «two_nodes») (now diag) (now next) (now prev) (now dense) (now b) ≡ hourSystem z (now t) h) ⌝ }
+    ensures { λ r. ⌜ DemandedAt z (now (t .entry)) h (spaceHeatCoolDemand standardCoefficients z (now (t .entry)) h) r (now («factor_diag» .exit)) (now («factor_dense» .exit)) (now (exchanges .exit)) ⌝ }
+{
+    if h.temp_setpnt_cool < h.temp_setpnt_heat {
+        return DemandAnswer::Refused {
+            number: 10,
+            index: 0,
+        };
+    }
+    if h.temp_setpnt_cool_vent < h.temp_setpnt_heat {
+        return DemandAnswer::Refused {
+            number: 11,
+            index: 0,
+        };
+    }
+    let ach_args = h.ach_args;
+    let target = ach_target(ach_args);
+    let free = free_temperatures(
+        z,
+        t,
+        h,
+        target,
+        terms,
+        two_nodes,
+        diag,
+        next,
+        prev,
+        dense,
+        b,
+        factor_diag,
+        factor_dense,
+        exchanges,
+    );
+    if free.number != 0 {
+        return DemandAnswer::Refused {
+            number: free.number,
+            index: 0,
+        };
+    }
+    let temps = free.temps;
+    let indoor = zone_temperatures(z, &temps);
+    demand_from(
+        z,
+        t,
+        h,
+        indoor,
+        terms,
+        two_nodes,
+        diag,
+        next,
+        prev,
+        dense,
+        b,
+        factor_diag,
+        factor_dense,
+        exchanges,
+    )
+}

@@ -1,0 +1,348 @@
+// Cooling by ventilation: the choice of an air change rate.
+use crate::solves::control_temperature;
+use crate::solves::free_temperatures;
+use crate::state::AchToTriggerHeating;
+use solver::close_in_windows_test;
+use zone_head::AirChangesPerHourArgument;
+use zone_head::Conditions;
+use zone_head::Zone;
+use zone_head::ach_req_to_reach_temperature;
+use zone_temps::ZoneTerms;
+ghost use mathlib.Core.Path.{_≡_};
+ghost use mathlib.Core.Bool.{not, _&&_};
+ghost use lib.Ieee.{lt};
+ghost use Rattle.solver.specs.Near.{closeInWindowsTest};
+ghost use Rattle.solver.specs.FastSolver.{factored};
+ghost use Rattle.zone_head.specs.BuildingElement.{standardCoefficients};
+ghost use Rattle.zone_temps.specs.System.{assembled};
+ghost use Rattle.zone.specs.Demand.{
+  achTarget,
+  zoneTemperatures,
+  achToReach,
+  windowsCool,
+  coolByWindows,
+  withChoice,
+  chooseRate,
+  calcCoolingPotentialFromVentilation,
+};
+ghost use Rattle.zone.specs.Solves.{hourSystem, factorsAt, VentilatedAt};
+
+// Of a calculation's temperatures, what the choice of a rate looks at.
+pub struct ZoneTemperatures {
+    pub temp_control: f64,
+    pub temp_int_air: f64,
+}
+
+// The free temperature, the chosen rate and the rate that triggers heating.
+pub struct Ventilated {
+    pub temp_free: f64,
+    pub ach_cooling: f64,
+    pub ach_to_trigger_heating: AchToTriggerHeating,
+}
+
+pub enum VentilatedAnswer {
+    Accepted(Ventilated),
+    Refused { number: u32, index: usize },
+}
+
+pub fn zone_temperatures(z: Zone, t: &[f64; 121]) -> ZoneTemperatures
+    ensures { λ r. ⌜ r ≡ zoneTemperatures z (now (t .entry)) ⌝ }
+{
+    let temp_control = control_temperature(z, t);
+    ZoneTemperatures {
+        temp_control,
+        temp_int_air: t[120],
+    }
+}
+
+// The rate that brings the control temperature to a wanted one.
+fn ach_to_reach(
+    h: Conditions,
+    target: f64,
+    windows: f64,
+    free: ZoneTemperatures,
+    vent_max: ZoneTemperatures,
+    temperature: f64,
+) -> f64
+    ensures { λ r. ⌜ r ≡ achToReach h target windows free «vent_max» temperature ⌝ }
+{
+    ach_req_to_reach_temperature(
+        temperature,
+        target,
+        windows,
+        free.temp_control,
+        vent_max.temp_control,
+        free.temp_int_air,
+        vent_max.temp_int_air,
+        h.avg_air_supply_temp,
+    )
+}
+
+fn windows_cool(h: Conditions, free: ZoneTemperatures, vent_max: ZoneTemperatures) -> bool
+    ensures { λ r. ⌜ r ≡ windowsCool h free «vent_max» ⌝ }
+{
+    (vent_max.temp_control < free.temp_control)
+        & (h.temp_setpnt_cool_vent < free.temp_control)
+        & (h.avg_air_supply_temp < free.temp_int_air)
+}
+
+// Too warm even with the rate that windows need.
+fn above_cooling_setpoint(temp_extra: f64, temp_setpnt_cool: f64) -> bool
+    ensures { λ r. ⌜ r ≡ (lt «temp_setpnt_cool» «temp_extra» && not (closeInWindowsTest «temp_extra» «temp_setpnt_cool»)) ⌝ }
+{
+    let above = temp_setpnt_cool < temp_extra;
+    let close = close_in_windows_test(temp_extra, temp_setpnt_cool);
+    above & !close
+}
+
+// With the rate that windows need: it is chosen, or the cooling system is used at the target rate.
+fn cool_by_windows(
+    z: Zone,
+    t: &[f64; 121],
+    h: Conditions,
+    target: f64,
+    temp_free: f64,
+    ach: f64,
+    trigger: AchToTriggerHeating,
+    terms: ZoneTerms,
+    two_nodes: &[bool; 24],
+    diag: &[f64; 120],
+    next: &[f64; 120],
+    prev: &[f64; 120],
+    dense: &[f64; 625],
+    b: &[f64; 121],
+    factor_diag: &mut [f64; 120],
+    factor_dense: &mut [f64; 625],
+    exchanges: &mut [usize; 25],
+) -> VentilatedAnswer
+    requires { ⌜ (assembled terms (now «two_nodes») (now diag) (now next) (now prev) (now dense) (now b) ≡ hourSystem z (now t) h) × (factored 0 (now «factor_diag») (now «factor_dense») (now exchanges) ≡ factorsAt z (now t) h target) ⌝ }
+    ensures { λ r. ⌜ VentilatedAt z (now (t .entry)) h (coolByWindows standardCoefficients z (now (t .entry)) h target «temp_free» ach trigger) r (now («factor_diag» .exit)) (now («factor_dense» .exit)) (now (exchanges .exit)) ⌝ }
+{
+    let mut extra_diag = [0.0; 120];
+    let mut extra_dense = [0.0; 625];
+    let mut extra_exchanges = [0; 25];
+    let extra = free_temperatures(
+        z,
+        t,
+        h,
+        ach,
+        terms,
+        two_nodes,
+        diag,
+        next,
+        prev,
+        dense,
+        b,
+        &mut extra_diag,
+        &mut extra_dense,
+        &mut extra_exchanges,
+    );
+    if extra.number != 0 {
+        return VentilatedAnswer::Refused {
+            number: extra.number,
+            index: 0,
+        };
+    }
+    let temps = extra.temps;
+    let temp_extra = control_temperature(z, &temps);
+    if above_cooling_setpoint(temp_extra, h.temp_setpnt_cool) {
+        return VentilatedAnswer::Accepted(Ventilated {
+            temp_free,
+            ach_cooling: target,
+            ach_to_trigger_heating: trigger,
+        });
+    }
+    *factor_diag = extra_diag;
+    *factor_dense = extra_dense;
+    *exchanges = extra_exchanges;
+    VentilatedAnswer::Accepted(Ventilated {
+        temp_free: temp_extra,
+        ach_cooling: ach,
+        ach_to_trigger_heating: trigger,
+    })
+}
+
+fn with_choice(
+    z: Zone,
+    t: &[f64; 121],
+    h: Conditions,
+    target: f64,
+    windows: f64,
+    free: ZoneTemperatures,
+    vent_max: ZoneTemperatures,
+    terms: ZoneTerms,
+    two_nodes: &[bool; 24],
+    diag: &[f64; 120],
+    next: &[f64; 120],
+    prev: &[f64; 120],
+    dense: &[f64; 625],
+    b: &[f64; 121],
+    factor_diag: &mut [f64; 120],
+    factor_dense: &mut [f64; 625],
+    exchanges: &mut [usize; 25],
+) -> VentilatedAnswer
+    requires { ⌜ (assembled terms (now «two_nodes») (now diag) (now next) (now prev) (now dense) (now b) ≡ hourSystem z (now t) h) × (factored 0 (now «factor_diag») (now «factor_dense») (now exchanges) ≡ factorsAt z (now t) h target) ⌝ }
+    ensures { λ r. ⌜ VentilatedAt z (now (t .entry)) h (withChoice standardCoefficients z (now (t .entry)) h target windows free «vent_max») r (now («factor_diag» .exit)) (now («factor_dense» .exit)) (now (exchanges .exit)) ⌝ }
+{
+    let trigger = AchToTriggerHeating::At(ach_to_reach(
+        h,
+        target,
+        windows,
+        free,
+        vent_max,
+        h.temp_setpnt_heat,
+    ));
+    if windows_cool(h, free, vent_max) {
+        let ach = ach_to_reach(h, target, windows, free, vent_max, h.temp_setpnt_cool_vent);
+        return cool_by_windows(
+            z,
+            t,
+            h,
+            target,
+            free.temp_control,
+            ach,
+            trigger,
+            terms,
+            two_nodes,
+            diag,
+            next,
+            prev,
+            dense,
+            b,
+            factor_diag,
+            factor_dense,
+            exchanges,
+        );
+    }
+    VentilatedAnswer::Accepted(Ventilated {
+        temp_free: free.temp_control,
+        ach_cooling: target,
+        ach_to_trigger_heating: trigger,
+    })
+}
+
+fn choose_rate(
+    z: Zone,
+    t: &[f64; 121],
+    h: Conditions,
+    target: f64,
+    windows: f64,
+    free: ZoneTemperatures,
+    terms: ZoneTerms,
+    two_nodes: &[bool; 24],
+    diag: &[f64; 120],
+    next: &[f64; 120],
+    prev: &[f64; 120],
+    dense: &[f64; 625],
+    b: &[f64; 121],
+    factor_diag: &mut [f64; 120],
+    factor_dense: &mut [f64; 625],
+    exchanges: &mut [usize; 25],
+) -> VentilatedAnswer
+    requires { ⌜ (assembled terms (now «two_nodes») (now diag) (now next) (now prev) (now dense) (now b) ≡ hourSystem z (now t) h) × (factored 0 (now «factor_diag») (now «factor_dense») (now exchanges) ≡ factorsAt z (now t) h target) ⌝ }
+    ensures { λ r. ⌜ VentilatedAt z (now (t .entry)) h (chooseRate standardCoefficients z (now (t .entry)) h target windows free) r (now («factor_diag» .exit)) (now («factor_dense» .exit)) (now (exchanges .exit)) ⌝ }
+{
+    let mut open_diag = [0.0; 120];
+    let mut open_dense = [0.0; 625];
+    let mut open_exchanges = [0; 25];
+    let open = free_temperatures(
+        z,
+        t,
+        h,
+        windows,
+        terms,
+        two_nodes,
+        diag,
+        next,
+        prev,
+        dense,
+        b,
+        &mut open_diag,
+        &mut open_dense,
+        &mut open_exchanges,
+    );
+    if open.number != 0 {
+        return VentilatedAnswer::Refused {
+            number: open.number,
+            index: 0,
+        };
+    }
+    let temps = open.temps;
+    let vent_max = zone_temperatures(z, &temps);
+    with_choice(
+        z,
+        t,
+        h,
+        target,
+        windows,
+        free,
+        vent_max,
+        terms,
+        two_nodes,
+        diag,
+        next,
+        prev,
+        dense,
+        b,
+        factor_diag,
+        factor_dense,
+        exchanges,
+    )
+}
+
+// Given the factors of the rate without windows, and leaving those of the chosen rate.
+pub fn calc_cooling_potential_from_ventilation(
+    z: Zone,
+    t: &[f64; 121],
+    h: Conditions,
+    free: ZoneTemperatures,
+    terms: ZoneTerms,
+    two_nodes: &[bool; 24],
+    diag: &[f64; 120],
+    next: &[f64; 120],
+    prev: &[f64; 120],
+    dense: &[f64; 625],
+    b: &[f64; 121],
+    factor_diag: &mut [f64; 120],
+    factor_dense: &mut [f64; 625],
+    exchanges: &mut [usize; 25],
+) -> VentilatedAnswer
+    requires { ⌜ (assembled terms (now «two_nodes») (now diag) (now next) (now prev) (now dense) (now b) ≡ hourSystem z (now t) h) × (factored 0 (now «factor_diag») (now «factor_dense») (now exchanges) ≡ factorsAt z (now t) h (achTarget (h .«ach_args»))) ⌝ }
+    ensures { λ r. ⌜ VentilatedAt z (now (t .entry)) h (calcCoolingPotentialFromVentilation standardCoefficients z (now (t .entry)) h free (h .«ach_args»)) r (now («factor_diag» .exit)) (now («factor_dense» .exit)) (now (exchanges .exit)) ⌝ }
+{
+    let ach_args = h.ach_args;
+    match ach_args {
+        AirChangesPerHourArgument::Cooling(ach) => VentilatedAnswer::Accepted(Ventilated {
+            temp_free: free.temp_control,
+            ach_cooling: ach,
+            ach_to_trigger_heating: AchToTriggerHeating::Absent,
+        }),
+        AirChangesPerHourArgument::TargetAndWindowsOpen(target, windows) => {
+            if windows != target {
+                return choose_rate(
+                    z,
+                    t,
+                    h,
+                    target,
+                    windows,
+                    free,
+                    terms,
+                    two_nodes,
+                    diag,
+                    next,
+                    prev,
+                    dense,
+                    b,
+                    factor_diag,
+                    factor_dense,
+                    exchanges,
+                );
+            }
+            VentilatedAnswer::Accepted(Ventilated {
+                temp_free: free.temp_control,
+                ach_cooling: target,
+                ach_to_trigger_heating: AchToTriggerHeating::Absent,
+            })
+        }
+    }
+}

@@ -1,0 +1,43 @@
+-- Conditions: accepted ones have the paper's size.
+use Prim.Native.Nat.{ℕ, _+_, _*_, _≤_}
+use mathlib.Core.Path.{_≡_, refl, sym, ap, _∙_}
+use mathlib.Core.Bool.{true, _&&_}
+use mathlib.Core.List.{List, map}
+use borrow.Author.Tests.{leb-true, eqb-true}
+use lib.Dec.{leb, eqb}
+use lib.ListN.{length, take}
+use Rattle.solver.specs.Res.{Res, ok, refused, bind, bind-ok, need, needAt, need-ok}
+use Rattle.zone_head.specs.Conditions.{conditionsAt, conditionsTest, rateCodeGood, openBitsGood, testedAt, conditionsFor, conditionsOf, treatmentsOf}
+use Rattle.zone_head.specs.declared.zone.Zone.{Zone}
+use Rattle.zone_head.specs.declared.conditions.Conditions.{Conditions}
+
+-- accepted conditions
+pub record Accepted (n : ℕ) (ts bs : List ℕ) (c : Conditions) : Type 0 where
+  pub few : n ≤ 24
+  pub size : length bs ≡ 113 + 41 * n
+  pub code : (rateCodeGood bs && openBitsGood bs (take n ts) 113) ≡ true
+  pub values : conditionsTest n c ≡ ok tt
+  pub decoded : c ≡ conditionsAt bs n
+
+ok-same : (a b : Conditions) → _≡_ {A = Res Conditions} (ok a) (ok b) → b ≡ a
+ok-same a b e = cc
+
+pub accepted : (n : ℕ) (ts bs : List ℕ) (c : Conditions) → conditionsFor n ts bs ≡ ok c → Accepted n ts bs c
+unfolding conditionsFor testedAt
+accepted n ts bs c e =
+    let x = bind-ok (needAt (leb n 24) 4 0) _ c e in
+    let y = bind-ok (need (eqb (length bs) (113 + 41 * n)) 7) _ c (x .2) in
+    let v = bind-ok (need (rateCodeGood bs && openBitsGood bs (take n ts) 113) 8) _ c (y .2) in
+    let w = bind-ok (conditionsTest n (conditionsAt bs n)) _ c (v .2) in
+    let d = ok-same (conditionsAt bs n) c (w .2) in
+    record {
+      few = leb-true n 24 (need-ok (leb n 24) 4 0 (x .0) (x .1));
+      size = eqb-true (length bs) (113 + 41 * n) (need-ok (eqb (length bs) (113 + 41 * n)) 7 0 (y .0) (y .1));
+      code = need-ok (rateCodeGood bs && openBitsGood bs (take n ts) 113) 8 0 (v .0) (v .1);
+      values = rw d (w .1);
+      decoded = d;
+    }
+
+pub conditions-length : (z : Zone) (bs : List ℕ) (c : Conditions) → conditionsOf z bs ≡ ok c → length bs ≡ 113 + 41 * z .count
+unfolding conditionsOf
+conditions-length z bs c e = accepted (z .count) (map treatmentsOf (z .«building_elements»)) bs c e .size

@@ -1,0 +1,11 @@
+pub mod BuildingElement
+pub mod Bytes
+pub mod Shape
+pub mod Reading
+pub mod Ranges
+pub mod ZoneTest
+pub mod Head
+pub mod Conditions
+pub mod Ventilation
+pub mod HouseP
+pub mod Encoding

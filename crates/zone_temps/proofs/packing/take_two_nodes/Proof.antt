@@ -1,0 +1,63 @@
+use mathlib.Core.Path.{_≡_, refl, sym, _∙_}
+use Prim.Native.Nat.{_-_}
+use Rattle.solver.specs.Each.{each}
+use Rattle.solver.proofs.Laws.Counting.{each-next, each-done}
+use Rattle.zone_temps.specs.Slots.{setTerm, withTerms}
+use Rattle.zone_temps.specs.System.{twoNodesOf}
+use borrow.Author.Needs.{needs}
+use Rattle.zone_temps.proofs.packing.take_two_nodes.Statement.{statement}
+use Rattle.zone_temps.proofs.packing.take_two_nodes.Tie as tie
+
+abbrev Inv-loop : tie.InvT-loop
+Inv-loop n es two-nodes₀ e₀ two-nodes e = each e n (setTerm (twoNodesOf es)) two-nodes ≡ each 0 n (setTerm (twoNodesOf es)) two-nodes₀
+
+abbrev μ-loop : tie.MeasureT-loop
+μ-loop n es two-nodes₀ e₀ two-nodes e = n - e
+
+loop-holds : tie.Need-loop-holds Inv-loop μ-loop
+loop-holds c = refl
+
+mul-el : tie.Need-mul-el Inv-loop μ-loop
+mul-el c = search needs
+
+array-copy-out-el : tie.Need-array-copy-out-el Inv-loop μ-loop
+array-copy-out-el c = search needs
+
+is-two-nodes-requires : tie.Need-is-two-nodes-requires Inv-loop μ-loop
+is-two-nodes-requires c κs = search needs
+
+array-write-two-nodes : tie.Need-array-write-two-nodes Inv-loop μ-loop
+array-write-two-nodes c = search needs
+
+add-e : tie.Need-add-e Inv-loop μ-loop
+add-e c = search needs
+
+loop-less : tie.Need-loop-less Inv-loop μ-loop
+loop-less c = search needs
+
+loop-again : tie.Need-loop-again Inv-loop μ-loop
+loop-again c = let l = c .before .before .before .loop in
+    let s = c .before .before .before .before in
+    rw (c .is-two-nodes .ensures) (sym (each-next (setTerm (twoNodesOf (s .args .t2))) (l .e) (s .args .n) (l .two-nodes) (c .before .before .loop-test .taken)) ∙ l .inv)
+
+returns : tie.Need-returns Inv-loop μ-loop
+unfolding withTerms
+returns c = let l = c .before .loop in
+    let s = c .before .before in
+    sym (each-done (setTerm (twoNodesOf (s .args .t2))) (l .e) (s .args .n) (l .two-nodes) (c .loop-test .left)) ∙ l .inv
+
+pub take-two-nodes-spec : {M : Type 1} → statement M
+take-two-nodes-spec =
+    tie.close
+    (tie.spec
+    Inv-loop
+    μ-loop
+    loop-holds
+    mul-el
+    array-copy-out-el
+    is-two-nodes-requires
+    array-write-two-nodes
+    add-e
+    loop-less
+    loop-again
+    returns)
