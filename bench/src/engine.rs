@@ -1,0 +1,139 @@
+//! Calls of the C interface as a C program makes them, with nothing around that would be timed too.
+use crate::houses;
+use hem_zone::ffi::*;
+
+/// Node temperatures.
+#[derive(Clone)]
+pub struct Temps {
+    temps: [f64; TEMPS],
+    nodes: u64,
+}
+
+/// What a book's calls hand on to each other.
+#[derive(Clone)]
+pub struct Held {
+    temps: Temps,
+    count: u64,
+    pub used: u64,
+}
+
+/// A house, its year, and the calls on them. A refusal ends the program.
+pub struct Engine {
+    head: Vec<u8>,
+    hours: Vec<Vec<u8>>,
+    book_len: usize,
+}
+
+fn accepted(answer: u32) {
+    assert_eq!(answer, 0, "refused with {}, index {}", answer & 255, answer >> 8);
+}
+
+impl Temps {
+    fn new() -> Self {
+        Self { temps: [0.0; TEMPS], nodes: 0 }
+    }
+}
+
+impl Engine {
+    pub fn new(elements: usize, hours: usize, windows: bool) -> Self {
+        let head = houses::house(elements).to_bytes();
+        let hour = |h| houses::hour(h, elements, windows).to_bytes();
+        let entry = 4 + 147 + 41 * elements + 8 * (5 * elements + 1);
+        Self { book_len: head.len() + hours * entry, head, hours: (0..hours).map(hour).collect() }
+    }
+
+    pub fn hours(&self) -> &[Vec<u8>] {
+        &self.hours
+    }
+
+    pub fn start_up(&self) -> Temps {
+        let mut t = Temps::new();
+        // SAFETY: the head is valid for its length, the array has 121 floats.
+        accepted(unsafe {
+            hem_start_up(self.head.as_ptr(), self.head.len(), t.temps.as_mut_ptr(), &mut t.nodes)
+        });
+        t
+    }
+
+    /// Moves the temperatures on by an hour and gives its demand.
+    pub fn hour_step(&self, t: &mut Temps, hour: &[u8]) -> [f64; OUT] {
+        let (mut out, mut balance) = ([0.0; OUT], [0.0; BALANCE]);
+        // SAFETY: byte strings are valid for their lengths, arrays have the interface's sizes.
+        accepted(unsafe {
+            hem_hour_step(
+                self.head.as_ptr(),
+                self.head.len(),
+                t.temps.as_mut_ptr(),
+                t.nodes,
+                hour.as_ptr(),
+                hour.len(),
+                out.as_mut_ptr(),
+                balance.as_mut_ptr(),
+            )
+        });
+        std::hint::black_box(&balance);
+        out
+    }
+
+    /// Room for the book of the whole year.
+    pub fn buffer(&self) -> Vec<u8> {
+        vec![0; self.book_len]
+    }
+
+    pub fn begin(&self, buffer: &mut [u8]) -> Held {
+        let mut held = Held { temps: Temps::new(), count: 0, used: 0 };
+        // SAFETY: as above; the buffer is apart from the head.
+        accepted(unsafe {
+            hem_begin(
+                self.head.as_ptr(),
+                self.head.len(),
+                buffer.as_mut_ptr(),
+                buffer.len(),
+                held.temps.temps.as_mut_ptr(),
+                &mut held.temps.nodes,
+                &mut held.count,
+                &mut held.used,
+            )
+        });
+        held
+    }
+
+    /// Appends every hour of the year to a book that was begun.
+    pub fn append_all(&self, buffer: &mut [u8], mut held: Held) -> Held {
+        for hour in &self.hours {
+            // SAFETY: as above; the buffer is apart from head and hour.
+            accepted(unsafe {
+                hem_append(
+                    self.head.as_ptr(),
+                    self.head.len(),
+                    buffer.as_mut_ptr(),
+                    buffer.len(),
+                    held.temps.temps.as_mut_ptr(),
+                    &mut held.temps.nodes,
+                    &mut held.count,
+                    &mut held.used,
+                    hour.as_ptr(),
+                    hour.len(),
+                )
+            });
+        }
+        held
+    }
+
+    /// Takes a book up and gives the number of its entries.
+    pub fn take_up(&self, bytes: &[u8]) -> u64 {
+        let mut held = Held { temps: Temps::new(), count: 0, used: 0 };
+        // SAFETY: the bytes are valid for their length, the array has 121 floats.
+        accepted(unsafe {
+            hem_take_up(
+                bytes.as_ptr(),
+                bytes.len(),
+                held.temps.temps.as_mut_ptr(),
+                &mut held.temps.nodes,
+                &mut held.count,
+                &mut held.used,
+            )
+        });
+        held.count
+    }
+}

@@ -1,0 +1,183 @@
+// A whole year: 8,784 hours, the 8,785th refused, cuts and damage.
+use crate::bytes::byte_at;
+use crate::bytes::fill_from;
+use crate::bytes::float_at;
+use crate::bytes::hash;
+use crate::bytes::part;
+use crate::bytes::put_byte;
+use crate::house::ENTRY;
+use crate::house::HEAD;
+use crate::house::conditions;
+use crate::house::head;
+use crate::print::count;
+use crate::print::line;
+use crate::year::append_hours;
+use crate::year::is_accepted;
+use crate::year::nothing;
+use crate::year::refused_with;
+use crate::year::same_values;
+use book::Values;
+use std::num::wrapping_add_u64;
+use std::num::wrapping_add_usize;
+use zone_head::Zone;
+
+pub const YEAR: usize = 8784;
+// Head and 8,784 entries, and with one more.
+pub const USED: usize = 2609215;
+
+const ROOM: usize = 2609512;
+
+// The 8,785th hour, appended, is refused and changes nothing.
+fn print_one_more(z: Zone, end: Values, b: &mut [u8; ROOM]) {
+    let c = conditions(YEAR);
+    let before = hash(b);
+    let r = book::append(z, end, &c, b);
+    let kept = before == hash(b);
+    line(
+        b"append of the 8,785th hour refused with 17",
+        kept && refused_with(r, end, 17, 0),
+    );
+}
+
+fn print_take_up(end: Values, b: &[u8; ROOM]) {
+    let r = book::take_up(nothing(), part(b, 0, USED));
+    let same = same_values(r.values, end);
+    line(
+        b"take-up of the year: 8,784 entries, the same temperatures",
+        is_accepted(r) && same,
+    );
+    let s = book::take_up(nothing(), part(b, 0, ROOM - 1));
+    let also = same_values(s.values, end);
+    line(
+        b"take-up with a rest one byte short of an entry: the same",
+        is_accepted(s) && also,
+    );
+    let t = book::take_up(nothing(), b);
+    line(
+        b"take-up of 8,785 entries refused with 17",
+        refused_with(t, nothing(), 17, 0),
+    );
+}
+
+// Cut, taken up, and filled again to the end.
+fn cut_year(z: Zone, end: Values, b: &mut [u8; ROOM], cut: usize) -> bool {
+    let before = hash(b);
+    fill_from(b, cut, 170);
+    let r = book::take_up(nothing(), part(b, 0, cut));
+    let taken = r.values;
+    let count = taken.count;
+    let filled = append_hours(z, taken, count, YEAR, b);
+    fill_from(b, USED, 0);
+    let same = same_values(filled.values, end);
+    is_accepted(r) && filled.refused == 0 && same && before == hash(b)
+}
+
+fn print_cuts(z: Zone, end: Values, b: &mut [u8; ROOM]) {
+    line(
+        b"cut at the head's end, continued: the same bytes",
+        cut_year(z, end, b, HEAD),
+    );
+    line(
+        b"cut at 1,000,000, continued: the same bytes",
+        cut_year(z, end, b, 1000000),
+    );
+    line(
+        b"cut a byte before the end, continued: the same bytes",
+        cut_year(z, end, b, USED - 1),
+    );
+    line(b"cut at the end: the same bytes", cut_year(z, end, b, USED));
+}
+
+// One bit of the last byte of an entry changed, and back.
+fn damaged(b: &mut [u8; ROOM], entry: usize) -> bool {
+    if YEAR <= entry {
+        return false;
+    }
+    let place = HEAD + ENTRY * entry + 296;
+    let byte = byte_at(b, place);
+    put_byte(b, place, byte ^ 1);
+    let r = book::take_up(nothing(), part(b, 0, USED));
+    put_byte(b, place, byte);
+    refused_with(r, nothing(), 18, entry)
+}
+
+fn print_damage(b: &mut [u8; ROOM]) {
+    line(
+        b"last bit of entry 0 changed: refused with 18 at 0",
+        damaged(b, 0),
+    );
+    line(
+        b"last bit of entry 4,391 changed: refused with 18 at 4,391",
+        damaged(b, 4391),
+    );
+    line(
+        b"last bit of entry 8,783 changed: refused with 18 at 8,783",
+        damaged(b, 8783),
+    );
+}
+
+// How many hours of a year have heating, cooling, windows open.
+struct Hours {
+    heating: u64,
+    cooling: u64,
+    windows: u64,
+}
+
+// An entry's heating, cooling and rate stand behind its 200 bytes of front and conditions.
+fn with_entry(mut t: Hours, b: &[u8], at: usize) -> Hours {
+    if 0.0 < float_at(b, wrapping_add_usize(at, 200)) {
+        t.heating = wrapping_add_u64(t.heating, 1);
+    }
+    if float_at(b, wrapping_add_usize(at, 208)) < 0.0 {
+        t.cooling = wrapping_add_u64(t.cooling, 1);
+    }
+    if 0.75 < float_at(b, wrapping_add_usize(at, 216)) {
+        t.windows = wrapping_add_u64(t.windows, 1);
+    }
+    t
+}
+
+fn hours_of(b: &[u8; ROOM]) -> Hours {
+    let mut t = Hours {
+        heating: 0,
+        cooling: 0,
+        windows: 0,
+    };
+    let mut at = HEAD;
+    for _ in 0..YEAR {
+        t = with_entry(t, b, at);
+        at = wrapping_add_usize(at, ENTRY);
+    }
+    t
+}
+
+fn print_hours(b: &[u8; ROOM]) {
+    let t = hours_of(b);
+    count(b"  hours with heating", t.heating);
+    count(b"  hours with cooling", t.cooling);
+    count(b"  hours with windows open", t.windows);
+}
+
+fn fill_year(z: Zone, h: &[u8], b: &mut [u8; ROOM]) -> Values {
+    let begun = book::begin(nothing(), h, b);
+    let filled = append_hours(z, begun.values, 0, YEAR, b);
+    let end = filled.values;
+    line(
+        b"a year of 8,784 hours begun and appended",
+        filled.refused == 0 && end.count == YEAR && end.used == USED,
+    );
+    end
+}
+
+pub fn print_year() {
+    let mut b = [0u8; ROOM];
+    let h = head();
+    let zone = zone_head::zone_of_head(&h);
+    let z = zone.zone;
+    let end = fill_year(z, &h, &mut b);
+    print_hours(&b);
+    print_one_more(z, end, &mut b);
+    print_take_up(end, &b);
+    print_cuts(z, end, &mut b);
+    print_damage(&mut b);
+}

@@ -1,0 +1,70 @@
+// The calls on a zone, each with its answer's values.
+use crate::answer::Answer;
+use crate::answer::CHANGED;
+use crate::answer::accepted;
+use crate::answer::push_balance;
+use crate::answer::push_demand;
+use crate::answer::push_temps;
+use crate::answer::refused;
+use crate::answer::refused_if;
+use crate::bytes::float_at;
+use crate::bytes::same_state;
+use std::num::wrapping_add_usize;
+use zone::DemandAnswer;
+use zone::HourAnswer;
+use zone::State;
+use zone::UpdateAnswer;
+use zone_head::Verdict;
+use zone_head::Zone;
+
+// A demand leaves the state as it is.
+pub fn demand(z: Zone, s: State, conditions: &[u8]) -> Answer {
+    let x = s.space_heat_cool_demand(z, conditions);
+    let kept = same_state(x.state, s);
+    let answer = x.answer;
+    match answer {
+        DemandAnswer::Refused { number, index } => refused_if(kept, number, index),
+        DemandAnswer::Accepted(d) => {
+            if kept {
+                push_demand(accepted(), d)
+            } else {
+                refused(CHANGED, 0)
+            }
+        }
+    }
+}
+
+// `own` is the place of the gains, the fraction and the rate.
+pub fn update(z: Zone, s: State, conditions: &[u8], b: &[u8], own: usize) -> Answer {
+    let gains = float_at(b, own);
+    let fraction = float_at(b, wrapping_add_usize(own, 8));
+    let rate = float_at(b, wrapping_add_usize(own, 16));
+    let x = s.update_temperatures(z, conditions, gains, fraction, rate);
+    let after = x.state;
+    let answer = x.answer;
+    match answer {
+        UpdateAnswer::Refused { number, index } => refused_if(same_state(after, s), number, index),
+        UpdateAnswer::Accepted(balance) => push_balance(push_temps(accepted(), after), balance),
+    }
+}
+
+pub fn start_up(z: Zone) -> Answer {
+    let x = zone::init_node_temps(z);
+    let verdict = x.verdict;
+    match verdict {
+        Verdict::Refused { number, index } => refused(number, index),
+        Verdict::Accepted => push_temps(accepted(), x.state),
+    }
+}
+
+pub fn hour_step(z: Zone, s: State, conditions: &[u8]) -> Answer {
+    let x = s.hour_step(z, conditions);
+    let after = x.state;
+    let answer = x.answer;
+    match answer {
+        HourAnswer::Refused { number, index } => refused_if(same_state(after, s), number, index),
+        HourAnswer::Accepted(d, balance) => {
+            push_balance(push_temps(push_demand(accepted(), d), after), balance)
+        }
+    }
+}

@@ -1,0 +1,38 @@
+// Replays a sample of the oracle's answers and compares every value, bit by bit (zeros of either sign are equal); then
+// the refusals, each with its number and index. How the data were made: make_data.py.
+mod answer;
+mod bytes;
+mod calls;
+mod cases;
+mod print;
+mod records;
+mod refusals;
+mod report;
+mod tally;
+
+fn replay_cases() {
+    let fd = os::open_read(b"cases");
+    if fd < 0 {
+        os::fail(b"cases");
+        return;
+    }
+    let t = cases::check_cases(fd);
+    libc::close(fd);
+    report::print_cases(t);
+}
+
+fn replay_refusals() {
+    let fd = os::open_read(b"refusals");
+    if fd < 0 {
+        os::fail(b"refusals");
+        return;
+    }
+    let t = refusals::check_rows(fd);
+    libc::close(fd);
+    report::print_rows(t);
+}
+
+fn main() {
+    replay_cases();
+    replay_refusals();
+}

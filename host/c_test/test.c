@@ -1,0 +1,178 @@
+/* Calls each function of hem_zone.h from C, accepted and refused. Every array is allocated with exactly
+   the size that the interface asks for, so that valgrind sees a byte read or written beyond it. */
+#include "hem_zone.h"
+
+#include <stdio.h>
+#include <stdlib.h>
+#include <string.h>
+
+static int failures = 0;
+
+static void expect(const char *what, int holds) {
+    printf("%s %s\n", holds ? "ok  " : "FAIL", what);
+    failures += !holds;
+}
+
+static void *lent(size_t size) {
+    void *p = malloc(size ? size : 1);
+    if (!p) abort();
+    memset(p, 0xA5, size);
+    return p;
+}
+
+/* ---- big-endian bytes ---- */
+
+static uint8_t *put_double(uint8_t *at, double value) {
+    uint64_t bits;
+    memcpy(&bits, &value, sizeof bits);
+    for (int i = 0; i < 8; i++) at[i] = (uint8_t)(bits >> (56 - 8 * i));
+    return at + 8;
+}
+
+static uint8_t *put_doubles(uint8_t *at, const double *values, size_t count) {
+    for (size_t i = 0; i < count; i++) at = put_double(at, values[i]);
+    return at;
+}
+
+/* ---- House P of docs/FORMATS.md ---- */
+
+enum { HEAD = 180, HOUR = 154, ENTRY = 216, NODES = 3 };
+
+static uint8_t *put_element_hour(uint8_t *at) {
+    const double values[] = {20, 0, 0, 1, 1};
+    at = put_doubles(at, values, 5);
+    *at = 0;
+    return at + 1;
+}
+
+static uint8_t *house_p(void) {
+    const uint8_t start[] = {0, 0, 0, HEAD - 4, 1, 0, 1, 0, 10};
+    const double zone[] = {36, 100, 43.0625, 20, 20, 1.4e32};
+    const double element[] = {1, 90, 1, 0, 0, 0, 0, 0, 3600, 1};
+    uint8_t *head = lent(HEAD), *at = head;
+    memcpy(at, start, sizeof start);
+    at = put_doubles(at + sizeof start, zone, 6);
+    *at++ = 4;
+    *at++ = 0;
+    put_element_hour(put_doubles(at, element, 10));
+    return head;
+}
+
+static uint8_t *hour_p(double heating, double cooling) {
+    const double values[] = {1, 20, 0, 0, 1, 1, heating, cooling, 1.4e32, 20, 0, 0};
+    uint8_t *hour = lent(HOUR), *at = put_doubles(hour, values, 12);
+    *at = 0;
+    memset(at + 1, 0, 16);
+    put_element_hour(at + 17);
+    return hour;
+}
+
+static double *twenty(void) {
+    double *temps = lent(HEM_TEMPS * sizeof *temps);
+    for (int i = 0; i < NODES; i++) temps[i] = 20;
+    return temps;
+}
+
+/* ---- the functions ---- */
+
+static void test_head(const uint8_t *p) {
+    expect("head accepted", hem_head(p, HEAD) == 0);
+    expect("head of 179 bytes: 1", hem_head(p, HEAD - 1) == 1);
+    uint8_t *none = lent(0);
+    expect("head of no bytes: 1", hem_head(none, 0) == 1);
+    free(none);
+}
+
+static void test_start_up(const uint8_t *p) {
+    double *temps = lent(HEM_TEMPS * sizeof *temps);
+    uint64_t nodes = 99;
+    expect("start-up refused: 1", hem_start_up(p, 100, temps, &nodes) == 1 && nodes == 99);
+    expect("start-up accepted", hem_start_up(p, HEAD, temps, &nodes) == 0);
+    expect("start-up: 20, 20, 20", nodes == NODES && temps[0] == 20 && temps[1] == 20 && temps[2] == 20);
+    free(temps);
+}
+
+static void test_demand(const uint8_t *p, const uint8_t *warm, const uint8_t *crossed) {
+    double *temps = twenty(), *out = lent(HEM_OUT * sizeof *out);
+    out[0] = -1;
+    expect("demand refused: 10", hem_demand(p, HEAD, temps, NODES, crossed, HOUR, out) == 10 && out[0] == -1);
+    expect("demand refused: 7", hem_demand(p, HEAD, temps, NODES, warm, HOUR - 1, out) == 7 && out[0] == -1);
+    expect("demand accepted", hem_demand(p, HEAD, temps, NODES, warm, HOUR, out) == 0);
+    expect("demand: heating 0.144", out[0] == 0.144 && out[1] == 0 && out[2] == 0 && out[3] == 0 && out[4] == 0);
+    free(temps);
+    free(out);
+}
+
+static void test_update(const uint8_t *p, const uint8_t *warm) {
+    double *temps = twenty(), *balance = lent(HEM_BALANCE * sizeof *balance);
+    balance[0] = -1;
+    expect("update refused: 9",
+           hem_update(p, HEAD, temps, NODES, warm, HOUR, 144, 1, -1, balance) == 9 && balance[0] == -1 && temps[2] == 20);
+    expect("update accepted", hem_update(p, HEAD, temps, NODES, warm, HOUR, 144, 1, 0, balance) == 0);
+    expect("update: air 21, gains 144", temps[2] == 21 && balance[2] == 144);
+    free(temps);
+    free(balance);
+}
+
+static void test_hour_step(const uint8_t *p, const uint8_t *warm) {
+    double *temps = twenty(), *out = lent(HEM_OUT * sizeof *out), *balance = lent(HEM_BALANCE * sizeof *balance);
+    out[0] = balance[0] = -1;
+    expect("hour step refused: 6",
+           hem_hour_step(p, HEAD, temps, NODES + 1, warm, HOUR, out, balance) == 6 && out[0] == -1 && balance[0] == -1);
+    expect("hour step accepted", hem_hour_step(p, HEAD, temps, NODES, warm, HOUR, out, balance) == 0);
+    expect("hour step: 0.144 kWh, air 21", out[0] == 0.144 && temps[2] == 21 && balance[2] == 144);
+    free(temps);
+    free(out);
+    free(balance);
+}
+
+static void test_book(const uint8_t *p, const uint8_t *warm) {
+    double *temps = lent(HEM_TEMPS * sizeof *temps);
+    uint64_t nodes = 0, count = 99, used = 99;
+    uint8_t *book = lent(HEAD + ENTRY);
+    expect("begin refused: 16", hem_begin(p, HEAD, book, HEAD - 1, temps, &nodes, &count, &used) == 16);
+    expect("begin refused: nothing written", nodes == 0 && count == 99 && used == 99 && book[0] == 0xA5);
+    expect("begin accepted", hem_begin(p, HEAD, book, HEAD + ENTRY, temps, &nodes, &count, &used) == 0);
+    expect("begin: the head", nodes == NODES && count == 0 && used == HEAD && memcmp(book, p, HEAD) == 0);
+    expect("append accepted",
+           hem_append(p, HEAD, book, HEAD + ENTRY, temps, &nodes, &count, &used, warm, HOUR) == 0);
+    expect("append: one entry", count == 1 && used == HEAD + ENTRY && temps[2] == 21 && book[HEAD + 3] == ENTRY - 4);
+    expect("append refused: 16",
+           hem_append(p, HEAD, book, HEAD + ENTRY, temps, &nodes, &count, &used, warm, HOUR) == 16);
+    expect("append refused: nothing written", count == 1 && used == HEAD + ENTRY && temps[2] == 21);
+
+    uint8_t *cut = lent(HEAD + ENTRY - 1);
+    memcpy(cut, book, HEAD + ENTRY - 1);
+    expect("take-up at 395 bytes", hem_take_up(cut, HEAD + ENTRY - 1, temps, &nodes, &count, &used) == 0);
+    expect("take-up: no entry", count == 0 && used == HEAD && temps[2] == 20);
+    expect("take-up at 396 bytes", hem_take_up(book, HEAD + ENTRY, temps, &nodes, &count, &used) == 0);
+    expect("take-up: one entry", count == 1 && used == HEAD + ENTRY && temps[2] == 21);
+    book[HEAD + 4] = 2;
+    uint32_t answer = hem_take_up(book, HEAD + ENTRY, temps, &nodes, &count, &used);
+    expect("take-up refused: 18 at entry 0", HEM_NUMBER(answer) == 18 && HEM_INDEX(answer) == 0 && count == 1);
+    free(cut);
+    free(book);
+    free(temps);
+}
+
+static void test_index(uint8_t *p) {
+    p[9 + 48 + 2] = 0xFF; /* the area of the first element: a NaN or beyond */
+    uint32_t answer = hem_head(p, HEAD);
+    expect("head refused: 5 at element 1", HEM_NUMBER(answer) == 5 && HEM_INDEX(answer) == 1);
+}
+
+int main(void) {
+    uint8_t *p = house_p(), *warm = hour_p(21, 24), *crossed = hour_p(22, 21);
+    test_head(p);
+    test_start_up(p);
+    test_demand(p, warm, crossed);
+    test_update(p, warm);
+    test_hour_step(p, warm);
+    test_book(p, warm);
+    test_index(p);
+    free(p);
+    free(warm);
+    free(crossed);
+    printf("%s\n", failures ? "FAILED" : "all good");
+    return failures != 0;
+}

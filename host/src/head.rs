@@ -1,0 +1,173 @@
+//! A zone by name, and the bytes of its head.
+use crate::bytes::{count_byte, put_f64s};
+use crate::conditions::ElementHour;
+
+/// Which temperature the setpoints are held against.
+#[derive(Clone, Copy, Debug, PartialEq)]
+pub enum Basis {
+    /// The air.
+    Air,
+    /// The mean of the air and the mean radiant temperature.
+    Operative,
+}
+
+/// The five nodes of every kind of element but the transparent one, from the outer to the inner surface.
+#[derive(Clone, Copy, Debug, PartialEq)]
+pub struct Layers {
+    /// Areal heat capacity of each node, J/(m².K).
+    pub k_pli: [f64; 5],
+    /// Conductance between neighbouring nodes, W/(m².K).
+    pub h_pli: [f64; 4],
+}
+
+/// The two nodes of a transparent element, and its treatments (curtains, blinds, shutters).
+#[derive(Clone, Debug, PartialEq)]
+pub struct Pane {
+    /// Areal heat capacity of each node, J/(m².K).
+    pub k_pli: [f64; 2],
+    /// Conductance between the two, W/(m².K).
+    pub h_pli: f64,
+    /// The resistance that each treatment adds while it is closed, m².K/W. At most four.
+    pub delta_r: Vec<f64>,
+}
+
+/// The kinds of element, in the order of their numbers.
+#[derive(Clone, Debug, PartialEq)]
+pub enum Kind {
+    /// A wall, roof or door to the outside.
+    Opaque(Layers),
+    /// Next to a space that is heated or cooled too.
+    AdjacentConditionedSpace(Layers),
+    /// Next to a space that is not, as a garage.
+    AdjacentUnconditionedSpaceSimple(Layers),
+    /// A floor on the ground.
+    Ground(Layers),
+    /// A window or glazed door.
+    Transparent(Pane),
+    /// A wall shared with a neighbour.
+    PartyWall(Layers),
+}
+
+impl Kind {
+    /// The number that stands for the kind, 0 to 5.
+    pub fn number(&self) -> u8 {
+        match self {
+            Kind::Opaque(_) => 0,
+            Kind::AdjacentConditionedSpace(_) => 1,
+            Kind::AdjacentUnconditionedSpaceSimple(_) => 2,
+            Kind::Ground(_) => 3,
+            Kind::Transparent(_) => 4,
+            Kind::PartyWall(_) => 5,
+        }
+    }
+
+    /// Heat capacities, conductances and treatments, in the order of the bytes.
+    fn parts(&self) -> (&[f64], &[f64], &[f64]) {
+        match self {
+            Kind::Transparent(pane) => {
+                (&pane.k_pli, std::slice::from_ref(&pane.h_pli), &pane.delta_r)
+            }
+            Kind::Opaque(layers)
+            | Kind::AdjacentConditionedSpace(layers)
+            | Kind::AdjacentUnconditionedSpaceSimple(layers)
+            | Kind::Ground(layers)
+            | Kind::PartyWall(layers) => (&layers.k_pli, &layers.h_pli, &[]),
+        }
+    }
+}
+
+/// One element of the zone's envelope.
+#[derive(Clone, Debug, PartialEq)]
+pub struct BuildingElement {
+    /// Its kind, with its nodes.
+    pub kind: Kind,
+    /// Area, m².
+    pub area: f64,
+    /// Tilt from the horizontal, degrees: 0 faces up, 90 is a wall, 180 faces down.
+    pub pitch: f64,
+    /// External convective coefficient, W/(m².K).
+    pub h_ce: f64,
+    /// External radiative coefficient, W/(m².K).
+    pub h_re: f64,
+    /// Internal radiative coefficient, W/(m².K).
+    pub h_ri: f64,
+    /// Share of the sun that the outer surface absorbs.
+    pub solar_absorption_coeff: f64,
+    /// Radiation to the sky, W/m².
+    pub therm_rad_to_sky: f64,
+    /// Its part of the first hour, which start-up repeats.
+    pub first_hour: ElementHour,
+}
+
+impl BuildingElement {
+    fn put(&self, bytes: &mut Vec<u8>) {
+        let (k_pli, h_pli, delta_r) = self.kind.parts();
+        bytes.push(self.kind.number());
+        bytes.push(count_byte(delta_r.len()));
+        put_f64s(
+            bytes,
+            &[
+                self.area,
+                self.pitch,
+                self.h_ce,
+                self.h_re,
+                self.h_ri,
+                self.solar_absorption_coeff,
+                self.therm_rad_to_sky,
+            ],
+        );
+        put_f64s(bytes, k_pli);
+        put_f64s(bytes, h_pli);
+        put_f64s(bytes, delta_r);
+        self.first_hour.put(bytes);
+    }
+}
+
+/// All that stays the same of a zone, and what start-up begins from.
+#[derive(Clone, Debug, PartialEq)]
+pub struct Head {
+    /// Which temperature the setpoints are held against.
+    pub temp_setpnt_basis: Basis,
+    /// How many passes start-up may use to settle, 1 to 10,000.
+    pub start_up_limit: u16,
+    /// Useful floor area, m².
+    pub useful_area: f64,
+    /// Volume, m³.
+    pub volume: f64,
+    /// Sum of the thermal bridges, W/K.
+    pub tb_heat_trans_coeff: f64,
+    /// External temperature of start-up, °C.
+    pub temp_ext_air_init: f64,
+    /// Set temperature of start-up, °C.
+    pub temp_setpnt_init: f64,
+    /// Ventilation setpoint of start-up, °C, or [`NO_CONTROL`](crate::NO_CONTROL).
+    pub temp_setpnt_vent_init: f64,
+    /// The elements, 1 to 24.
+    pub elements: Vec<BuildingElement>,
+}
+
+impl Head {
+    /// The bytes of the head, its 4-byte length first. Whether they are accepted is for
+    /// [`Zone::from_head`](crate::Zone::from_head) to say.
+    pub fn to_bytes(&self) -> Vec<u8> {
+        let mut body = vec![1, self.temp_setpnt_basis as u8, count_byte(self.elements.len())];
+        body.extend(self.start_up_limit.to_be_bytes());
+        put_f64s(
+            &mut body,
+            &[
+                self.useful_area,
+                self.volume,
+                self.tb_heat_trans_coeff,
+                self.temp_ext_air_init,
+                self.temp_setpnt_init,
+                self.temp_setpnt_vent_init,
+            ],
+        );
+        for element in &self.elements {
+            element.put(&mut body);
+        }
+        let mut bytes = (body.len() as u32).to_be_bytes().to_vec();
+        bytes.extend(body);
+        bytes
+    }
+}
