@@ -50,7 +50,7 @@ extern "C" {
  *    2  the head's length is outside 176 to 4,157, or is not that of its elements
  *    3  the head's version is not 1
  *    4  a basis, element count, kind or treatment count is bad
- *    5  a value of the head is out of range
+ *    5  a value of the head is out of range, or an open bit past the treatments
  *    6  the state has a wrong node count, or a temperature that is not finite or beyond +-1e6
  *    7  the conditions have a wrong size
  *    8  the rate code, the second rate of code 0 or an open bit is bad
