@@ -5,12 +5,14 @@ use crate::bytes::float_at;
 use crate::bytes::hash;
 use crate::bytes::part;
 use crate::bytes::put_byte;
+use crate::cuts::Cuts;
 use crate::house::ENTRY;
 use crate::house::HEAD;
 use crate::house::conditions;
 use crate::house::head;
 use crate::print::count;
 use crate::print::line;
+use crate::print::of;
 use crate::year::append_hours;
 use crate::year::is_accepted;
 use crate::year::nothing;
@@ -70,6 +72,41 @@ fn cut_year(z: Zone, end: Values, b: &mut [u8; ROOM], cut: usize) -> bool {
     fill_from(b, USED, 0);
     let same = same_values(filled.values, end);
     is_accepted(r) && filled.refused == 0 && same && before == hash(b)
+}
+
+// `count` cuts of the year, `step` bytes apart.
+fn check_year(
+    z: Zone,
+    end: Values,
+    b: &mut [u8; ROOM],
+    from: usize,
+    step: usize,
+    count: usize,
+) -> Cuts {
+    let mut right: u64 = 0;
+    let mut cut = from;
+    for _ in 0..count {
+        if cut_year(z, end, b, cut) {
+            right = wrapping_add_u64(right, 1);
+        }
+        cut = wrapping_add_usize(cut, step);
+    }
+    Cuts {
+        cuts: count as u64,
+        right,
+    }
+}
+
+// At every byte of the last three entries, and at 2,000 places from the head's end on.
+fn print_many_cuts(z: Zone, end: Values, b: &mut [u8; ROOM]) {
+    let last = check_year(z, end, b, USED - 3 * ENTRY, 1, 892);
+    of(
+        b"cuts of the year at every byte of its last three entries",
+        last.right,
+        last.cuts,
+    );
+    let spread = check_year(z, end, b, HEAD, 1304, 2000);
+    of(b"cuts spread over the year", spread.right, spread.cuts);
 }
 
 fn print_cuts(z: Zone, end: Values, b: &mut [u8; ROOM]) {
@@ -179,5 +216,6 @@ pub fn print_year() {
     print_one_more(z, end, &mut b);
     print_take_up(end, &b);
     print_cuts(z, end, &mut b);
+    print_many_cuts(z, end, &mut b);
     print_damage(&mut b);
 }

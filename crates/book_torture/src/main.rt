@@ -1,6 +1,5 @@
-// Books cut and damaged. A small book is cut at every byte of its last three entries and at 2,000 places spread over it,
-// taken up, continued and compared with the book that was never cut, and has single bytes changed; a whole year is
-// filled, taken up, cut and damaged.
+// Books cut and damaged. A small book and a whole year are cut at every byte of their last three entries and at 2,000 places
+// spread over them, taken up, continued and compared with the book that was never cut; single bytes are changed.
 mod bytes;
 mod cuts;
 mod damage;
