@@ -75,6 +75,33 @@ impl Engine {
         out
     }
 
+    /// Reads the head and judges it.
+    pub fn head(&self) {
+        // SAFETY: the head is valid for its length.
+        accepted(unsafe { hem_head(self.head.as_ptr(), self.head.len()) });
+    }
+
+    /// Moves the temperatures on by an hour with gains of 100 W, of which 0.4 is convective, and a rate of 0.5.
+    pub fn update(&self, t: &mut Temps, hour: &[u8]) {
+        let mut balance = [0.0; BALANCE];
+        // SAFETY: as above.
+        accepted(unsafe {
+            hem_update(
+                self.head.as_ptr(),
+                self.head.len(),
+                t.temps.as_mut_ptr(),
+                t.nodes,
+                hour.as_ptr(),
+                hour.len(),
+                100.0,
+                0.4,
+                0.5,
+                balance.as_mut_ptr(),
+            )
+        });
+        std::hint::black_box(&balance);
+    }
+
     /// Room for the book of the whole year.
     pub fn buffer(&self) -> Vec<u8> {
         vec![0; self.book_len]

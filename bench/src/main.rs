@@ -48,8 +48,13 @@ fn for_each_house(mut show: impl FnMut(usize, &str, &Engine)) {
 }
 
 fn times(repetitions: usize) {
-    let figures: [(&str, Figure); 3] =
-        [("hour_step", hour_step), ("append", append), ("take_up", take_up)];
+    let figures: [(&str, Figure); 5] = [
+        ("head", head),
+        ("update", update),
+        ("hour_step", hour_step),
+        ("append", append),
+        ("take_up", take_up),
+    ];
     for (what, time) in figures {
         for_each_house(|elements, rate, engine| {
             say(format!("{what} {elements} {rate} {:.0}", time(engine, repetitions)));
@@ -65,6 +70,24 @@ fn best(repetitions: usize, mut year: impl FnMut()) -> f64 {
         start.elapsed().as_nanos() as f64 / HOURS as f64
     };
     (0..repetitions).map(|_| once(&mut year)).fold(f64::INFINITY, f64::min)
+}
+
+fn head(engine: &Engine, repetitions: usize) -> f64 {
+    best(repetitions, || {
+        for _ in engine.hours() {
+            engine.head();
+        }
+    })
+}
+
+fn update(engine: &Engine, repetitions: usize) -> f64 {
+    let start = engine.start_up();
+    best(repetitions, || {
+        let mut state = start.clone();
+        for hour in engine.hours() {
+            engine.update(&mut state, hour);
+        }
+    })
 }
 
 fn hour_step(engine: &Engine, repetitions: usize) -> f64 {

@@ -13,16 +13,18 @@ use Rattle.solver.specs.Res.{Res, ok, refused}
 use Rattle.zone_head.specs.BuildingElement.{standardCoefficients}
 use Rattle.zone_head.specs.Head.{headOf, headAnswer}
 use Rattle.zone_head.specs.ZoneTest.{zoneTest, verdictOf}
-use Rattle.zone_head.specs.declared.zone.Zone.{Zone}
-use Rattle.zone_head.specs.declared.zone.Verdict.{Verdict}
-use Rattle.zone_head.specs.declared.zone.Verdict.the-variants.{Accepted, Refused}
+use Rattle.zone_head.specs.declared.zone_record.Zone.{Zone}
+use Rattle.zone_head.specs.declared.zone_record.Verdict.{Verdict}
+use Rattle.zone_head.specs.declared.zone_record.Verdict.the-variants.{Accepted, Refused}
 use Rattle.zone_head.specs.declared.head.Head.{Head}
 use Rattle.zone_head.proofs.Laws.Ranges.{verdict-accepted, verdict-refused}
+use Rattle.zone_head.proofs.Laws.Answers.{head-no, head-yes}
 use Rattle.zone_head.proofs.Claims.Head.{head-within}
 use Rattle.zone_temps.specs.declared.balance.HeatBalance.{HeatBalance}
-use Rattle.zone.specs.Hour.{HourResult, hourStep}
+use Rattle.zone.specs.Hour.{hourStep}
 use Rattle.zone.specs.StartUp.{initNodeTemps}
 use Rattle.zone.specs.Answers.{hourStepped, startedUp}
+use Rattle.zone.proofs.Laws.Answers.{start-no, start-yes, hour-no, hour-yes}
 use Rattle.zone.specs.declared.state.State.{State}
 use Rattle.zone.specs.declared.state.Demand.{Demand}
 use Rattle.zone.specs.declared.state.HourAnswer.the-variants as HourAnswer
@@ -55,80 +57,19 @@ pub ruleset room-cases = (room-none, room-left)
 
 -- ---- the callees' answers, read back
 
-pub apart : {A : Type 0} (n j : ℕ) → Accepted ≡ Refused n j → A
-apart n j e = absurd (let z : _≡_ {A = ℕ} 0 1 = cc in omega arith)
-
-pub same-refusal : {A : Type 0} (m k n j : ℕ) → Refused m k ≡ Refused n j → _≡_ {A = Res A} (refused m k) (refused n j)
-same-refusal m k n j e = let p : m ≡ n = cc in let q : k ≡ j = cc in λ i. refused (p i) (q i)
-
 module _ (bs : List ℕ) (h : Head) (e : h ≡ headAnswer (headOf bs)) where
-  pub head-no : (n j : ℕ) → h .verdict ≡ Refused n j → headOf bs ≡ refused n j
-  head-no n j f = go (headOf bs) e
-    where
-      go : (r : Res (Zone × ℕ)) → h ≡ headAnswer r → r ≡ refused n j
-      go (ok a) e = apart n j (sym (ap (λ x. x .verdict) e) ∙ f)
-      go (refused m k) e = same-refusal m k n j (sym (ap (λ x. x .verdict) e) ∙ f)
-
-  pub head-yes : h .verdict ≡ Accepted → headOf bs ≡ ok (h .zone, h .length)
-  head-yes f = go (headOf bs) e
-    where
-      go : (r : Res (Zone × ℕ)) → h ≡ headAnswer r → r ≡ ok (h .zone, h .length)
-      go (ok a) e = λ i. ok (sym e i .zone, sym e i .length)
-      go (refused m k) e = apart m k (sym f ∙ ap (λ x. x .verdict) e)
-
   pub head-inside : h .verdict ≡ Accepted → h .length ≤ length bs
-  head-inside f = head-within bs (h .zone) (h .length) (head-yes f)
+  head-inside f = head-within bs (h .zone) (h .length) (head-yes (headOf bs) h e f)
 
   pub head-count : h .verdict ≡ Accepted → h .zone .count ≤ 24
-  head-count f = head-few bs (h .zone) (h .length) (head-yes f)
-
-module _ (z : Zone) (s : StartUp) (e : s ≡ startedUp (initNodeTemps standardCoefficients z)) where
-  pub start-no : (n j : ℕ) → s .verdict ≡ Refused n j → startUp z ≡ refused n j
-  start-no n j f = go (startUp z) e
-    where
-      go : (r : Res State) → s ≡ startedUp r → r ≡ refused n j
-      go (ok a) e = apart n j (sym (ap (λ x. x .verdict) e) ∙ f)
-      go (refused m k) e = same-refusal m k n j (sym (ap (λ x. x .verdict) e) ∙ f)
-
-  pub start-yes : s .verdict ≡ Accepted → startUp z ≡ ok (s .state)
-  start-yes f = go (startUp z) e
-    where
-      go : (r : Res State) → s ≡ startedUp r → r ≡ ok (s .state)
-      go (ok a) e = λ i. ok (sym e i .state)
-      go (refused m k) e = apart m k (sym f ∙ ap (λ x. x .verdict) e)
+  head-count f = head-few bs (h .zone) (h .length) (head-yes (headOf bs) h e f)
 
 module _ (z : Zone) (s : State) (i : List ℕ) (x : HourStep) (e : x ≡ hourStepped s (hourStep standardCoefficients z s i)) where
-  pub hour-no : (n j : ℕ) → x .answer ≡ HourAnswer.Refused n j → hour z s i ≡ refused n j
-  hour-no n j f = go (hour z s i) e
-    where
-      go : (r : Res HourResult) → x ≡ hourStepped s r → r ≡ refused n j
-      go (ok a) e =
-          let q : HourAnswer.Accepted (a .demand) (a .balance) ≡ HourAnswer.Refused n j = sym (ap (λ y. y .answer) e) ∙ f in
-          absurd (let z : _≡_ {A = ℕ} 0 1 = cc in omega arith)
-      go (refused m k) e =
-          let q : HourAnswer.Refused m k ≡ HourAnswer.Refused n j = sym (ap (λ y. y .answer) e) ∙ f in
-          let a : m ≡ n = cc in
-          let b : k ≡ j = cc in
-          λ i. refused (a i) (b i)
-
-  pub hour-yes : (d : Demand) (b : HeatBalance) → x .answer ≡ HourAnswer.Accepted d b → hour z s i ≡ ok (record { demand = d; state = x .state; balance = b })
-  hour-yes d b f = go (hour z s i) e
-    where
-      go : (r : Res HourResult) → x ≡ hourStepped s r → r ≡ ok (record { demand = d; state = x .state; balance = b })
-      go (ok a) e =
-          let q : HourAnswer.Accepted (a .demand) (a .balance) ≡ HourAnswer.Accepted d b = sym (ap (λ y. y .answer) e) ∙ f in
-          let m : a .demand ≡ d = cc in
-          let n : a .balance ≡ b = cc in
-          λ i. ok (record { demand = m i; state = sym e i .state; balance = n i })
-      go (refused m k) e =
-          let q : HourAnswer.Accepted d b ≡ HourAnswer.Refused m k = sym f ∙ ap (λ y. y .answer) e in
-          absurd (let z : _≡_ {A = ℕ} 0 1 = cc in omega arith)
-
   pub hour-size : (d : Demand) (b : HeatBalance) → x .answer ≡ HourAnswer.Accepted d b → length i ≡ conditionsLength z
-  hour-size d b f = hour-conditions z s i (record { demand = d; state = x .state; balance = b }) (hour-yes d b f)
+  hour-size d b f = hour-conditions z s i (record { demand = d; state = x .state; balance = b }) (hour-yes s (hour z s i) x e d b f)
 
   pub hour-written : (d : Demand) (b : HeatBalance) → x .answer ≡ HourAnswer.Accepted d b → length (entryOf z i d (x .state)) ≡ wholeLength z
-  hour-written d b f = hour-entry z s i (record { demand = d; state = x .state; balance = b }) (hour-yes d b f)
+  hour-written d b f = hour-entry z s i (record { demand = d; state = x .state; balance = b }) (hour-yes s (hour z s i) x e d b f)
 
 pub zone-passed : (z : Zone) (v : Verdict) → v ≡ verdictOf (zoneTest z) → v ≡ Accepted → zoneTest z ≡ ok tt
 zone-passed z v e f = verdict-accepted (zoneTest z) (sym e ∙ f)
@@ -151,17 +92,17 @@ module _ (head : List ℕ) (h : Head) (e : h ≡ headAnswer (headOf head)) (g : 
 
   pub begin-head : (r : Reply) (n j : ℕ) → Refuses r n j → h .verdict ≡ Refused n j → BeginMeets r buf
   unfolding Book.beginRes
-  begin-head r n j q f = begin-refused r n j q (rw (head-no head h e n j f))
+  begin-head r n j q f = begin-refused r n j q (rw (head-no (headOf head) h e n j f))
 
   module _ (f : h .verdict ≡ Accepted) (s : StartUp) (i : s ≡ startedUp (initNodeTemps standardCoefficients (h .zone))) where
     pub begin-start : (r : Reply) (n j : ℕ) → Refuses r n j → s .verdict ≡ Refused n j → BeginMeets r buf
     unfolding Book.beginRes
-    begin-start r n j q k = begin-refused r n j q (rw (head-yes head h e f, start-no (h .zone) s i n j k))
+    begin-start r n j q k = begin-refused r n j q (rw (head-yes (headOf head) h e f, start-no (startUp (h .zone)) s i n j k))
 
     module _ (k : s .verdict ≡ Accepted) where
       pub begin-short : (r : Reply) → Refuses r 16 0 → length buf < h .length → BeginMeets r buf
       unfolding Book.beginRes
-      begin-short r q l = begin-refused r 16 0 q (rw (head-yes head h e f, start-yes (h .zone) s i k, lt-leb (h .length) (length buf) l))
+      begin-short r q l = begin-refused r 16 0 q (rw (head-yes (headOf head) h e f, start-yes (startUp (h .zone)) s i k, lt-leb (h .length) (length buf) l))
 
       pub begin-good : (r : Reply) → r ≡ replyIn (Book.accepted (record { state = s .state; count = 0; used = h .length }))
           → h .length ≤ length buf → (out : List ℕ) → out ≡ replaceAt 0 (take (h .length) head) buf → BeginMeets r out
@@ -169,9 +110,9 @@ module _ (head : List ℕ) (h : Head) (e : h ≡ headAnswer (headOf head)) (g : 
       begin-good r q l out o =
           let n : 0 + length (take (h .length) head) ≡ h .length = zero-add _ ∙ length-take-le (h .length) head (head-inside head h e f) in
           record {
-            reply = rw (head-yes head h e f, start-yes (h .zone) s i k, le-leb (h .length) (length buf) l) q;
+            reply = rw (head-yes (headOf head) h e f, start-yes (startUp (h .zone)) s i k, le-leb (h .length) (length buf) l) q;
             bytes =
-                rw (head-yes head h e f, start-yes (h .zone) s i k, le-leb (h .length) (length buf) l)
+                rw (head-yes (headOf head) h e f, start-yes (startUp (h .zone)) s i k, le-leb (h .length) (length buf) l)
                 (o ∙ ap (λ (x : ℕ). take (h .length) head ++ drop x buf) n);
           }
 
@@ -203,7 +144,7 @@ module _ (z : Zone) (g : Values) (i : List ℕ) (buf : List ℕ) where
       pub append-hour : (r : Reply) (n j : ℕ) → r ≡ replyIn (Book.refusedWith n j (givenOf g))
           → (x : HourStep) → x ≡ hourStepped (g .state) (hourStep standardCoefficients z (g .state) i) → x .answer ≡ HourAnswer.Refused n j → AppendMeets r buf
       unfolding Book.appendRes step
-      append-hour r n j q x e f = append-refused r n j q (rw (tested, room, hour-no z (g .state) i x e n j f))
+      append-hour r n j q x e f = append-refused r n j q (rw (tested, room, hour-no (g .state) (hour z (g .state) i) x e n j f))
 
       module _ (d : Demand) (after : State) (gives : step z (g .count) (g .state) i ≡ ok (entryOf z i d after, after))
           (m : ℕ) (l : m ≡ wholeLength z) (t : Bool) (k : t ≡ leb (g .used + m) (length buf)) where
@@ -240,6 +181,6 @@ step-size z k s i e p = let a = step-hour z k s i e p in hour-conditions z s i (
 pub step-given : (z : Zone) (s : State) (i : List ℕ) (x : HourStep) → x ≡ hourStepped s (hourStep standardCoefficients z s i)
     → (d : Demand) (b : HeatBalance) → x .answer ≡ HourAnswer.Accepted d b → (k : ℕ) → step z k s i ≡ ok (entryOf z i d (x .state), x .state)
 unfolding step
-step-given z s i x e d b f k = rw (hour-yes z s i x e d b f)
+step-given z s i x e d b f k = rw (hour-yes s (hour z s i) x e d b f)
 
 pub ruleset append-cases = (append-full, append-hour, append-short, append-good)

@@ -1,11 +1,12 @@
 -- Demand 3 for the year book, and what else is claimed of books.
 use mathlib.Core.Path.{_≡_}
+use mathlib.Core.Logic.{_↔_}
 use mathlib.Core.List.{List, map}
 use mathlib.Core.Option.{none}
 use Rattle.plain_book.specs.Plain.{empty}
-use Rattle.plain_book.specs.Run.{Calls, plainRun}
+use Rattle.plain_book.specs.Run.{Calls, run, plainRun}
 use Rattle.plain_book.specs.Session.{Returned, Session, returnedOf}
-use Rattle.plain_book.specs.Claims.{Claims}
+use Rattle.plain_book.specs.Claims.{Claims, AllMade}
 use Rattle.plain_book.proofs.Claims.{claims}
 use Rattle.book.specs.Year.{year}
 use Rattle.book.specs.Answers.{code}
@@ -24,3 +25,14 @@ year-claims = claims year year-laws
 pub demand-3 : (cs : Calls year) (rs : List (Returned year code)) → Session year code none cs rs
     → rs ≡ map (returnedOf year code) (plainRun year empty cs)
 demand-3 = year-claims .demand-3 code
+
+-- The premise of demand-3 is met for every list of calls that may be made: it has a session at the functions' own types. Any begin and any take-up
+-- may be made; "appends and cuts come once there is" a book; a cut lies from "the head's end to the used length".
+pub session-exists : (cs : Calls year) → AllMade year (run year none cs) → Session year code none cs (map (returnedOf year code) (run year none cs))
+session-exists = year-claims .session-exists code
+
+-- Both together: the lists of calls that have a session are those whose calls may all be made, and the contracts of `begin`, `append` and `take_up`
+-- leave each of these one list of returns, the plain book's.
+pub session-exactly : (cs : Calls year) (rs : List (Returned year code))
+    → Session year code none cs rs ↔ (AllMade year (plainRun year empty cs) × (rs ≡ map (returnedOf year code) (plainRun year empty cs)))
+session-exactly = year-claims .session-exactly code

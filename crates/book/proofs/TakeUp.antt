@@ -12,13 +12,15 @@ use borrow.Author.Tests.{lt-ltb, le-ltb}
 use Rattle.solver.specs.Res.{Res, ok, refused}
 use Rattle.zone_head.specs.BuildingElement.{standardCoefficients}
 use Rattle.zone_head.specs.Head.{headOf, headAnswer}
-use Rattle.zone_head.specs.declared.zone.Zone.{Zone}
-use Rattle.zone_head.specs.declared.zone.Verdict.the-variants.{Accepted, Refused}
+use Rattle.zone_head.specs.declared.zone_record.Zone.{Zone}
+use Rattle.zone_head.specs.declared.zone_record.Verdict.the-variants.{Accepted, Refused}
 use Rattle.zone_head.specs.declared.head.Head.{Head}
+use Rattle.zone_head.proofs.Laws.Answers.{apart, same-refusal, head-no, head-yes}
 use Rattle.zone_temps.specs.declared.balance.HeatBalance.{HeatBalance}
 use Rattle.zone.specs.Hour.{hourStep}
 use Rattle.zone.specs.StartUp.{initNodeTemps}
 use Rattle.zone.specs.Answers.{hourStepped, startedUp}
+use Rattle.zone.proofs.Laws.Answers.{start-no, start-yes, hour-no, hour-yes}
 use Rattle.zone.specs.declared.state.State.{State}
 use Rattle.zone.specs.declared.state.Demand.{Demand}
 use Rattle.zone.specs.declared.state.HourAnswer.the-variants as HourAnswer
@@ -28,13 +30,12 @@ use Rattle.plain_book.specs.Bytes.{equalBytes}
 use Rattle.plain_book.specs.Calls as Book
 use Rattle.plain_book.proofs.Laws.Reading.{whole-none, whole-some}
 use Rattle.book.specs.Entry.{conditionsLength, wholeLength, entryOf}
-use Rattle.book.specs.Year.{hour, step, entryLength, conditionsIn, year}
+use Rattle.book.specs.Year.{startUp, hour, step, entryLength, conditionsIn, year}
 use Rattle.book.specs.Answers.{givenOf, replyIn, checkedEntry}
 use Rattle.book.specs.declared.book.Values.{Values}
 use Rattle.book.specs.declared.book.Reply.{Reply}
 use Rattle.book.specs.declared.book.CheckedEntry.{CheckedEntry}
 use Rattle.book.proofs.Laws.Layers.{length-here, length-none, year-laws}
-use Rattle.book.proofs.Calls.{apart, same-refusal, head-no, head-yes, start-no, start-yes, hour-no, hour-yes}
 
 -- ---- one entry
 
@@ -56,12 +57,12 @@ module _ (z : Zone) (k : ℕ) (s : State) (c : List ℕ) where
     pub entry-refused : (n j : ℕ) → x .answer ≡ HourAnswer.Refused n j → (y : CheckedEntry) → False y → Checked y
     unfolding step
     entry-refused n j f y q =
-        let w : hour z s (conditionsIn z c) ≡ refused n j = ap (hour z s) (sym part-is) ∙ hour-no z s part x r n j f in
+        let w : hour z s (conditionsIn z c) ≡ refused n j = ap (hour z s) (sym part-is) ∙ hour-no s (hour z s part) x r n j f in
         rw w q
 
     module _ (d : Demand) (b : HeatBalance) (f : x .answer ≡ HourAnswer.Accepted d b) (t : Bool) (g : t ≡ equalBytes (entryOf z part d (x .state)) c) where
       gives : hour z s (conditionsIn z c) ≡ ok (record { demand = d; state = x .state; balance = b })
-      gives = ap (hour z s) (sym part-is) ∙ hour-yes z s part x r d b f
+      gives = ap (hour z s) (sym part-is) ∙ hour-yes s (hour z s part) x r d b f
 
       same : equalBytes (entryOf z (conditionsIn z c) d (x .state)) c ≡ t
       same = ap (λ (i : List ℕ). equalBytes (entryOf z i d (x .state)) c) (sym part-is) ∙ sym g
@@ -147,17 +148,17 @@ module _ (bytes : List ℕ) (h : Head) (e : h ≡ headAnswer (headOf bytes)) (g 
 
   pub take-up-head : (r : Reply) (n j : ℕ) → r ≡ replyIn (Book.refusedWith n j (givenOf g)) → h .verdict ≡ Refused n j → TakenUp r
   unfolding Book.takeUp Book.takeUpRes
-  take-up-head r n j q f = rw (head-no bytes h e n j f) q
+  take-up-head r n j q f = rw (head-no (headOf bytes) h e n j f) q
 
   module _ (f : h .verdict ≡ Accepted) (s : StartUp) (i : s ≡ startedUp (initNodeTemps standardCoefficients (h .zone))) where
     pub take-up-start : (r : Reply) (n j : ℕ) → r ≡ replyIn (Book.refusedWith n j (givenOf g)) → s .verdict ≡ Refused n j → TakenUp r
     unfolding Book.takeUp Book.takeUpRes
-    take-up-start r n j q k = rw (head-yes bytes h e f, start-no (h .zone) s i n j k) q
+    take-up-start r n j q k = rw (head-yes (headOf bytes) h e f, start-no (startUp (h .zone)) s i n j k) q
 
     pub take-up-entries : s .verdict ≡ Accepted → (r : Reply)
         → r ≡ replyIn (Book.answerOf (givenOf g) (Book.checkEntries year (h .zone) 0 (s .state) (h .length) (Book.wholeEntries year (h .zone) (drop (h .length) bytes))))
         → TakenUp r
     unfolding Book.takeUp Book.takeUpRes
-    take-up-entries k r q = rw (head-yes bytes h e f, start-yes (h .zone) s i k) q
+    take-up-entries k r q = rw (head-yes (headOf bytes) h e f, start-yes (startUp (h .zone)) s i k) q
 
 pub ruleset take-up-cases = (take-up-head, take-up-start, take-up-entries)

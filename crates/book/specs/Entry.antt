@@ -4,7 +4,7 @@ use mathlib.Core.List.{List, [], _∷_, _++_}
 use lib.ListN.{take}
 use Rattle.zone_head.specs.Bytes.{bytesOf}
 use Rattle.zone_head.specs.BuildingElement.{nodeCount}
-use Rattle.zone_head.specs.declared.zone.Zone.{Zone}
+use Rattle.zone_head.specs.declared.zone_record.Zone.{Zone}
 use Rattle.zone.specs.declared.state.State.{State}
 use Rattle.zone.specs.declared.state.Demand.{Demand}
 use Rattle.zone.specs.declared.state.AchToTriggerHeating.{AchToTriggerHeating}

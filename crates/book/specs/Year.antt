@@ -8,7 +8,7 @@ use Rattle.solver.specs.Res.{Res, ok, bind}
 use Rattle.zone_head.specs.BuildingElement.{standardCoefficients}
 use Rattle.zone_head.specs.Head.{headOf}
 use Rattle.zone_head.specs.ZoneTest.{zoneTest}
-use Rattle.zone_head.specs.declared.zone.Zone.{Zone}
+use Rattle.zone_head.specs.declared.zone_record.Zone.{Zone}
 use Rattle.zone.specs.Hour.{HourResult, hourStep}
 use Rattle.zone.specs.StartUp.{initNodeTemps}
 use Rattle.zone.specs.declared.state.State.{State}

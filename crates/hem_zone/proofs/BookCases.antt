@@ -3,8 +3,8 @@ use Prim.Native.Nat.{ℕ}
 use mathlib.Core.Path.{_≡_, ap, _∙_}
 use mathlib.Core.List.{List}
 use Rattle.solver.specs.Res.{Res, refused}
-use Rattle.zone_head.specs.declared.zone.Zone.{Zone}
-use Rattle.zone_head.specs.declared.zone.Verdict.the-variants.{Accepted, Refused}
+use Rattle.zone_head.specs.declared.zone_record.Zone.{Zone}
+use Rattle.zone_head.specs.declared.zone_record.Verdict.the-variants.{Accepted, Refused}
 use Rattle.zone.specs.declared.state.State.{State}
 use Rattle.plain_book.specs.Calls as Book
 use Rattle.plain_book.specs.Session.{Meets}

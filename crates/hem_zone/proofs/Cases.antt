@@ -6,8 +6,8 @@ use lib.Ieee.{Float}
 use Rattle.solver.specs.F64.{zero64, one64}
 use Rattle.zone.specs.declared.state.AchToTriggerHeating.the-variants.{Absent, At}
 use Rattle.solver.specs.Res.{Res}
-use Rattle.zone_head.specs.declared.zone.Zone.{Zone}
-use Rattle.zone_head.specs.declared.zone.Verdict.the-variants.{Accepted, Refused}
+use Rattle.zone_head.specs.declared.zone_record.Zone.{Zone}
+use Rattle.zone_head.specs.declared.zone_record.Verdict.the-variants.{Accepted, Refused}
 use Rattle.zone_head.specs.declared.head.Head.{Head}
 use Rattle.zone_head.specs.BuildingElement.{standardCoefficients}
 use Rattle.zone_head.specs.Head.{headOf, headAnswer}
@@ -28,7 +28,8 @@ use Rattle.hem_zone.specs.Code.{refusalCode, answerCode, answered}
 use Rattle.hem_zone.specs.Arrays.{stateIn, demandOut, balanceOut}
 use Rattle.hem_zone.specs.Zone.{withZone, startUpOut, updateOut, hourOut, hemHead}
 use Rattle.hem_zone.proofs.Laws.Code.{answered-refused, answered-ok}
-use Rattle.hem_zone.proofs.Laws.Answers.{head-no, head-yes, start-no, start-yes, demand-no, demand-yes, update-no, update-yes, hour-no, hour-yes}
+use Rattle.zone_head.proofs.Laws.Answers.{head-no, head-yes}
+use Rattle.zone.proofs.Laws.Answers.{start-no, start-yes, demand-no, demand-yes, update-no, update-yes, hour-no, hour-yes}
 
 -- ---- the head's refusal, or what the call makes of its zone
 

@@ -4,7 +4,7 @@ use Prim.Native.Nat.{ℕ}
 use mathlib.Core.List.{List}
 use lib.Ieee.{Float}
 use Rattle.solver.specs.Res.{Res, ok, bind}
-use Rattle.zone_head.specs.declared.zone.Zone.{Zone}
+use Rattle.zone_head.specs.declared.zone_record.Zone.{Zone}
 use Rattle.zone_head.specs.BuildingElement.{standardCoefficients}
 use Rattle.zone_head.specs.Head.{headOf}
 use Rattle.zone_temps.specs.declared.balance.HeatBalance.{HeatBalance}

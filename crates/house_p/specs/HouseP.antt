@@ -1,5 +1,5 @@
--- House P: the marked rows of demand, update and refusals, in a table under one claim, by computing. (Those of h_ci and of the rates stand in
--- zone_head specs/HouseP.antt.) The definitions are those that the contracts of `State` cite, from the bytes of the hour's conditions on.
+-- House P: the marked rows of document 01, in one table under one claim, by computing; and its head of 180 bytes. The definitions are those
+-- that the contracts cite, from the bytes of the head and of the hour's conditions on.
 use Prim.Native.Nat.{ℕ}
 use mathlib.Core.Path.{_≡_, refl}
 use mathlib.Core.Bool.{Bool, true, false, _&&_}
@@ -12,12 +12,12 @@ use Rattle.solver.specs.Res.{Res, ok, refused}
 use Rattle.zone_head.specs.declared.building_element.Element.{Element}
 use Rattle.zone_head.specs.declared.building_element.ElementHour.{ElementHour}
 use Rattle.zone_head.specs.declared.building_element.Kind.the-variants.{Transparent}
-use Rattle.zone_head.specs.declared.zone.Zone.{Zone}
-use Rattle.zone_head.specs.declared.zone.ZoneTemperatureControlBasis.the-variants.{Air}
+use Rattle.zone_head.specs.declared.zone_record.Zone.{Zone}
+use Rattle.zone_head.specs.declared.zone_record.ZoneTemperatureControlBasis.the-variants.{Air}
 use Rattle.zone_head.specs.declared.conditions.Conditions.{Conditions}
 use Rattle.zone_head.specs.declared.conditions.AirChangesPerHourArgument.the-variants.{Cooling}
 use Rattle.zone_head.specs.BuildingElement.{standardCoefficients}
-use Rattle.zone_head.specs.Reading.{noElement}
+use Rattle.zone_head.specs.Reading.{noElement, floatsAt, elementsAt, zoneAt}
 use Rattle.zone_head.specs.Encoding.{conditionsBytes}
 use Rattle.zone_temps.specs.declared.balance.HeatBalance.{HeatBalance}
 use Rattle.zone.specs.declared.state.State.{State}
@@ -35,7 +35,9 @@ use Rattle.zone_head.specs.Bytes.{bigEndianFrom, bytesOf}
 use Rattle.zone_head.specs.Ranges.{areaRange, pitchRange, coefficientRange, hPliRange, kPliRange, fractionRange, skyRange, deltaRRange, irradianceRange, gainsRange, rateRange, temperatureRange, heatingSetpointRange, setpointRange, hourLengthRange, allIn}
 use Rattle.zone_head.specs.ZoneTest.{elementHourInRange, arraysInRange, tailInRange, elementInRange, frontInRange, elementValuesTest, valuesTest, treatmentsTest, countsTest, zoneTest}
 use Rattle.zone_head.specs.Conditions.{elementHoursAt, conditionsAt, openBitsGood, hourAndGainsInRange, setpointsInRange, elementHoursTest, conditionsTest, testedAt, conditionsFor, conditionsOf}
-use Rattle.zone_head.specs.Ventilation.{air, densityKgPerM3, calcVentHeatTransferCoeff}
+use Rattle.zone_head.specs.Ventilation.{air, densityKgPerM3, calcVentHeatTransferCoeff, orMinimum, raisedTo, cappedAt, achReqToReachTemperature}
+use Rattle.zone_head.specs.Shape.{kindOf}
+use Rattle.zone_head.specs.Head.{elementsEnd, structureWithin, structureOf, headOf}
 use Rattle.zone_head.specs.Encoding.{rowBytes, elementHoursBytes}
 use Rattle.zone_temps.specs.Slots.{setSlots, withTerms}
 use Rattle.zone_temps.specs.Equations.{rowsOf, rightSidesOf}
@@ -140,7 +142,26 @@ updated z = updateTemperatures standardCoefficients z twenty (conditionsBytes 1 
 abbrev asked : Zone → (heat cool : Float) → Res Demand
 asked z heat cool = demand standardCoefficients z twenty (conditionsBytes 1 (hour heat cool))
 
+-- the head, 180 bytes: front; useful area, volume, bridges; three temperatures; kind and treatments; area, pitch, h_ce, h_re; h_ri,
+-- absorption, sky; k_pli, h_pli; the first hour
+abbrev headOfP : List ℕ
+headOfP =
+    0 ∷ 0 ∷ 0 ∷ 176 ∷ 1 ∷ 0 ∷ 1 ∷ 0 ∷ 10 ∷
+    64 ∷ 66 ∷ 0 ∷ 0 ∷ 0 ∷ 0 ∷ 0 ∷ 0 ∷ 64 ∷ 89 ∷ 0 ∷ 0 ∷ 0 ∷ 0 ∷ 0 ∷ 0 ∷ 64 ∷ 69 ∷ 136 ∷ 0 ∷ 0 ∷ 0 ∷ 0 ∷ 0 ∷
+    64 ∷ 52 ∷ 0 ∷ 0 ∷ 0 ∷ 0 ∷ 0 ∷ 0 ∷ 64 ∷ 52 ∷ 0 ∷ 0 ∷ 0 ∷ 0 ∷ 0 ∷ 0 ∷ 70 ∷ 155 ∷ 156 ∷ 49 ∷ 151 ∷ 7 ∷ 154 ∷ 32 ∷
+    4 ∷ 0 ∷
+    63 ∷ 240 ∷ 0 ∷ 0 ∷ 0 ∷ 0 ∷ 0 ∷ 0 ∷ 64 ∷ 86 ∷ 128 ∷ 0 ∷ 0 ∷ 0 ∷ 0 ∷ 0 ∷ 63 ∷ 240 ∷ 0 ∷ 0 ∷ 0 ∷ 0 ∷ 0 ∷ 0 ∷ 0 ∷ 0 ∷ 0 ∷ 0 ∷ 0 ∷ 0 ∷ 0 ∷ 0 ∷
+    0 ∷ 0 ∷ 0 ∷ 0 ∷ 0 ∷ 0 ∷ 0 ∷ 0 ∷ 0 ∷ 0 ∷ 0 ∷ 0 ∷ 0 ∷ 0 ∷ 0 ∷ 0 ∷ 0 ∷ 0 ∷ 0 ∷ 0 ∷ 0 ∷ 0 ∷ 0 ∷ 0 ∷
+    0 ∷ 0 ∷ 0 ∷ 0 ∷ 0 ∷ 0 ∷ 0 ∷ 0 ∷ 64 ∷ 172 ∷ 32 ∷ 0 ∷ 0 ∷ 0 ∷ 0 ∷ 0 ∷ 63 ∷ 240 ∷ 0 ∷ 0 ∷ 0 ∷ 0 ∷ 0 ∷ 0 ∷
+    64 ∷ 52 ∷ 0 ∷ 0 ∷ 0 ∷ 0 ∷ 0 ∷ 0 ∷ 0 ∷ 0 ∷ 0 ∷ 0 ∷ 0 ∷ 0 ∷ 0 ∷ 0 ∷
+    0 ∷ 0 ∷ 0 ∷ 0 ∷ 0 ∷ 0 ∷ 0 ∷ 0 ∷ 63 ∷ 240 ∷ 0 ∷ 0 ∷ 0 ∷ 0 ∷ 0 ∷ 0 ∷ 63 ∷ 240 ∷ 0 ∷ 0 ∷ 0 ∷ 0 ∷ 0 ∷ 0 ∷
+    0 ∷ []
+
 pub data Row : Type 0 where
+  -- h_ci of a pitch, where air and surface have one temperature
+  hCiRow : (pitch expected : Float) → Row
+  -- the rate for a target, operative and air both 24 at the first rate and 16 at the second, supply 8
+  achRow : (target achMin achMax expected : Float) → Row
   -- free temperatures 20, 20, 20
   freeRow : Row
   -- setpoints, heating and cooling
@@ -149,6 +170,8 @@ pub data Row : Type 0 where
   singularRow : (number : ℕ) → Row
 
 unfoldable pub holds : Row → Bool
+holds (hCiRow pitch x) = same (hCi standardCoefficients pitch (dec 20 0) (dec 20 0)) x
+holds (achRow target lowest highest x) = same (achReqToReachTemperature target lowest highest (dec 24 0) (dec 16 0) (dec 24 0) (dec 16 0) (dec 8 0)) x
 holds freeRow = allTwenty (updated houseP)
 holds (demandRow heat cool heating cooling) = demandIs heating cooling (asked houseP heat cool)
 holds (refusedRow heat cool n) = refusedWith n (asked houseP heat cool)
@@ -166,8 +189,21 @@ table =
     ∷ demandRow (dec 15 0) (dec 19 0) zero64 (neg (dec 144 3))
     ∷ refusedRow (dec 22 0) (dec 21 0) 10
     ∷ singularRow 12
+    ∷ hCiRow (dec 60 0) (dec 25 1)
+    ∷ hCiRow (dec 120 0) (dec 25 1)
+    ∷ hCiRow (dec 599 1) (dec 50 1)
+    ∷ hCiRow (dec 1201 1) (dec 7 1)
+    ∷ achRow (dec 24 0) (dec 1 0) (dec 5 0) (dec 1 0)
+    ∷ achRow (dec 16 0) (dec 1 0) (dec 5 0) (dec 5 0)
+    ∷ achRow (dec 8 0) (dec 1 0) (dec 5 0) (dec 5 0)
+    ∷ achRow (dec 24 0) (dec 2 0) (dec 1 0) (dec 1 0)
     ∷ []
 
 pub claim : allHold table ≡ true
-unfolding holds allHold dec eachOf eachDown magnitude isFinite relativeEq closeInDemand validDivisor withinMillion sum2AddAll termsOf row setRow largerInColumn eliminateRow exchangeRows eliminateColumnBy eliminateColumn pivotsValid applyExchanges forwardStep forwardSubstitution backStep backSubstitution luSolve eliminateChain eliminateChains chainDivisorsValid divisorsValid reduceRightSide reduceRightSides backSubstituteChain backSubstituteChains elementWithin nodesWithin setInnerDiagonals factorDense factor gatherDense scatterDense temperatures substitute fastSolver fastSolverRes standardCoefficients heatFlowDirection hCi addClosed hPliTransparent numberOfNodes nodesOf nodeCount bigEndianFrom bytesOf areaRange pitchRange coefficientRange hPliRange kPliRange fractionRange skyRange deltaRRange irradianceRange gainsRange rateRange temperatureRange heatingSetpointRange setpointRange hourLengthRange allIn elementHourInRange arraysInRange tailInRange elementInRange frontInRange elementValuesTest valuesTest treatmentsTest countsTest zoneTest elementHoursAt conditionsAt openBitsGood hourAndGainsInRange setpointsInRange elementHoursTest conditionsTest testedAt conditionsFor conditionsOf air densityKgPerM3 calcVentHeatTransferCoeff rowBytes elementHoursBytes conditionsBytes setSlots withTerms rowsOf rightSidesOf setRows elementRows elementRightSides coupleRow withGains zoneTwoNodes areaElTotal convectiveSum elementChains couplingsOf elementSides assemble denseWith rightSideWith assembleStep calcTemperatures firstNode moveAll toSlots toNodes addElement heatBalance stateTest zoneAndStateTest slotsOf stateOf controlTemperature fracConvGainsHeatCool wanted fracUpper interpolation interpHeatCoolDemand demandBy calcCoolingPotentialFromVentilation loadedDemand demandTowards demandFrom spaceHeatCoolDemand tested step updateIn updateTemperatures demand add sub mul div lt le eq ne ofBits toBits neg
+unfolding holds allHold dec eachOf eachDown magnitude isFinite relativeEq closeInDemand validDivisor withinMillion sum2AddAll termsOf row setRow largerInColumn eliminateRow exchangeRows eliminateColumnBy eliminateColumn pivotsValid applyExchanges forwardStep forwardSubstitution backStep backSubstitution luSolve eliminateChain eliminateChains chainDivisorsValid divisorsValid reduceRightSide reduceRightSides backSubstituteChain backSubstituteChains elementWithin nodesWithin setInnerDiagonals factorDense factor gatherDense scatterDense temperatures substitute fastSolver fastSolverRes standardCoefficients heatFlowDirection hCi addClosed hPliTransparent numberOfNodes nodesOf nodeCount bigEndianFrom bytesOf areaRange pitchRange coefficientRange hPliRange kPliRange fractionRange skyRange deltaRRange irradianceRange gainsRange rateRange temperatureRange heatingSetpointRange setpointRange hourLengthRange allIn elementHourInRange arraysInRange tailInRange elementInRange frontInRange elementValuesTest valuesTest treatmentsTest countsTest zoneTest elementHoursAt conditionsAt openBitsGood hourAndGainsInRange setpointsInRange elementHoursTest conditionsTest testedAt conditionsFor conditionsOf air densityKgPerM3 calcVentHeatTransferCoeff orMinimum raisedTo cappedAt achReqToReachTemperature rowBytes elementHoursBytes conditionsBytes setSlots withTerms rowsOf rightSidesOf setRows elementRows elementRightSides coupleRow withGains zoneTwoNodes areaElTotal convectiveSum elementChains couplingsOf elementSides assemble denseWith rightSideWith assembleStep calcTemperatures firstNode moveAll toSlots toNodes addElement heatBalance stateTest zoneAndStateTest slotsOf stateOf controlTemperature fracConvGainsHeatCool wanted fracUpper interpolation interpHeatCoolDemand demandBy calcCoolingPotentialFromVentilation loadedDemand demandTowards demandFrom spaceHeatCoolDemand tested step updateIn updateTemperatures demand add sub mul div lt le eq ne ofBits toBits neg
 claim = refl
+
+-- the head's bytes are read as this house
+pub head-claim : headOf headOfP ≡ ok (houseP, 180)
+unfolding dec toBits ofBits lt le neg headOf structureOf structureWithin elementsEnd bigEndianFrom kindOf zoneAt elementsAt floatsAt valuesTest frontInRange areaRange coefficientRange temperatureRange heatingSetpointRange setpointRange elementValuesTest elementInRange pitchRange fractionRange skyRange tailInRange arraysInRange allIn kPliRange hPliRange deltaRRange elementHourInRange irradianceRange
+head-claim = refl

@@ -21,6 +21,7 @@ claims L W =
       whole = Whole.whole L W;
       demand-3 = Demand3.demand-3 L W;
       session-exists = Sessions.session-exists L;
+      session-exactly = Sessions.session-exactly L W;
       well-formed-after = well-formed-after L W;
       equal-books = Equal.equal-books L W;
       cut-is-take-up = Cuts.cut-is-take-up L W;

@@ -142,6 +142,16 @@ calls =
     ∷ callTakeUp given (1 ∷ 3 ∷ 2 ∷ 10 ∷ 43 ∷ 1 ∷ 20 ∷ 66 ∷ 1 ∷ 1 ∷ 70 ∷ [])
     ∷ callTakeUp given (2 ∷ 3 ∷ [])
     ∷ callTakeUp given (1 ∷ 3 ∷ 1 ∷ 0 ∷ 33 ∷ 1 ∷ 20 ∷ [])
+    ∷ callTakeUp given (1 ∷ 3 ∷ 1 ∷ 201 ∷ 234 ∷ [])
+    ∷ callTakeUp given (1 ∷ 7 ∷ [])
+    ∷ callBegin (1 ∷ 0 ∷ []) given (9 ∷ 9 ∷ 9 ∷ [])
+    ∷ callCut 5
+    ∷ callCut 6
+    ∷ callCut 2
+    ∷ callAppend (10 ∷ []) (5 ∷ 5 ∷ 5 ∷ [])
+    ∷ callAppend (20 ∷ []) (5 ∷ 5 ∷ 5 ∷ [])
+    ∷ callAppend (201 ∷ []) (5 ∷ 5 ∷ 5 ∷ [])
+    ∷ callBegin (1 ∷ 4 ∷ []) given (9 ∷ 9 ∷ [])
     ∷ []
 
 abbrev not-made : Option (List ℕ × Values ℕ) → Event ℕ
@@ -157,6 +167,10 @@ one = 1 ∷ 3 ∷ 1 ∷ 10 ∷ 43 ∷ []
 
 abbrev two : List ℕ
 two = 1 ∷ 3 ∷ 1 ∷ 10 ∷ 43 ∷ 1 ∷ 20 ∷ 66 ∷ []
+
+-- the hour 0 alone
+abbrev zero : List ℕ
+zero = 1 ∷ 3 ∷ 1 ∷ 0 ∷ 33 ∷ []
 
 events : List (Event ℕ)
 events =
@@ -185,7 +199,20 @@ events =
     ∷ event (refusedWith 17 0 given) none one (values 43 1 5)
     ∷ event (refusedWith 18 0 given) none one (values 43 1 5)
     ∷ event (refusedWith 3 0 given) none one (values 43 1 5)
-    ∷ event (accepted (values 33 1 5)) none (1 ∷ 3 ∷ 1 ∷ 0 ∷ 33 ∷ []) (values 33 1 5)
+    ∷ event (accepted (values 33 1 5)) none zero (values 33 1 5)
+    -- take-ups: an entry whose hour is refused; a head whose start-up is; a begin with a bad head
+    ∷ event (refusedWith 18 0 given) none zero (values 33 1 5)
+    ∷ event (refusedWith 15 0 given) none zero (values 33 1 5)
+    ∷ event (refusedWith 5 0 given) (some (9 ∷ 9 ∷ 9 ∷ [])) zero (values 33 1 5)
+    -- cuts at the used length, behind it and at the head's end
+    ∷ event (accepted (values 33 1 5)) none zero (values 33 1 5)
+    ∷ not-made (some (zero, values 33 1 5))
+    ∷ event (accepted (values 30 0 2)) none (1 ∷ 3 ∷ []) (values 30 0 2)
+    -- two hours; a bad third, 17; and a begin that replaces the book
+    ∷ event (accepted (values 43 1 5)) (some one) one (values 43 1 5)
+    ∷ event (accepted (values 66 2 8)) (some two) two (values 66 2 8)
+    ∷ event (refusedWith 17 0 (values 66 2 8)) (some (two ++ (5 ∷ 5 ∷ 5 ∷ []))) two (values 66 2 8)
+    ∷ event (accepted (values 40 0 2)) (some (1 ∷ 4 ∷ [])) (1 ∷ 4 ∷ []) (values 40 0 2)
     ∷ []
 
 calls-run : run example none calls ≡ events

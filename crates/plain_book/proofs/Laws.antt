@@ -4,3 +4,4 @@ pub mod Entries
 pub mod Checking
 pub mod Reading
 pub mod ByIndex
+pub mod Refusals

@@ -1,8 +1,8 @@
--- Every list of calls that may be made has a session at the definitions' own types: demand 3 at the functions' types speaks of something.
-use mathlib.Core.Path.{_≡_, refl, sym, subst}
+-- Every list of calls that may be made has a session, and no other list has one: demand 3 at the functions' types speaks of something.
+use mathlib.Core.Path.{_≡_, refl, sym, ap, _∙_, subst}
 use mathlib.Core.List.{List, [], _∷_, _++_, map}
 use mathlib.Core.Option.{Option, none, some}
-use Prim.Native.Nat.{ℕ}
+use Prim.Native.Nat.{ℕ, _≤_}
 use native.Mathlib.Omega.{arith}
 use lib.ListN.{take}
 use lib.Dec.{leb}
@@ -10,90 +10,164 @@ use borrow.Author.Tests.{leb-true}
 use Rattle.solver.specs.Res.{Res, ok, refused}
 use mathlib.Core.Bool.{Bool, true, false, _&&_}
 use Rattle.plain_book.specs.Bytes.{cond}
-use Rattle.plain_book.specs.Layers.{Layers}
+use Rattle.plain_book.specs.Layers.{Layers, Laws}
 use Rattle.plain_book.specs.Calls as Book
-use Rattle.plain_book.specs.Run.{Call, callBegin, callAppend, callTakeUp, callCut, Calls, Event, Held, make, makeAppend, makeCut, notMade, run, replaced, afterTakeUp}
-use Rattle.plain_book.specs.Session.{CodeTypes, ownTypes, HeldBook, Returned, Session, ends, begins, appends, takesUp, cuts, heldOut, returnedOf}
-use Rattle.plain_book.specs.Claims.{AllMade, SessionExists}
+use Rattle.plain_book.specs.Plain.{empty, View}
+use Rattle.plain_book.specs.Run.{Call, callBegin, callAppend, callTakeUp, callCut, Calls, Event, Held, make, makeAppend, makeCut, notMade, run, replaced, afterBegin, afterAppend, afterTakeUp, plainRun}
+use Rattle.plain_book.specs.Session.{CodeTypes, Meets, HeldBook, Returned, Session, ends, begins, appends, takesUp, cuts, replacedBy, replacing, continuing, replyOut, heldOut, returnedOf}
+use Rattle.plain_book.specs.Claims.{AllMade, SessionExists, SessionExactly}
 use Rattle.plain_book.proofs.Laws.Bytes.{and-parts}
-use Rattle.plain_book.proofs.Demand3.{replaces}
+use Rattle.plain_book.proofs.Whole.{whole}
+use Rattle.plain_book.proofs.Demand3.{replaces, demand-3}
 
-module _ (L : Layers) where
-  abbrev T : CodeTypes L
-  T = ownTypes L
-
+module _ (L : Layers) (T : CodeTypes L) where
   no-answer : {A B : Type 0} (a : A) → none ≡ some a → B
   no-answer a e = let z : _≡_ {A = ℕ} 0 1 = cc in absurd (omega arith)
 
-  -- a session of the calls behind one, from the book held after it
-  module _ (H K : Held L) (c : Call (L .State) (L .Item)) (r : Book.Answer (L .State)) (out : Option (List ℕ)) (cs : Calls L) (rs : List (Returned L T))
-      (h : Option (HeldBook L T)) (k : h ≡ heldOut L T K) (rest : Session L T (heldOut L T K) cs rs) where
-    before : (Session L T h cs rs → Session L T (heldOut L T H) (c ∷ cs) (record { reply = some r; buffer = out; held = h } ∷ rs))
-        → Session L T (heldOut L T H) (c ∷ cs) (record { reply = some r; buffer = out; held = heldOut L T K } ∷ rs)
-    before f =
-        subst (λ x. Session L T (heldOut L T H) (c ∷ cs) (record { reply = some r; buffer = out; held = x } ∷ rs)) k
-        (f (subst (λ x. Session L T x cs rs) (sym k) rest))
+  -- all values are those of some at the functions' types, so what holds of these holds of all
+  of-given : (P : Book.Values (L .State) → Type 0) → ((w : T .Values) → P (T .givenOf w)) → (g : Book.Values (L .State)) → P g
+  of-given P f g = subst P (T .given-back g) (f (T .valuesIn g))
 
-  -- one call, with the sessions of those behind it
-  one-call : (H : Held L) (c : Call (L .State) (L .Item)) (cs : Calls L) → AllMade L (make L H c ∷ run L (make L H c .held) cs)
-      → ((K : Held L) → AllMade L (run L K cs) → Session L T (heldOut L T K) cs (map (returnedOf L T) (run L K cs)))
-      → Session L T (heldOut L T H) (c ∷ cs) (returnedOf L T (make L H c) ∷ map (returnedOf L T) (run L (make L H c .held) cs))
-  unfolding make
-  one-call H (callBegin head g buf) cs m rec =
-      let d : Book.Outcome (L .State) = Book.begin L head g buf in
-      let K : Held L = replaced L H (d .buffer) (d .answer) in
-      before H K (callBegin head g buf) (d .answer) (some (d .buffer)) cs _ _ (replaces L T H (d .buffer) (d .answer)) (rec K (m .1))
-      (begins (heldOut L T H) cs _ head buf g (d .answer) (d .buffer) (record { reply = refl; bytes = refl }))
-  one-call H (callTakeUp g bytes) cs m rec =
-      let a : Book.Answer (L .State) = Book.takeUp L g bytes in
-      let K : Held L = replaced L H bytes a in
-      before H K (callTakeUp g bytes) a none cs _ _ (replaces L T H bytes a) (rec K (m .1)) (takesUp (heldOut L T H) cs _ bytes g a refl)
-  one-call none (callAppend i spare) cs m rec = no-answer (m .0 .0) (m .0 .1)
-  one-call (some v) (callAppend i spare) cs m rec = go (L .headOf (v .bytes)) refl m
-    where
-      go : (x : Res (L .Zone × ℕ)) → L .headOf (v .bytes) ≡ x → AllMade L (makeAppend L v i spare x ∷ run L (makeAppend L v i spare x .held) cs)
-          → Session L T (heldOut L T (some v)) (callAppend i spare ∷ cs)
-          (returnedOf L T (makeAppend L v i spare x) ∷ map (returnedOf L T) (run L (makeAppend L v i spare x .held) cs))
-      go (refused c j) e m = no-answer (m .0 .0) (m .0 .1)
-      go (ok h) e m =
+  -- the book held after the reply for an answer
+  replacing-answer : (H : Held L) (bytes : List ℕ) (a : Book.Answer (L .State))
+      → replacing L T (heldOut L T H) bytes (T .replyIn a) ≡ heldOut L T (replaced L H bytes a)
+  replacing-answer H bytes a = ap (replacedBy L T (heldOut L T H) bytes) (T .answer-back a) ∙ replaces L T H bytes a
+
+  continuing-answer : (out : List ℕ) (a : Book.Answer (L .State))
+      → some (continuing L T out (T .replyIn a))
+      ≡ heldOut L T (some (record { bytes = take (Book.handedBack a .used) out; values = Book.handedBack a }))
+  continuing-answer out a =
+      ap (λ x. some (record { bytes = take (Book.handedBack x .used) out; values = T .valuesIn (Book.handedBack x) })) (T .answer-back a)
+
+  -- from every book held, calls that may be made have a session
+  abbrev Sessions : Calls L → Type 0
+  Sessions cs = (K : Held L) → AllMade L (run L K cs) → Session L T (heldOut L T K) cs (map (returnedOf L T) (run L K cs))
+
+  module _ (cs : Calls L) (rec : Sessions cs) where
+    abbrev returns : Held L → List (Returned L T)
+    returns K = map (returnedOf L T) (run L K cs)
+
+    -- a call with its event, before such calls
+    abbrev OneCall : Held L → Call (L .State) (L .Item) → Event (L .State) → Type 0
+    OneCall H c e =
+        AllMade L (e ∷ run L (e .held) cs) → Session L T (heldOut L T H) (c ∷ cs) (returnedOf L T e ∷ returns (e .held))
+
+    -- the book held after the call, at the functions' types, and the session of the calls behind it from there
+    before : (H K : Held L) (c : Call (L .State) (L .Item)) (r : T .Reply) (out : Option (List ℕ)) (h : Option (HeldBook L T)) → h ≡ heldOut L T K
+        → AllMade L (run L K cs)
+        → (Session L T h cs (returns K) → Session L T (heldOut L T H) (c ∷ cs) (record { reply = some r; buffer = out; held = h } ∷ returns K))
+        → Session L T (heldOut L T H) (c ∷ cs) (record { reply = some r; buffer = out; held = heldOut L T K } ∷ returns K)
+    before H K c r out h k m f =
+        subst (λ x. Session L T (heldOut L T H) (c ∷ cs) (record { reply = some r; buffer = out; held = x } ∷ returns K)) k
+        (f (subst (λ x. Session L T x cs (returns K)) (sym k) (rec K m)))
+
+    -- a call that may not be made has no answer
+    none-made : (H K : Held L) (c : Call (L .State) (L .Item)) → OneCall H c (notMade L K)
+    none-made H K c m = no-answer (m .0 .0) (m .0 .1)
+
+    one-begin : (H : Held L) (head buf : List ℕ) (w : T .Values)
+        → OneCall H (callBegin head (T .givenOf w) buf) (afterBegin L H (Book.begin L head (T .givenOf w) buf))
+    one-begin H head buf w m =
+        let d : Book.Outcome (L .State) = Book.begin L head (T .givenOf w) buf in
+        let r : T .Reply = T .replyIn (d .answer) in
+        before H (replaced L H (d .buffer) (d .answer)) (callBegin head (T .givenOf w) buf) r (some (d .buffer)) _
+        (replacing-answer H (d .buffer) (d .answer)) (m .1)
+        (begins (heldOut L T H) cs _ head buf w r (d .buffer) (record { reply = refl; bytes = refl }))
+
+    one-take-up : (H : Held L) (bytes : List ℕ) (w : T .Values)
+        → OneCall H (callTakeUp (T .givenOf w) bytes) (afterTakeUp L H bytes (Book.takeUp L (T .givenOf w) bytes))
+    one-take-up H bytes w m =
+        let a : Book.Answer (L .State) = Book.takeUp L (T .givenOf w) bytes in
+        before H (replaced L H bytes a) (callTakeUp (T .givenOf w) bytes) (T .replyIn a) none _ (replacing-answer H bytes a) (m .1)
+        (takesUp (heldOut L T H) cs _ bytes w (T .replyIn a) refl)
+
+    -- calls on a book, which are given its values at the functions' types
+    module _ (v : View (L .State)) where
+      abbrev held : HeldBook L T
+      held = record { bytes = v .bytes; values = T .valuesIn (v .values) }
+
+      back : v .values ≡ T .givenOf (held .values)
+      back = sym (T .given-back (v .values))
+
+      one-append : (i : L .Item) (spare : List ℕ) (x : Res (L .Zone × ℕ)) → L .headOf (v .bytes) ≡ x
+          → OneCall (some v) (callAppend i spare) (makeAppend L v i spare x)
+      one-append i spare (refused c j) e = none-made (some v) (some v) (callAppend i spare)
+      one-append i spare (ok h) e =
+          λ m.
           let d : Book.Outcome (L .State) = Book.append L (h .0) (v .values) i (v .bytes ++ spare) in
-          appends (record { bytes = v .bytes; values = v .values }) cs _ (h .0) (h .1) i spare (d .answer) (d .buffer) e
-          (record { reply = refl; bytes = refl }) (rec _ (m .1))
-  one-call none (callCut at) cs m rec = no-answer (m .0 .0) (m .0 .1)
-  one-call (some v) (callCut at) cs m rec = go (L .headOf (v .bytes)) refl m
-    where
-      w : List ℕ
-      w = take at (v .bytes)
+          let r : T .Reply = T .replyIn (d .answer) in
+          before (some v) (afterAppend L d .held) (callAppend i spare) r (some (d .buffer)) _ (continuing-answer (d .buffer) (d .answer)) (m .1)
+          (appends held cs _ (h .0) (h .1) i spare r (d .buffer) e
+          (subst (λ y. Meets L T r (d .buffer) (Book.append L (h .0) y i (v .bytes ++ spare))) back (record { reply = refl; bytes = refl })))
 
-      a : Book.Answer (L .State)
-      a = Book.takeUp L (v .values) w
+      module _ (at : ℕ) where
+        abbrev answer : Book.Answer (L .State)
+        answer = Book.takeUp L (v .values) (take at (v .bytes))
 
-      K : Held L
-      K = replaced L (some v) w a
+        -- in its range, or not made
+        in-range : (h : L .Zone × ℕ) → L .headOf (v .bytes) ≡ ok h → (b : Bool) → (leb (h .1) at && leb at (v .values .used)) ≡ b
+            → OneCall (some v) (callCut at) (cond b (afterTakeUp L (some v) (take at (v .bytes)) answer) (notMade L (some v)))
+        in-range h e false t = none-made (some v) (some v) (callCut at)
+        in-range h e true t =
+            λ m.
+            let both = and-parts (leb (h .1) at) (leb at (v .values .used)) t in
+            before (some v) (replaced L (some v) (take at (v .bytes)) answer) (callCut at) (T .replyIn answer) none _
+            (replacing-answer (some v) (take at (v .bytes)) answer) (m .1)
+            (cuts held cs _ (h .0) (h .1) at (T .replyIn answer) e (leb-true _ _ (both .0)) (subst (λ y. at ≤ y .used) back (leb-true _ _ (both .1)))
+            (ap (λ y. T .replyIn (Book.takeUp L y (take at (v .bytes)))) back))
 
-      -- in its range, or not made
-      outcome : Bool → Event (L .State)
-      outcome b = cond b (afterTakeUp L (some v) w a) (notMade L (some v))
+        one-cut : (x : Res (L .Zone × ℕ)) → L .headOf (v .bytes) ≡ x → OneCall (some v) (callCut at) (makeCut L v at x)
+        one-cut (refused c j) e = none-made (some v) (some v) (callCut at)
+        one-cut (ok h) e = in-range h e (leb (h .1) at && leb at (v .values .used)) refl
 
-      cut : (h : L .Zone × ℕ) → L .headOf (v .bytes) ≡ ok h → (b : Bool) → (leb (h .1) at && leb at (v .values .used)) ≡ b
-          → AllMade L (outcome b ∷ run L (outcome b .held) cs)
-          → Session L T (heldOut L T (some v)) (callCut at ∷ cs) (returnedOf L T (outcome b) ∷ map (returnedOf L T) (run L (outcome b .held) cs))
-      cut h e false t m = no-answer (m .0 .0) (m .0 .1)
-      cut h e true t m =
-          let both = and-parts (leb (h .1) at) (leb at (v .values .used)) t in
-          before (some v) K (callCut at) a none cs _ _ (replaces L T (some v) w a) (rec K (m .1))
-          (cuts (record { bytes = v .bytes; values = v .values }) cs _ (h .0) (h .1) at a e (leb-true _ _ (both .0)) (leb-true _ _ (both .1)) refl)
+    one-call : (H : Held L) (c : Call (L .State) (L .Item)) → OneCall H c (make L H c)
+    unfolding make
+    one-call H (callBegin head g buf) = of-given (λ x. OneCall H (callBegin head x buf) (make L H (callBegin head x buf))) (one-begin H head buf) g
+    one-call H (callTakeUp g bytes) = of-given (λ x. OneCall H (callTakeUp x bytes) (make L H (callTakeUp x bytes))) (one-take-up H bytes) g
+    one-call none (callAppend i spare) = none-made none none (callAppend i spare)
+    one-call (some v) (callAppend i spare) = one-append v i spare (L .headOf (v .bytes)) refl
+    one-call none (callCut at) = none-made none none (callCut at)
+    one-call (some v) (callCut at) = one-cut v at (L .headOf (v .bytes)) refl
 
-      go : (x : Res (L .Zone × ℕ)) → L .headOf (v .bytes) ≡ x → AllMade L (makeCut L v at x ∷ run L (makeCut L v at x .held) cs)
-          → Session L T (heldOut L T (some v)) (callCut at ∷ cs)
-          (returnedOf L T (makeCut L v at x) ∷ map (returnedOf L T) (run L (makeCut L v at x .held) cs))
-      go (refused c j) e m = no-answer (m .0 .0) (m .0 .1)
-      go (ok h) e m = cut h e (leb (h .1) at && leb at (v .values .used)) refl m
-
-  session-of : (cs : Calls L) (H : Held L) → AllMade L (run L H cs) → Session L T (heldOut L T H) cs (map (returnedOf L T) (run L H cs))
+  sessions : (cs : Calls L) → Sessions cs
   unfolding run
-  session-of [] H m = ends (heldOut L T H)
-  session-of (c ∷ cs) H m = one-call H c cs m (λ K n. session-of cs K n)
+  sessions [] H m = ends (heldOut L T H)
+  sessions (c ∷ cs) H m = one-call cs (sessions cs) H c m
 
-pub session-exists : (L : Layers) → SessionExists L
-session-exists L cs m = session-of L cs none m
+  -- ---- the calls of a session were all made: each has a reply
+
+  abbrev AllReplied : List (Returned L T) → Type 0
+  AllReplied [] = Unit {0}
+  AllReplied (x ∷ xs) = ((r : T .Reply) × (x .reply ≡ some r)) × AllReplied xs
+
+  replied : {h : Option (HeldBook L T)} {cs : Calls L} {rs : List (Returned L T)} → Session L T h cs rs → AllReplied rs
+  replied (ends h) = tt
+  replied (begins h cs rs head buf g r out m rest) = ((r, refl), replied rest)
+  replied (appends b cs rs z n i spare r out hd m rest) = ((r, refl), replied rest)
+  replied (takesUp h cs rs bytes g r m rest) = ((r, refl), replied rest)
+  replied (cuts b cs rs z n at r hd lo hi m rest) = ((r, refl), replied rest)
+
+  made : (es : List (Event (L .State))) → AllReplied (map (returnedOf L T) es) → AllMade L es
+  made [] x = tt
+  made (e ∷ es) x = (go (e .answer) (x .0), made es (x .1))
+    where
+      go : (o : Option (Book.Answer (L .State))) → ((r : T .Reply) × (replyOut L T o ≡ some r)) → (a : Book.Answer (L .State)) × (o ≡ some a)
+      go none y = no-answer (y .0) (y .1)
+      go (some a) y = (a, refl)
+
+pub session-exists : (L : Layers) (T : CodeTypes L) → SessionExists L T
+session-exists L T cs m = sessions L T cs none m
+
+pub session-exactly : (L : Layers) → Laws L → (T : CodeTypes L) → SessionExactly L T
+session-exactly L W T cs rs = (only, exists)
+  where
+    es : List (Event (L .State))
+    es = plainRun L empty cs
+
+    only : Session L T none cs rs → AllMade L es × (rs ≡ map (returnedOf L T) es)
+    only s = let e = demand-3 L W T cs rs s in (made L T es (subst (AllReplied L T) e (replied L T s)), e)
+
+    exists : AllMade L es × (rs ≡ map (returnedOf L T) es) → Session L T none cs rs
+    exists x =
+        let w = whole L W cs in
+        subst (Session L T none cs) (ap (map (returnedOf L T)) w ∙ sym (x .1)) (session-exists L T cs (subst (AllMade L) (sym w) (x .0)))

@@ -13,7 +13,7 @@ use Rattle.plain_book.specs.Calls.{Values, Answer, accepted, refusedWith
 use Rattle.plain_book.specs.Plain.{empty, book, usedBytes, view, itemsEndingBy, cutPlain, WellFormed}
 use Rattle.plain_book.specs.PlainTakeUp.{numberOfEntries, itemsIn, falseAt, takeUpPlain}
 use Rattle.plain_book.specs.Run.{callAppend, callCut, Calls, Event, run, heldAfter, plainRun, plainAfter}
-use Rattle.plain_book.specs.Session.{CodeTypes, ownTypes, Returned, Session, returnedOf}
+use Rattle.plain_book.specs.Session.{CodeTypes, Returned, Session, returnedOf}
 
 module _ (L : Layers) where
   -- Demand 3, "one claim about the whole list": for every list of calls that starts with no book, each answer, each lent buffer and the book held
@@ -25,13 +25,21 @@ module _ (L : Layers) where
   abbrev pub Demand3 : CodeTypes L → Type 0
   Demand3 T = (cs : Calls L) (rs : List (Returned L T)) → Session L T none cs rs → rs ≡ map (returnedOf L T) (plainRun L empty cs)
 
-  -- There are such sessions: every list of calls that may be made has one, here at the definitions' own types.
+  -- the calls of a run may all be made: each has an answer
   abbrev pub AllMade : List (Event (L .State)) → Type 0
   AllMade [] = Unit {0}
   AllMade (e ∷ es) = ((a : Answer (L .State)) × (e .answer ≡ some a)) × AllMade es
 
-  abbrev pub SessionExists : Type 0
-  SessionExists = (cs : Calls L) → AllMade (run L none cs) → Session L (ownTypes L) none cs (map (returnedOf L (ownTypes L)) (run L none cs))
+  -- There are such sessions: every list of calls that may be made has one, whatever the functions' types.
+  abbrev pub SessionExists : CodeTypes L → Type 0
+  SessionExists T = (cs : Calls L) → AllMade (run L none cs) → Session L T none cs (map (returnedOf L T) (run L none cs))
+
+  -- Both together: the lists of calls that have a session are those whose calls may all be made, and each of these has one list of returns only, the
+  -- plain book's.
+  abbrev pub SessionExactly : CodeTypes L → Type 0
+  SessionExactly T =
+      (cs : Calls L) (rs : List (Returned L T))
+      → Session L T none cs rs ↔ (AllMade (plainRun L empty cs) × (rs ≡ map (returnedOf L T) (plainRun L empty cs)))
 
   -- Every list of calls leaves no book or a well-formed one, and what the caller holds is what is seen of it.
   abbrev pub WellFormedAfter : Type 0
@@ -157,7 +165,8 @@ module _ (L : Layers) where
 pub record Claims (L : Layers) : Type 1 where
   pub whole : Whole L
   pub demand-3 : (T : CodeTypes L) → Demand3 L T
-  pub session-exists : SessionExists L
+  pub session-exists : (T : CodeTypes L) → SessionExists L T
+  pub session-exactly : (T : CodeTypes L) → SessionExactly L T
   pub well-formed-after : WellFormedAfter L
   pub equal-books : EqualBooks L
   pub cut-is-take-up : CutIsTakeUp L

@@ -1,7 +1,6 @@
 -- What the book needs of the layers below it: the head's reader, start-up, the hour step and the bytes of an entry; and the laws that they meet.
 -- `Item` is what a book holds in order: in document 01 an hour, as its 113 + 41n bytes of conditions. `State` is what is carried from entry to
--- entry and handed back: the node temperatures. Document 02 puts a version, limits and changeovers into Item, the last version and the numbers
--- in force into State; nothing of this crate depends on what they are.
+-- entry and handed back: the node temperatures. Nothing of this crate depends on what zones, states and items are.
 use mathlib.Core.Path.{_≡_}
 use mathlib.Core.List.{List, _++_}
 use mathlib.Core.Option.{Option, none, some}
@@ -22,7 +21,8 @@ pub record Layers : Type 1 where
   pub startUp : Zone → Res State
   -- the hour step: the entry (its bytes) that an item has behind `count` others and from the state before it, and the state after it
   pub step : Zone → (count : ℕ) → State → Item → Res (List ℕ × State)
-  -- the hour step as an append asks it: the same, or a refusal (document 02 (g): conditions that are no longer accepted, but still taken up)
+  -- the hour step as an append asks it: the same, or a refusal. It is apart from `step` because an append may refuse an item that a take-up still
+  -- accepts: an entry written earlier stays true, though no such item may be added any more. Where there are no such items the two are equal.
   pub appendStep : Zone → (count : ℕ) → State → Item → Res (List ℕ × State)
   -- the length of the whole entry with which a rest of the book begins; none where the rest is too short to begin with one
   pub entryLength : Zone → (rest : List ℕ) → Option ℕ

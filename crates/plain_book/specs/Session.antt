@@ -1,5 +1,5 @@
 -- Lists of calls at the functions' own types: what the functions returned and left in the buffers, call by call.
-use mathlib.Core.Path.{_≡_, refl}
+use mathlib.Core.Path.{_≡_}
 use mathlib.Core.List.{List, [], _∷_, _++_}
 use mathlib.Core.Option.{Option, none, some}
 use Prim.Native.Nat.{ℕ, _≤_}
@@ -20,20 +20,6 @@ pub record CodeTypes (L : Layers) : Type 1 where
   pub replyIn : Book.Answer (L .State) → Reply
   pub given-back : (v : Book.Values (L .State)) → givenOf (valuesIn v) ≡ v
   pub answer-back : (a : Book.Answer (L .State)) → answerOf (replyIn a) ≡ a
-
--- the definitions' own types
-abbrev pub ownTypes : (L : Layers) → CodeTypes L
-ownTypes L =
-    record {
-      Values = Book.Values (L .State);
-      Reply = Book.Answer (L .State);
-      givenOf = λ v. v;
-      valuesIn = λ v. v;
-      answerOf = λ a. a;
-      replyIn = λ a. a;
-      given-back = λ v. refl;
-      answer-back = λ a. refl;
-    }
 
 module _ (L : Layers) (T : CodeTypes L) where
   -- a reply and the whole lent buffer after the call, for what the call's definition says: the contracts of begin and append

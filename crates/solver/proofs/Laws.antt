@@ -5,3 +5,4 @@ pub mod Fill
 pub mod Signs
 pub mod Sums
 pub mod Solver
+pub mod Refusals

@@ -7,3 +7,4 @@ pub mod Rows
 pub mod Lu
 pub mod Chain
 pub mod FastSolver
+pub mod Refusals

@@ -5,3 +5,5 @@ pub mod Demand
 pub mod Hour
 pub mod StartUp
 pub mod Accepted
+pub mod Answers
+pub mod Refusals

@@ -4,8 +4,8 @@ use mathlib.Core.List.{List}
 use lib.ListN.{replicate}
 use Rattle.solver.specs.F64.{zero64}
 use Rattle.solver.specs.Res.{Res, ok, refused}
-use Rattle.zone_head.specs.declared.zone.Verdict.{Verdict}
-use Rattle.zone_head.specs.declared.zone.Verdict.the-variants.{Accepted, Refused}
+use Rattle.zone_head.specs.declared.zone_record.Verdict.{Verdict}
+use Rattle.zone_head.specs.declared.zone_record.Verdict.the-variants.{Accepted, Refused}
 use Rattle.zone_temps.specs.declared.balance.HeatBalance.{HeatBalance}
 use Rattle.zone.specs.declared.state.State.{State}
 use Rattle.zone.specs.declared.state.Demand.{Demand}

@@ -8,9 +8,9 @@ use Rattle.solver.specs.F64.{_+ᶠ_, _-ᶠ_, _*ᶠ_, _/ᶠ_, dec, zero64}
 use Rattle.solver.specs.Res.{Res, ok, refused, bind, need}
 use Rattle.solver.specs.Near.{closeInDemand, closeInWindowsTest}
 use Rattle.zone_head.specs.declared.building_element.Coefficients.{Coefficients}
-use Rattle.zone_head.specs.declared.zone.Zone.{Zone}
-use Rattle.zone_head.specs.declared.zone.ZoneTemperatureControlBasis.{ZoneTemperatureControlBasis}
-use Rattle.zone_head.specs.declared.zone.ZoneTemperatureControlBasis.the-variants.{Air, Operative}
+use Rattle.zone_head.specs.declared.zone_record.Zone.{Zone}
+use Rattle.zone_head.specs.declared.zone_record.ZoneTemperatureControlBasis.{ZoneTemperatureControlBasis}
+use Rattle.zone_head.specs.declared.zone_record.ZoneTemperatureControlBasis.the-variants.{Air, Operative}
 use Rattle.zone_head.specs.declared.conditions.Conditions.{Conditions}
 use Rattle.zone_head.specs.declared.conditions.AirChangesPerHourArgument.{AirChangesPerHourArgument}
 use Rattle.zone_head.specs.declared.conditions.AirChangesPerHourArgument.the-variants.{Cooling, TargetAndWindowsOpen}
@@ -20,10 +20,10 @@ use Rattle.zone_temps.specs.CalcTemperatures.{calcTemperatures}
 use Rattle.zone.specs.declared.state.AchToTriggerHeating.{AchToTriggerHeating}
 use Rattle.zone.specs.declared.state.AchToTriggerHeating.the-variants.{Absent, At}
 use Rattle.zone.specs.declared.state.Demand.{Demand}
-use Rattle.zone.specs.declared.ventilation.ZoneTemperatures.{ZoneTemperatures}
-use Rattle.zone.specs.declared.ventilation.Ventilated.{Ventilated}
-use Rattle.zone.specs.declared.demand.Wanted.{Wanted}
-use Rattle.zone.specs.declared.demand.Wanted.the-variants.{Neither, Towards}
+use Rattle.zone.specs.declared.windows.ZoneTemperatures.{ZoneTemperatures}
+use Rattle.zone.specs.declared.windows.Ventilated.{Ventilated}
+use Rattle.zone.specs.declared.load.Wanted.{Wanted}
+use Rattle.zone.specs.declared.load.Wanted.the-variants.{Neither, Towards}
 
 abbrev pub airOf : List Float → Float
 airOf t = getD t 120 nan

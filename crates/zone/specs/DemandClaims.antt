@@ -9,13 +9,13 @@ use lib.Ieee.{Float, lt, le, eq, ofBits, binary64}
 use Rattle.solver.specs.F64.{zero64}
 use Rattle.solver.specs.Res.{Res, ok, refused, bind, bind-ok, need}
 use Rattle.zone_head.specs.declared.building_element.Coefficients.{Coefficients}
-use Rattle.zone_head.specs.declared.zone.Zone.{Zone}
+use Rattle.zone_head.specs.declared.zone_record.Zone.{Zone}
 use Rattle.zone_head.specs.declared.conditions.Conditions.{Conditions}
 use Rattle.zone.specs.declared.state.Demand.{Demand}
-use Rattle.zone.specs.declared.ventilation.ZoneTemperatures.{ZoneTemperatures}
-use Rattle.zone.specs.declared.ventilation.Ventilated.{Ventilated}
-use Rattle.zone.specs.declared.demand.Wanted.{Wanted}
-use Rattle.zone.specs.declared.demand.Wanted.the-variants.{Neither, Towards}
+use Rattle.zone.specs.declared.windows.ZoneTemperatures.{ZoneTemperatures}
+use Rattle.zone.specs.declared.windows.Ventilated.{Ventilated}
+use Rattle.zone.specs.declared.load.Wanted.{Wanted}
+use Rattle.zone.specs.declared.load.Wanted.the-variants.{Neither, Towards}
 use Rattle.zone.specs.Demand.{
   achTarget,
   controlTemperature,

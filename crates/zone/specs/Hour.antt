@@ -7,7 +7,7 @@ use Rattle.solver.specs.F64.{_+ᶠ_, _*ᶠ_, _/ᶠ_, dec, zero64}
 use Rattle.solver.specs.Res.{Res, ok, refused, bind, need}
 use Rattle.solver.specs.Near.{closeInDemand}
 use Rattle.zone_head.specs.declared.building_element.Coefficients.{Coefficients}
-use Rattle.zone_head.specs.declared.zone.Zone.{Zone}
+use Rattle.zone_head.specs.declared.zone_record.Zone.{Zone}
 use Rattle.zone_head.specs.declared.conditions.Conditions.{Conditions}
 use Rattle.zone_head.specs.Ranges.{gainsRange, fractionRange, rateRange}
 use Rattle.zone_head.specs.Conditions.{conditionsOf}

@@ -6,3 +6,4 @@ pub mod Answers
 pub mod Solves
 pub mod DemandClaims
 pub mod StartUpClaims
+pub mod Refusals

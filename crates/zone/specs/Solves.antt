@@ -7,7 +7,7 @@ use lib.Ieee.{Float}
 use Rattle.solver.specs.Res.{Res, ok, refused}
 use Rattle.solver.specs.declared.system.Solved.{Solved}
 use Rattle.solver.specs.FastSolver.{Factored, factored, factor, solvedRes}
-use Rattle.zone_head.specs.declared.zone.Zone.{Zone}
+use Rattle.zone_head.specs.declared.zone_record.Zone.{Zone}
 use Rattle.zone_head.specs.declared.conditions.Conditions.{Conditions}
 use Rattle.zone_head.specs.BuildingElement.{standardCoefficients}
 use Rattle.zone_head.specs.Ventilation.{calcVentHeatTransferCoeff}
@@ -16,13 +16,13 @@ use Rattle.zone_temps.specs.CalcTemperatures.{assembleStep, matrixOf}
 use Rattle.zone.specs.declared.state.Demand.{Demand}
 use Rattle.zone.specs.declared.state.DemandAnswer.{DemandAnswer}
 use Rattle.zone.specs.declared.state.DemandAnswer.the-variants as DemandAnswer
-use Rattle.zone.specs.declared.ventilation.Ventilated.{Ventilated}
+use Rattle.zone.specs.declared.windows.Ventilated.{Ventilated}
 use Rattle.zone.specs.declared.ventilation.VentilatedAnswer.{VentilatedAnswer}
 use Rattle.zone.specs.declared.ventilation.VentilatedAnswer.the-variants as VentilatedAnswer
-use Rattle.zone.specs.declared.demand.Interpolated.{Interpolated}
-use Rattle.zone.specs.declared.demand.Interpolated.the-variants as Interpolated
-use Rattle.zone_head.specs.declared.zone.Verdict.{Verdict}
-use Rattle.zone_head.specs.declared.zone.Verdict.the-variants.{Accepted, Refused}
+use Rattle.zone.specs.declared.load.Interpolated.{Interpolated}
+use Rattle.zone.specs.declared.load.Interpolated.the-variants as Interpolated
+use Rattle.zone_head.specs.declared.zone_record.Verdict.{Verdict}
+use Rattle.zone_head.specs.declared.zone_record.Verdict.the-variants.{Accepted, Refused}
 use Rattle.zone.specs.Demand.{deltaT, freeTemperatures}
 
 unfoldable pub hourSystem : Zone → List Float → Conditions → Assembled

@@ -7,7 +7,7 @@ use native.Mathlib.Omega.{arith}
 use lib.Ieee.{Float}
 use Rattle.solver.specs.Res.{Res, ok, refused, bind}
 use Rattle.zone_head.specs.declared.building_element.Coefficients.{Coefficients}
-use Rattle.zone_head.specs.declared.zone.Zone.{Zone}
+use Rattle.zone_head.specs.declared.zone_record.Zone.{Zone}
 use Rattle.zone.specs.StartUp.{close, pass, settle}
 
 module _ (c : Coefficients) (z : Zone) where

@@ -7,7 +7,7 @@ use lib.Dec.{eqb}
 use lib.Ieee.{Float}
 use Rattle.solver.specs.Res.{Res, bind, need}
 use Rattle.solver.specs.Near.{withinMillion}
-use Rattle.zone_head.specs.declared.zone.Zone.{Zone}
+use Rattle.zone_head.specs.declared.zone_record.Zone.{Zone}
 use Rattle.zone_head.specs.BuildingElement.{nodeCount}
 use Rattle.zone_head.specs.Ranges.{allIn}
 use Rattle.zone_head.specs.ZoneTest.{zoneTest}

@@ -1,12 +1,14 @@
 // A zone, hour by hour: demand, start-up, update and hour step.
 mod demand;
 mod hour_step;
+mod load;
 mod solves;
 mod start_up;
 mod state;
 mod tests;
 mod update;
 mod ventilation;
+mod windows;
 
 pub use start_up::init_node_temps;
 pub use state::AchToTriggerHeating;
@@ -20,19 +22,19 @@ pub use state::State;
 pub use state::UpdateAnswer;
 pub use state::Updated;
 pub use zone_head::AirChangesPerHourArgument;
+pub use zone_head::Coefficients;
 pub use zone_head::Conditions;
 pub use zone_head::Element;
 pub use zone_head::ElementHour;
 pub use zone_head::Head;
-pub use zone_head::HourConditions;
 pub use zone_head::Kind;
 pub use zone_head::Verdict;
 pub use zone_head::Zone;
 pub use zone_head::ZoneTemperatureControlBasis;
 pub use zone_head::ach_req_to_reach_temperature;
 pub use zone_head::calc_vent_heat_transfer_coeff;
-pub use zone_head::conditions_of;
 pub use zone_head::h_ci;
+pub use zone_head::standard_coefficients;
 pub use zone_head::zone_of_head;
 pub use zone_head::zone_test;
 pub use zone_temps::HeatBalance;

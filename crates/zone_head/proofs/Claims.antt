@@ -3,3 +3,4 @@ pub mod Head
 pub mod Conditions
 pub mod ConditionsBytes
 pub mod HeadBytes
+pub mod Refusals

@@ -11,3 +11,4 @@ pub mod Conditions
 pub mod Same
 pub mod RoundTrip
 pub mod Numbers
+pub mod Answers

@@ -12,7 +12,7 @@ use Rattle.zone_head.specs.declared.building_element.Element.{Element}
 use Rattle.zone_head.specs.declared.building_element.Coefficients.{Coefficients}
 use Rattle.zone_head.specs.declared.building_element.HeatFlowDirection.{HeatFlowDirection}
 use Rattle.zone_head.specs.declared.building_element.HeatFlowDirection.the-variants.{Horizontal, Upwards, Downwards}
-use Rattle.zone_head.specs.declared.zone.Zone.{Zone}
+use Rattle.zone_head.specs.declared.zone_record.Zone.{Zone}
 
 -- BS EN ISO 52016-1, Tables B.11 and B.17
 unfoldable pub standardCoefficients : Coefficients

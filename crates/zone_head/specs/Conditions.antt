@@ -12,8 +12,8 @@ use Rattle.zone_head.specs.Ranges.{hourLengthRange, temperatureRange, ga
 use Rattle.zone_head.specs.ZoneTest.{elementHourInRange}
 use Rattle.zone_head.specs.declared.building_element.ElementHour.{ElementHour}
 use Rattle.zone_head.specs.declared.building_element.Element.{Element}
-use Rattle.zone_head.specs.declared.zone.Zone.{Zone}
-use Rattle.zone_head.specs.declared.zone.Verdict.the-variants.{Accepted, Refused}
+use Rattle.zone_head.specs.declared.zone_record.Zone.{Zone}
+use Rattle.zone_head.specs.declared.zone_record.Verdict.the-variants.{Accepted, Refused}
 use Rattle.zone_head.specs.declared.conditions.AirChangesPerHourArgument.{AirChangesPerHourArgument}
 use Rattle.zone_head.specs.declared.conditions.AirChangesPerHourArgument.the-variants.{Cooling, TargetAndWindowsOpen}
 use Rattle.zone_head.specs.declared.conditions.Conditions.{Conditions}

@@ -9,8 +9,8 @@ use Rattle.zone_head.specs.Bytes.{numAt}
 use Rattle.zone_head.specs.Shape.{kindGoodAt, sizeAt}
 use Rattle.zone_head.specs.Reading.{zoneAt, noZone}
 use Rattle.zone_head.specs.ZoneTest.{valuesTest}
-use Rattle.zone_head.specs.declared.zone.Zone.{Zone}
-use Rattle.zone_head.specs.declared.zone.Verdict.the-variants.{Accepted, Refused}
+use Rattle.zone_head.specs.declared.zone_record.Zone.{Zone}
+use Rattle.zone_head.specs.declared.zone_record.Verdict.the-variants.{Accepted, Refused}
 use Rattle.zone_head.specs.declared.head.Head.{Head}
 use Rattle.zone_head.specs.declared.head.Structure.{Structure}
 use Rattle.zone_head.specs.declared.head.Structure.the-variants.{End, Wrong}

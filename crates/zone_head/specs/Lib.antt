@@ -7,5 +7,5 @@ pub mod ZoneTest
 pub mod Head
 pub mod Conditions
 pub mod Ventilation
-pub mod HouseP
 pub mod Encoding
+pub mod Refusals

@@ -12,9 +12,9 @@ use Rattle.zone_head.specs.declared.building_element.Kind.{Kind}
 use Rattle.zone_head.specs.declared.building_element.Kind.the-variants.{Opaque}
 use Rattle.zone_head.specs.declared.building_element.ElementHour.{ElementHour}
 use Rattle.zone_head.specs.declared.building_element.Element.{Element}
-use Rattle.zone_head.specs.declared.zone.Zone.{Zone}
-use Rattle.zone_head.specs.declared.zone.ZoneTemperatureControlBasis.{ZoneTemperatureControlBasis}
-use Rattle.zone_head.specs.declared.zone.ZoneTemperatureControlBasis.the-variants.{Air, Operative}
+use Rattle.zone_head.specs.declared.zone_record.Zone.{Zone}
+use Rattle.zone_head.specs.declared.zone_record.ZoneTemperatureControlBasis.{ZoneTemperatureControlBasis}
+use Rattle.zone_head.specs.declared.zone_record.ZoneTemperatureControlBasis.the-variants.{Air, Operative}
 
 -- so many floats in a row
 unfoldable pub floatsAt : List ℕ → (at count : ℕ) → List Float

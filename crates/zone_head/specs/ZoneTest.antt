@@ -10,9 +10,9 @@ use Rattle.zone_head.specs.Shape.{kCount, hCount, maxTreatments}
 use Rattle.zone_head.specs.Ranges.{areaRange, pitchRange, coefficientRange, hPliRange, kPliRange, fractionRange, skyRange, deltaRRange, irradianceRange, temperatureRange, heatingSetpointRange, setpointRange, limitRange, allIn, openWithin}
 use Rattle.zone_head.specs.declared.building_element.ElementHour.{ElementHour}
 use Rattle.zone_head.specs.declared.building_element.Element.{Element}
-use Rattle.zone_head.specs.declared.zone.Zone.{Zone}
-use Rattle.zone_head.specs.declared.zone.Verdict.{Verdict}
-use Rattle.zone_head.specs.declared.zone.Verdict.the-variants.{Accepted, Refused}
+use Rattle.zone_head.specs.declared.zone_record.Zone.{Zone}
+use Rattle.zone_head.specs.declared.zone_record.Verdict.{Verdict}
+use Rattle.zone_head.specs.declared.zone_record.Verdict.the-variants.{Accepted, Refused}
 
 -- the values of an hour's part of an element, but for the open byte
 unfoldable pub elementHourInRange : ElementHour → Bool

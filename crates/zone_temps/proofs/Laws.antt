@@ -6,3 +6,4 @@ pub mod Steps
 pub mod Blocks
 pub mod Nodes
 pub mod Zones
+pub mod Refusals

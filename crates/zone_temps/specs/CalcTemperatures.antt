@@ -10,7 +10,7 @@ use Rattle.solver.specs.declared.system.Solved.{Solved}
 use Rattle.solver.specs.FastSolver.{solved, fastSolverRes}
 use Rattle.zone_head.specs.declared.building_element.Coefficients.{Coefficients}
 use Rattle.zone_head.specs.declared.conditions.Conditions.{Conditions}
-use Rattle.zone_head.specs.declared.zone.Zone.{Zone}
+use Rattle.zone_head.specs.declared.zone_record.Zone.{Zone}
 use Rattle.zone_head.specs.Ventilation.{calcVentHeatTransferCoeff}
 use Rattle.zone_temps.specs.Assembly.{chains}
 use Rattle.zone_temps.specs.System.{Assembled, assembled, assemble, denseWith, rightSideWith}

@@ -13,7 +13,7 @@ use Rattle.zone_head.specs.declared.building_element.Element.{Element}
 use Rattle.zone_head.specs.declared.building_element.ElementHour.{ElementHour}
 use Rattle.zone_head.specs.declared.building_element.Coefficients.{Coefficients}
 use Rattle.zone_head.specs.declared.conditions.Conditions.{Conditions}
-use Rattle.zone_head.specs.declared.zone.Zone.{Zone}
+use Rattle.zone_head.specs.declared.zone_record.Zone.{Zone}
 use Rattle.zone_temps.specs.declared.balance.HeatBalanceAirNode.{HeatBalanceAirNode}
 use Rattle.zone_temps.specs.declared.balance.HeatBalanceInternalBoundary.{HeatBalanceInternalBoundary}
 use Rattle.zone_temps.specs.declared.balance.HeatBalanceExternalBoundary.{HeatBalanceExternalBoundary}

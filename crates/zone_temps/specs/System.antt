@@ -14,7 +14,7 @@ use Rattle.zone_head.specs.declared.building_element.Element.{Element}
 use Rattle.zone_head.specs.declared.building_element.ElementHour.{ElementHour}
 use Rattle.zone_head.specs.declared.building_element.Coefficients.{Coefficients}
 use Rattle.zone_head.specs.declared.conditions.Conditions.{Conditions}
-use Rattle.zone_head.specs.declared.zone.Zone.{Zone}
+use Rattle.zone_head.specs.declared.zone_record.Zone.{Zone}
 use Rattle.zone_head.specs.BuildingElement.{isTwoNodes}
 use Rattle.zone_temps.specs.declared.time_step.ZoneTerms.{ZoneTerms}
 use Rattle.zone_temps.specs.Slots.{air, element, withTerms}

@@ -6,7 +6,7 @@ use lib.Ieee.{Float}
 use Rattle.solver.specs.F64.{_+ᶠ_, _*ᶠ_, _/ᶠ_, zero64, dec}
 use Rattle.solver.specs.Sums.{sum2, terms}
 use Rattle.solver.specs.FastSolver.{atMost24}
-use Rattle.zone_head.specs.declared.zone.Zone.{Zone}
+use Rattle.zone_head.specs.declared.zone_record.Zone.{Zone}
 use Rattle.zone_temps.specs.Slots.{air, innerSurface, withTerms}
 use Rattle.zone_temps.specs.System.{areaOf, areaElTotal}
 

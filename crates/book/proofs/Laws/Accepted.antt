@@ -8,7 +8,7 @@ use Rattle.solver.specs.Res.{ok, bind-ok}
 use Rattle.zone_head.specs.BuildingElement.{standardCoefficients, nodeCount}
 use Rattle.zone_head.specs.Head.{headOf}
 use Rattle.zone_head.specs.ZoneTest.{countsTest, zoneTest}
-use Rattle.zone_head.specs.declared.zone.Zone.{Zone}
+use Rattle.zone_head.specs.declared.zone_record.Zone.{Zone}
 use Rattle.zone_head.proofs.Laws.Ranges.{counts-few}
 use Rattle.zone_head.proofs.Claims.Head.{head-tested}
 use Rattle.zone.specs.Hour.{HourResult}

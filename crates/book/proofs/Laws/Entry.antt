@@ -10,7 +10,7 @@ use Rattle.zone_head.specs.BuildingElement.{numberOfNodes, nodesOf, nodeCount}
 use Rattle.zone_head.specs.Bytes.{bytesOf}
 use Rattle.zone_head.proofs.Laws.Element.{nodes-few}
 use Rattle.zone_head.specs.declared.building_element.Element.{Element}
-use Rattle.zone_head.specs.declared.zone.Zone.{Zone}
+use Rattle.zone_head.specs.declared.zone_record.Zone.{Zone}
 use Rattle.zone.specs.declared.state.State.{State}
 use Rattle.zone.specs.declared.state.Demand.{Demand}
 use Rattle.zone.specs.declared.state.AchToTriggerHeating.{AchToTriggerHeating}

@@ -9,7 +9,7 @@ use lib.ListN.{length, take, length-append, length-take}
 use lib.Dec.{leb}
 use borrow.Author.Tests.{leb-true, le-leb, lt-leb}
 use Rattle.solver.specs.Res.{ok, bind-ok}
-use Rattle.zone_head.specs.declared.zone.Zone.{Zone}
+use Rattle.zone_head.specs.declared.zone_record.Zone.{Zone}
 use Rattle.zone_head.proofs.Claims.Head.{head-within, head-then, head-tested}
 use Rattle.zone.specs.Hour.{HourResult}
 use Rattle.zone.specs.declared.state.State.{State}

@@ -9,7 +9,7 @@ use lib.Seq.{take-length}
 use lib.Ieee.{Float}
 use Rattle.zone_head.specs.BuildingElement.{nodeCount}
 use Rattle.zone_head.specs.Bytes.{bytesOf}
-use Rattle.zone_head.specs.declared.zone.Zone.{Zone}
+use Rattle.zone_head.specs.declared.zone_record.Zone.{Zone}
 use Rattle.zone.specs.declared.state.State.{State}
 use Rattle.zone.specs.declared.state.Demand.{Demand}
 use Rattle.zone.specs.declared.state.AchToTriggerHeating.{AchToTriggerHeating}

@@ -1,54 +1,16 @@
--- What the answers of the crates below tell of the definitions that they meet.
+-- What a reply of the book tells of the definition that it meets.
 use Prim.Native.Nat.{ℕ}
 use mathlib.Core.Path.{_≡_, sym, ap, _∙_}
 use mathlib.Core.List.{List}
-use native.Mathlib.Omega.{arith}
 use Rattle.solver.specs.Res.{Res, ok, refused}
-use Rattle.zone_head.specs.declared.zone.Zone.{Zone}
-use Rattle.zone_head.specs.declared.zone.Verdict.the-variants.{Accepted, Refused}
-use Rattle.zone_head.specs.declared.head.Head.{Head}
-use Rattle.zone_head.specs.Head.{headAnswer}
-use Rattle.zone_temps.specs.declared.balance.HeatBalance.{HeatBalance}
+use Rattle.zone_head.specs.declared.zone_record.Verdict.the-variants.{Accepted, Refused}
+use Rattle.zone_head.proofs.Laws.Answers.{apart, same-refusal}
 use Rattle.zone.specs.declared.state.State.{State}
-use Rattle.zone.specs.declared.state.Demand.{Demand}
-use Rattle.zone.specs.declared.state.DemandAnswer.the-variants as DemandAnswer
-use Rattle.zone.specs.declared.state.UpdateAnswer.the-variants as UpdateAnswer
-use Rattle.zone.specs.declared.state.HourAnswer.the-variants as HourAnswer
-use Rattle.zone.specs.declared.state.Demanded.{Demanded}
-use Rattle.zone.specs.declared.state.Updated.{Updated}
-use Rattle.zone.specs.declared.state.HourStep.{HourStep}
-use Rattle.zone.specs.declared.state.StartUp.{StartUp}
-use Rattle.zone.specs.Hour.{HourResult}
-use Rattle.zone.specs.Answers.{demanded, updated, hourStepped, startedUp}
 use Rattle.plain_book.specs.Calls as Book
 use Rattle.book.specs.Answers.{givenOf, replyIn}
 use Rattle.book.specs.declared.book.Reply.{Reply}
 
-apart : {A : Type 0} (n j : ℕ) → Accepted ≡ Refused n j → A
-apart n j e = absurd (let z : _≡_ {A = ℕ} 0 1 = cc in omega arith)
-
-same-refusal : {A : Type 0} (m k n j : ℕ) → Refused m k ≡ Refused n j → _≡_ {A = Res A} (refused m k) (refused n j)
-same-refusal m k n j e = let p : m ≡ n = cc in let q : k ≡ j = cc in λ i. refused (p i) (q i)
-
--- ---- a verdict
-
-pub head-no : (d : Res (Zone × ℕ)) (h : Head) → h ≡ headAnswer d → (n j : ℕ) → h .verdict ≡ Refused n j → d ≡ refused n j
-head-no (ok a) h e n j f = apart n j (sym (ap (λ x. x .verdict) e) ∙ f)
-head-no (refused m k) h e n j f = same-refusal m k n j (sym (ap (λ x. x .verdict) e) ∙ f)
-
-pub head-yes : (d : Res (Zone × ℕ)) (h : Head) → h ≡ headAnswer d → h .verdict ≡ Accepted → d ≡ ok (h .zone, h .length)
-head-yes (ok a) h e f = λ i. ok (sym e i .zone, sym e i .length)
-head-yes (refused m k) h e f = apart m k (sym f ∙ ap (λ x. x .verdict) e)
-
-pub start-no : (d : Res State) (s : StartUp) → s ≡ startedUp d → (n j : ℕ) → s .verdict ≡ Refused n j → d ≡ refused n j
-start-no (ok a) s e n j f = apart n j (sym (ap (λ x. x .verdict) e) ∙ f)
-start-no (refused m k) s e n j f = same-refusal m k n j (sym (ap (λ x. x .verdict) e) ∙ f)
-
-pub start-yes : (d : Res State) (s : StartUp) → s ≡ startedUp d → s .verdict ≡ Accepted → d ≡ ok (s .state)
-start-yes (ok a) s e f = λ i. ok (sym e i .state)
-start-yes (refused m k) s e f = apart m k (sym f ∙ ap (λ x. x .verdict) e)
-
--- a reply of the book, with a buffer and without
+-- with a buffer and without
 module _ (g : Book.Values State) where
   pub reply-no : (d : Res (Book.Values State)) (r : Reply) → r ≡ replyIn (Book.answerOf g d) → (n j : ℕ) → r .verdict ≡ Refused n j → d ≡ refused n j
   reply-no (ok a) r e n j f = apart n j (sym (ap (λ x. x .verdict) e) ∙ f)
@@ -68,58 +30,3 @@ module _ (g : Book.Values State) where
         → out ≡ Book.outcomeOf g buf d .buffer → r .verdict ≡ Accepted → d ≡ ok (givenOf (r .values), out)
     outcome-yes (ok a) r out e o f = λ i. ok (givenOf (sym e i .values), sym o i)
     outcome-yes (refused m k) r out e o f = apart m k (sym f ∙ ap (λ x. x .verdict) e)
-
--- ---- an answer with its values. A refusal's place is the same in the three enums
-
-module _ (s : State) where
-  pub demand-no : (d : Res Demand) (x : Demanded) → x ≡ demanded s d → (n j : ℕ) → x .answer ≡ DemandAnswer.Refused n j → d ≡ refused n j
-  demand-no (ok a) x e n j f =
-      let q : DemandAnswer.Accepted a ≡ DemandAnswer.Refused n j = sym (ap (λ y. y .answer) e) ∙ f in
-      absurd (let z : _≡_ {A = ℕ} 0 1 = cc in omega arith)
-  demand-no (refused m k) x e n j f =
-      let q : DemandAnswer.Refused m k ≡ DemandAnswer.Refused n j = sym (ap (λ y. y .answer) e) ∙ f in
-      cc
-
-  pub demand-yes : (d : Res Demand) (x : Demanded) → x ≡ demanded s d → (a : Demand) → x .answer ≡ DemandAnswer.Accepted a → d ≡ ok a
-  demand-yes (ok b) x e a f =
-      let q : DemandAnswer.Accepted b ≡ DemandAnswer.Accepted a = sym (ap (λ y. y .answer) e) ∙ f in
-      cc
-  demand-yes (refused m k) x e a f =
-      let q : DemandAnswer.Refused m k ≡ DemandAnswer.Accepted a = sym (ap (λ y. y .answer) e) ∙ f in
-      absurd (let z : _≡_ {A = ℕ} 0 1 = cc in omega arith)
-
-  pub update-no : (d : Res (State × HeatBalance)) (x : Updated) → x ≡ updated s d → (n j : ℕ) → x .answer ≡ UpdateAnswer.Refused n j → d ≡ refused n j
-  update-no (ok a) x e n j f =
-      let q : UpdateAnswer.Accepted (a .1) ≡ UpdateAnswer.Refused n j = sym (ap (λ y. y .answer) e) ∙ f in
-      absurd (let z : _≡_ {A = ℕ} 0 1 = cc in omega arith)
-  update-no (refused m k) x e n j f =
-      let q : UpdateAnswer.Refused m k ≡ UpdateAnswer.Refused n j = sym (ap (λ y. y .answer) e) ∙ f in
-      cc
-
-  pub update-yes : (d : Res (State × HeatBalance)) (x : Updated) → x ≡ updated s d → (b : HeatBalance) → x .answer ≡ UpdateAnswer.Accepted b → d ≡ ok (x .state, b)
-  update-yes (ok a) x e b f =
-      let q : UpdateAnswer.Accepted (a .1) ≡ UpdateAnswer.Accepted b = sym (ap (λ y. y .answer) e) ∙ f in
-      let m : a .1 ≡ b = cc in
-      λ i. ok (sym e i .state, m i)
-  update-yes (refused m k) x e b f =
-      let q : UpdateAnswer.Refused m k ≡ UpdateAnswer.Accepted b = sym (ap (λ y. y .answer) e) ∙ f in
-      absurd (let z : _≡_ {A = ℕ} 0 1 = cc in omega arith)
-
-  pub hour-no : (d : Res HourResult) (x : HourStep) → x ≡ hourStepped s d → (n j : ℕ) → x .answer ≡ HourAnswer.Refused n j → d ≡ refused n j
-  hour-no (ok a) x e n j f =
-      let q : HourAnswer.Accepted (a .demand) (a .balance) ≡ HourAnswer.Refused n j = sym (ap (λ y. y .answer) e) ∙ f in
-      absurd (let z : _≡_ {A = ℕ} 0 1 = cc in omega arith)
-  hour-no (refused m k) x e n j f =
-      let q : HourAnswer.Refused m k ≡ HourAnswer.Refused n j = sym (ap (λ y. y .answer) e) ∙ f in
-      cc
-
-  pub hour-yes : (d : Res HourResult) (x : HourStep) → x ≡ hourStepped s d → (a : Demand) (b : HeatBalance)
-      → x .answer ≡ HourAnswer.Accepted a b → d ≡ ok (record { demand = a; state = x .state; balance = b })
-  hour-yes (ok r) x e a b f =
-      let q : HourAnswer.Accepted (r .demand) (r .balance) ≡ HourAnswer.Accepted a b = sym (ap (λ y. y .answer) e) ∙ f in
-      let m : r .demand ≡ a = cc in
-      let n : r .balance ≡ b = cc in
-      λ i. ok (record { demand = m i; state = sym e i .state; balance = n i })
-  hour-yes (refused m k) x e a b f =
-      let q : HourAnswer.Refused m k ≡ HourAnswer.Accepted a b = sym (ap (λ y. y .answer) e) ∙ f in
-      absurd (let z : _≡_ {A = ℕ} 0 1 = cc in omega arith)

@@ -1,15 +1,94 @@
--- A refused call hands back the state that it was given.
+-- Refusals: which numbers and indices they have; and a refused call hands back the state that it was given.
 use mathlib.Core.Path.{_≡_, refl}
-use Prim.Native.Nat.{ℕ}
+use Prim.Native.Nat.{ℕ, zero, suc}
+use mathlib.Core.Bool.{_&&_}
+use mathlib.Core.List.{List}
 use native.Mathlib.Omega.{arith}
+use lib.Ieee.{Float}
 use Rattle.solver.specs.Res.{Res, ok, refused}
+use Rattle.solver.specs.Refusals.{RefusesBy, accepts, refuses}
+use Rattle.solver.proofs.Laws.Refusals.{bind-refuses, cond-refuses, test-refuses, refuses-also}
+use Rattle.zone_head.specs.declared.building_element.Coefficients.{Coefficients}
+use Rattle.zone_head.specs.declared.zone_record.Zone.{Zone}
+use Rattle.zone_head.specs.declared.conditions.Conditions.{Conditions}
+use Rattle.zone_head.specs.Ranges.{gainsRange, fractionRange, rateRange}
+use Rattle.zone_head.proofs.Claims.Refusals.{zone-refusals}
 use Rattle.zone_temps.specs.declared.balance.HeatBalance.{HeatBalance}
 use Rattle.zone.specs.declared.state.State.{State}
 use Rattle.zone.specs.declared.state.Demand.{Demand}
 use Rattle.zone.specs.declared.state.UpdateAnswer.the-variants as UpdateAnswer
 use Rattle.zone.specs.declared.state.HourAnswer.the-variants as HourAnswer
-use Rattle.zone.specs.Hour.{HourResult}
+use Rattle.zone.specs.State.{slotsOf}
+use Rattle.zone.specs.Demand.{spaceHeatCoolDemand}
+use Rattle.zone.specs.Hour.{HourResult, tested, updateIn, updateTemperatures, demand, meetDemand, hourMet, hourResult, hourStep}
+use Rattle.zone.specs.StartUp.{startState, close, settle, settleFrom, initNodeTemps}
 use Rattle.zone.specs.Answers.{demanded, updated, hourStepped}
+use Rattle.zone.specs.Refusals.{
+  HourRefusal,
+  hourZone,
+  hourState,
+  hourConditions,
+  hourCooling,
+  hourVentilation,
+  hourSolve,
+  hourClose,
+  UpdateRefusal,
+  updateZone,
+  updateState,
+  updateConditions,
+  updateValues,
+  updateSolve,
+  StartUpRefusal,
+  startUpZone,
+  startUpVentilation,
+  startUpSolve,
+  startUpClose,
+  startUpLimit,
+}
+use Rattle.zone.proofs.Laws.Refusals.{tested-refuses, step-refuses, demand-refuses, pass-refuses}
+
+module _ (c : Coefficients) (z : Zone) where
+  module _ (s : State) (bytes : List ℕ) where
+    hour-tested : RefusesBy HourRefusal (tested z s bytes)
+    hour-tested = tested-refuses (λ n i p. hourZone p) hourState (λ n i p. hourConditions p) z s bytes
+
+    hour-demand : (h : Conditions) → RefusesBy HourRefusal (spaceHeatCoolDemand c z (slotsOf z s) h)
+    hour-demand h = demand-refuses (λ n i p. hourSolve p) c z (slotsOf z s) h hourClose (λ _. hourCooling) hourVentilation
+
+    pub demand-refusals : RefusesBy HourRefusal (demand c z s bytes)
+    unfolding demand
+    demand-refusals =
+        bind-refuses _ hour-tested λ h _.
+        hour-demand h
+
+    pub hour-step-refusals : RefusesBy HourRefusal (hourStep c z s bytes)
+    unfolding hourStep hourResult hourMet meetDemand
+    hour-step-refusals =
+        bind-refuses _ hour-tested λ h _.
+        bind-refuses _ (hour-demand h) λ d _.
+        bind-refuses _ (step-refuses (λ n i p. hourSolve p) c z s h _ _ _) λ r _.
+        accepts _
+
+    pub update-refusals : (gains fraction ach : Float) → RefusesBy UpdateRefusal (updateTemperatures c z s bytes gains fraction ach)
+    unfolding updateTemperatures updateIn
+    update-refusals gains fraction ach =
+        bind-refuses _ (tested-refuses (λ n i p. updateZone p) updateState (λ n i p. updateConditions p) z s bytes) λ h _.
+        test-refuses (gainsRange gains && fractionRange fraction && rateRange ach) 9 0 _ updateValues λ _.
+        step-refuses (λ n i p. updateSolve p) c z s h gains fraction ach
+
+  settle-refuses : (limit : ℕ) (t : List Float) → RefusesBy StartUpRefusal (settle c z limit t)
+  unfolding settle
+  settle-refuses zero t = refuses startUpLimit
+  settle-refuses (suc n) t =
+      bind-refuses _ (pass-refuses startUpVentilation (λ n i p. startUpSolve p) startUpClose c z t) λ t′ _.
+      cond-refuses (close z t t′) (accepts t) (settle-refuses n t′)
+
+  pub start-up-refusals : RefusesBy StartUpRefusal (initNodeTemps c z)
+  unfolding initNodeTemps settleFrom
+  start-up-refusals =
+      bind-refuses _ (refuses-also (λ n i p. startUpZone p) (zone-refusals z)) λ _ _.
+      bind-refuses _ (settle-refuses (z .«start_up_limit») (slotsOf z (startState z))) λ t _.
+      accepts _
 
 pub demand-keeps : (s : State) (x : Res Demand) → demanded s x .state ≡ s
 demand-keeps s (ok d) = refl

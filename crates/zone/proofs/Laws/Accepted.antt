@@ -7,7 +7,7 @@ use lib.Ieee.{Float}
 use Rattle.solver.specs.Res.{Res, ok, bind, bind-ok}
 use Rattle.zone_head.specs.declared.building_element.Coefficients.{Coefficients}
 use Rattle.zone_head.specs.declared.conditions.Conditions.{Conditions}
-use Rattle.zone_head.specs.declared.zone.Zone.{Zone}
+use Rattle.zone_head.specs.declared.zone_record.Zone.{Zone}
 use Rattle.zone_head.specs.Conditions.{conditionsOf}
 use Rattle.zone_head.specs.ZoneTest.{zoneTest}
 use Rattle.zone_head.proofs.Claims.Head.{zone-count}

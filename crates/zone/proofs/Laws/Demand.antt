@@ -9,20 +9,20 @@ use Rattle.solver.specs.F64.{zero64}
 use Rattle.solver.specs.Res.{Res, ok, refused, bind-ok}
 use Rattle.solver.specs.declared.system.Solved.{Solved}
 use Rattle.solver.specs.FastSolver.{solvedRes}
-use Rattle.zone_head.specs.declared.zone.Zone.{Zone}
+use Rattle.zone_head.specs.declared.zone_record.Zone.{Zone}
 use Rattle.zone_head.specs.declared.conditions.Conditions.{Conditions}
 use Rattle.zone_head.specs.BuildingElement.{standardCoefficients}
 use Rattle.zone.specs.declared.state.Demand.{Demand}
 use Rattle.zone.specs.declared.state.DemandAnswer.{DemandAnswer}
 use Rattle.zone.specs.declared.state.DemandAnswer.the-variants.{Accepted, Refused}
-use Rattle.zone.specs.declared.ventilation.ZoneTemperatures.{ZoneTemperatures}
-use Rattle.zone.specs.declared.ventilation.Ventilated.{Ventilated}
+use Rattle.zone.specs.declared.windows.ZoneTemperatures.{ZoneTemperatures}
+use Rattle.zone.specs.declared.windows.Ventilated.{Ventilated}
 use Rattle.zone.specs.declared.ventilation.VentilatedAnswer.{VentilatedAnswer}
 use Rattle.zone.specs.declared.ventilation.VentilatedAnswer.the-variants as VentilatedAnswer
-use Rattle.zone.specs.declared.demand.Wanted.{Wanted}
-use Rattle.zone.specs.declared.demand.Wanted.the-variants.{Neither, Towards}
-use Rattle.zone.specs.declared.demand.Interpolated.{Interpolated}
-use Rattle.zone.specs.declared.demand.Interpolated.the-variants as Interpolated
+use Rattle.zone.specs.declared.load.Wanted.{Wanted}
+use Rattle.zone.specs.declared.load.Wanted.the-variants.{Neither, Towards}
+use Rattle.zone.specs.declared.load.Interpolated.{Interpolated}
+use Rattle.zone.specs.declared.load.Interpolated.the-variants as Interpolated
 use Rattle.zone.specs.Demand.{
   achTarget,
   controlTemperature,

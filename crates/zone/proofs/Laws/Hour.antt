@@ -12,9 +12,9 @@ use Rattle.solver.specs.Res.{Res, ok, refused}
 use Rattle.solver.specs.declared.system.Solved.{Solved}
 use Rattle.solver.specs.FastSolver.{solvedOrRefused, solvedRes, fastSolver, fastSolverRes}
 use Rattle.zone_head.specs.declared.building_element.Coefficients.{Coefficients}
-use Rattle.zone_head.specs.declared.zone.Zone.{Zone}
-use Rattle.zone_head.specs.declared.zone.Verdict.{Verdict}
-use Rattle.zone_head.specs.declared.zone.Verdict.the-variants as Verdict
+use Rattle.zone_head.specs.declared.zone_record.Zone.{Zone}
+use Rattle.zone_head.specs.declared.zone_record.Verdict.{Verdict}
+use Rattle.zone_head.specs.declared.zone_record.Verdict.the-variants as Verdict
 use Rattle.zone_head.specs.declared.conditions.Conditions.{Conditions}
 use Rattle.zone_head.specs.declared.conditions.HourConditions.{HourConditions}
 use Rattle.zone_head.specs.BuildingElement.{standardCoefficients, nodeCount}

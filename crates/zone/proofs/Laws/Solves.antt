@@ -10,7 +10,7 @@ use Rattle.solver.specs.Res.{Res, ok, refused}
 use Rattle.solver.specs.declared.system.Solved.{Solved}
 use Rattle.solver.specs.FastSolver.{factored, factor, solved, substitute, solvedOrRefused, solvedRes}
 use Rattle.solver.proofs.Laws.Solver.{substitute-number}
-use Rattle.zone_head.specs.declared.zone.Zone.{Zone}
+use Rattle.zone_head.specs.declared.zone_record.Zone.{Zone}
 use Rattle.zone_head.specs.declared.conditions.Conditions.{Conditions}
 use Rattle.zone_head.specs.BuildingElement.{standardCoefficients}
 use Rattle.zone_temps.specs.declared.time_step.ZoneTerms.{ZoneTerms}

@@ -13,9 +13,9 @@ use Rattle.solver.proofs.Laws.Fill.{fill-next, fill-done}
 use Rattle.solver.proofs.Laws.Parts.{drop-next}
 use Rattle.zone_head.specs.declared.building_element.Element.{Element}
 use Rattle.zone_head.specs.declared.building_element.ElementHour.{ElementHour}
-use Rattle.zone_head.specs.declared.zone.Zone.{Zone}
-use Rattle.zone_head.specs.declared.zone.Verdict.{Verdict}
-use Rattle.zone_head.specs.declared.zone.Verdict.the-variants as Verdict
+use Rattle.zone_head.specs.declared.zone_record.Zone.{Zone}
+use Rattle.zone_head.specs.declared.zone_record.Verdict.{Verdict}
+use Rattle.zone_head.specs.declared.zone_record.Verdict.the-variants as Verdict
 use Rattle.zone_head.specs.declared.conditions.Conditions.{Conditions}
 use Rattle.zone_head.specs.declared.conditions.AirChangesPerHourArgument.{AirChangesPerHourArgument}
 use Rattle.zone_head.specs.declared.conditions.AirChangesPerHourArgument.the-variants.{Cooling}
@@ -28,8 +28,8 @@ use Rattle.zone.specs.declared.state.DemandAnswer.{DemandAnswer}
 use Rattle.zone.specs.declared.state.DemandAnswer.the-variants as DemandAnswer
 use Rattle.zone.specs.declared.state.StartUp.{StartUp}
 use Rattle.zone.specs.declared.state.AchToTriggerHeating.the-variants.{Absent}
-use Rattle.zone.specs.declared.ventilation.ZoneTemperatures.{ZoneTemperatures}
-use Rattle.zone.specs.declared.ventilation.Ventilated.{Ventilated}
+use Rattle.zone.specs.declared.windows.ZoneTemperatures.{ZoneTemperatures}
+use Rattle.zone.specs.declared.windows.Ventilated.{Ventilated}
 use Rattle.zone.specs.State.{slotsOf, stateOf}
 use Rattle.zone.specs.Demand.{achTarget, zoneTemperatures, freeTemperatures, temperaturesWith, ventilated, calcCoolingPotentialFromVentilation, wanted, demandFrom, spaceHeatCoolDemand}
 use Rattle.zone.specs.Hour.{delivered}

@@ -9,18 +9,18 @@ use Rattle.solver.specs.Res.{Res, ok, refused}
 use Rattle.solver.specs.Near.{closeInWindowsTest}
 use Rattle.solver.specs.declared.system.Solved.{Solved}
 use Rattle.solver.specs.FastSolver.{Factored, factored, solvedRes}
-use Rattle.zone_head.specs.declared.zone.Zone.{Zone}
+use Rattle.zone_head.specs.declared.zone_record.Zone.{Zone}
 use Rattle.zone_head.specs.declared.conditions.Conditions.{Conditions}
-use Rattle.zone_head.specs.declared.zone.ZoneTemperatureControlBasis.{ZoneTemperatureControlBasis}
-use Rattle.zone_head.specs.declared.zone.ZoneTemperatureControlBasis.the-variants.{Operative}
+use Rattle.zone_head.specs.declared.zone_record.ZoneTemperatureControlBasis.{ZoneTemperatureControlBasis}
+use Rattle.zone_head.specs.declared.zone_record.ZoneTemperatureControlBasis.the-variants.{Operative}
 use Rattle.zone_head.specs.declared.conditions.AirChangesPerHourArgument.{AirChangesPerHourArgument}
 use Rattle.zone_head.specs.declared.conditions.AirChangesPerHourArgument.the-variants.{Cooling, TargetAndWindowsOpen}
 use Rattle.zone_head.specs.BuildingElement.{standardCoefficients}
 use Rattle.zone_temps.specs.TempOperative.{tempOperative}
 use Rattle.zone.specs.declared.state.AchToTriggerHeating.{AchToTriggerHeating}
 use Rattle.zone.specs.declared.state.AchToTriggerHeating.the-variants.{Absent, At}
-use Rattle.zone.specs.declared.ventilation.ZoneTemperatures.{ZoneTemperatures}
-use Rattle.zone.specs.declared.ventilation.Ventilated.{Ventilated}
+use Rattle.zone.specs.declared.windows.ZoneTemperatures.{ZoneTemperatures}
+use Rattle.zone.specs.declared.windows.Ventilated.{Ventilated}
 use Rattle.zone.specs.declared.ventilation.VentilatedAnswer.{VentilatedAnswer}
 use Rattle.zone.specs.declared.ventilation.VentilatedAnswer.the-variants.{Accepted, Refused}
 use Rattle.zone.specs.Demand.{temperatureBy, controlTemperature, zoneTemperatures, achToReach, windowsCool, ventilated, withWindows, achTarget, freeTemperatures, coolByWindows, withChoice, chooseRate, calcCoolingPotentialFromVentilation}

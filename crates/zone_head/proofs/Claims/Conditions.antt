@@ -8,7 +8,7 @@ use lib.Dec.{leb, eqb}
 use lib.ListN.{length, take}
 use Rattle.solver.specs.Res.{Res, ok, refused, bind, bind-ok, need, needAt, need-ok}
 use Rattle.zone_head.specs.Conditions.{conditionsAt, conditionsTest, rateCodeGood, openBitsGood, testedAt, conditionsFor, conditionsOf, treatmentsOf}
-use Rattle.zone_head.specs.declared.zone.Zone.{Zone}
+use Rattle.zone_head.specs.declared.zone_record.Zone.{Zone}
 use Rattle.zone_head.specs.declared.conditions.Conditions.{Conditions}
 
 -- accepted conditions

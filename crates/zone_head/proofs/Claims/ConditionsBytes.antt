@@ -17,7 +17,7 @@ use Rattle.zone_head.specs.ZoneTest.{elementHourInRange}
 use Rattle.zone_head.specs.Conditions.{achArgsAt, elementHoursAt, conditionsAt, rateCodeGood, openBitsGood, hourAndGainsInRange, setpointsInRange, achArgsInRange, elementHoursTest, conditionsTest, conditionsFor, conditionsOf, treatmentsOf}
 use Rattle.zone_head.specs.Encoding.{floatBytes, rowBytes, elementHourBytes, elementHoursBytes, achArgsBytes, conditionsBytes}
 use Rattle.zone_head.specs.declared.building_element.ElementHour.{ElementHour}
-use Rattle.zone_head.specs.declared.zone.Zone.{Zone}
+use Rattle.zone_head.specs.declared.zone_record.Zone.{Zone}
 use Rattle.zone_head.specs.declared.conditions.Conditions.{Conditions}
 use Rattle.zone_head.specs.declared.conditions.AirChangesPerHourArgument.the-variants.{Cooling, TargetAndWindowsOpen}
 use Rattle.zone_head.proofs.Laws.Shape.{and-true}

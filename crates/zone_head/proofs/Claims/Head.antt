@@ -15,7 +15,7 @@ use Rattle.zone_head.specs.Reading.{elementAt, elementsAt, zoneAt, noEle
 use Rattle.zone_head.specs.ZoneTest.{valuesTest, treatmentsTest, countsTest, zoneTest}
 use Rattle.zone_head.specs.Head.{elementsEnd, lengthField, structureWithin, structureOf, headOf}
 use Rattle.zone_head.specs.declared.building_element.Element.{Element}
-use Rattle.zone_head.specs.declared.zone.Zone.{Zone}
+use Rattle.zone_head.specs.declared.zone_record.Zone.{Zone}
 use Rattle.zone_head.proofs.Laws.Shape.{and-true, treatments-few}
 use Rattle.zone_head.proofs.Laws.Structure.{Whole, whole-of, Structured, structured}
 use Rattle.zone_head.proofs.Laws.Same.{byte-same, num-same, end-same, zone-same}

@@ -18,7 +18,7 @@ use Rattle.zone_head.specs.Ranges.{areaRange, pitchRange, coefficientRan
 use Rattle.zone_head.specs.ZoneTest.{elementHourInRange, arraysInRange, tailInRange, elementInRange, frontInRange, elementValuesTest, valuesTest}
 use Rattle.zone_head.specs.Head.{elementsEnd, lengthField, headOf}
 use Rattle.zone_head.specs.Encoding.{rowBytes, elementHourBytes, kindNumber, basisNumber, elementBytes, elementsBytes, headBytes}
-use Rattle.zone_head.specs.declared.zone.Zone.{Zone}
+use Rattle.zone_head.specs.declared.zone_record.Zone.{Zone}
 use Rattle.zone_head.proofs.Laws.Shape.{and-true, shaped, treatments-few}
 use Rattle.zone_head.proofs.Laws.Structure.{Whole, whole-of, Structured, structured}
 use Rattle.zone_head.proofs.Laws.RoundTrip.{Bytes, Number, Numbers, part, part-add, part-one, number-part, row-part}

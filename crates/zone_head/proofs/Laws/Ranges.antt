@@ -15,9 +15,9 @@ use Rattle.zone_head.specs.Shape.{maxTreatments}
 use Rattle.zone_head.specs.Ranges.{allIn}
 use Rattle.zone_head.specs.ZoneTest.{elementInRange, elementValuesTest, treatmentsTest, countsTest, verdictOf}
 use Rattle.zone_head.specs.declared.building_element.Element.{Element}
-use Rattle.zone_head.specs.declared.zone.Zone.{Zone}
-use Rattle.zone_head.specs.declared.zone.Verdict.{Verdict}
-use Rattle.zone_head.specs.declared.zone.Verdict.the-variants.{Accepted, Refused}
+use Rattle.zone_head.specs.declared.zone_record.Zone.{Zone}
+use Rattle.zone_head.specs.declared.zone_record.Verdict.{Verdict}
+use Rattle.zone_head.specs.declared.zone_record.Verdict.the-variants.{Accepted, Refused}
 use Rattle.zone_head.proofs.Laws.Lists.{from}
 use Rattle.zone_head.proofs.Laws.Shape.{and-true}
 
@@ -65,12 +65,12 @@ pub verdict-refused : (r : Res (Unit {0})) (a b : ℕ) → verdictOf r ≡ Refus
 verdict-refused (ok tt) a b e = absurd (let z : _≡_ {A = ℕ} 0 1 = cc in omega arith)
 verdict-refused (refused x y) a b e = cc
 
-pub count-few : (n : ℕ) → (leb 1 n && leb n 24) ≡ true → n ≤ 24
-count-few n e = leb-true n 24 (and-true (leb 1 n) (leb n 24) e .1)
+pub count-few : (a : Bool) (n : ℕ) → (a && leb n 24) ≡ true → n ≤ 24
+count-few a n e = leb-true n 24 (and-true a (leb n 24) e .1)
 
 -- a zone whose counts are accepted has at most 24 elements
 pub counts-few : (z : Zone) → countsTest z ≡ ok tt → z .count ≤ 24
 unfolding countsTest
 counts-few z e =
     let b = bind-ok (needAt (leb 1 (z .count) && leb (z .count) 24) 4 0) _ tt e in
-    count-few (z .count) (need-ok (leb 1 (z .count) && leb (z .count) 24) 4 0 (b .0) (b .1))
+    count-few (leb 1 (z .count)) (z .count) (need-ok (leb 1 (z .count) && leb (z .count) 24) 4 0 (b .0) (b .1))

@@ -16,7 +16,7 @@ use Rattle.zone_head.specs.Reading.{floatsAt, arrayAt, elementHourAt, el
 use Rattle.zone_head.specs.Head.{elementsEnd}
 use Rattle.zone_head.specs.declared.building_element.Kind.{Kind}
 use Rattle.zone_head.specs.declared.building_element.Element.{Element}
-use Rattle.zone_head.specs.declared.zone.Zone.{Zone}
+use Rattle.zone_head.specs.declared.zone_record.Zone.{Zone}
 use Rattle.zone_head.proofs.Laws.Shape.{shaped, treatments-few}
 use Rattle.zone_head.proofs.Laws.Structure.{Whole, whole-of}
 

@@ -11,7 +11,7 @@ use Rattle.solver.specs.FastSolver.{factored, factor, solved, substitute, fastS
 use Rattle.solver.proofs.Laws.Solver.{solver-12, solver-13, solver-ok}
 use Rattle.zone_head.specs.declared.building_element.Coefficients.{Coefficients}
 use Rattle.zone_head.specs.declared.conditions.Conditions.{Conditions}
-use Rattle.zone_head.specs.declared.zone.Zone.{Zone}
+use Rattle.zone_head.specs.declared.zone_record.Zone.{Zone}
 use Rattle.zone_temps.specs.declared.time_step.ZoneTerms.{ZoneTerms}
 use Rattle.zone_head.specs.Ventilation.{calcVentHeatTransferCoeff}
 use Rattle.zone_temps.specs.System.{assembled, rightSideWith}

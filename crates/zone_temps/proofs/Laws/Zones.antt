@@ -11,7 +11,7 @@ use Rattle.solver.specs.F64.{zero64}
 use Rattle.solver.specs.Sums.{sum2, terms}
 use Rattle.solver.specs.FastSolver.{atMost24}
 use Rattle.zone_head.specs.declared.building_element.Element.{Element}
-use Rattle.zone_head.specs.declared.zone.Zone.{Zone}
+use Rattle.zone_head.specs.declared.zone_record.Zone.{Zone}
 use Rattle.zone_head.specs.BuildingElement.{numberOfNodes, nodesOf, nodeCount}
 use Rattle.zone_temps.specs.Slots.{at, element}
 use Rattle.zone_temps.specs.System.{areaOf, areaElTotal, twoNodesOf, zoneTwoNodes}

@@ -1,0 +1,24 @@
+-- Document 01, "Refused, operation by operation": which numbers and indices begin, append and take-up can be refused with.
+use Prim.Native.Nat.{ℕ, _<_}
+use Rattle.zone_head.specs.Refusals.{HeadRefusal, ZoneRefusal}
+use Rattle.zone.specs.Refusals.{HourRefusal, StartUpRefusal}
+
+-- "Begin book: head, start-up, then buffer too short, 16."
+pub data BeginRefusal : (number index : ℕ) → Type 0 where
+  beginHead : {number index : ℕ} → HeadRefusal number index → BeginRefusal number index
+  beginStartUp : {number index : ℕ} → StartUpRefusal number index → BeginRefusal number index
+  beginBuffer : BeginRefusal 16 0
+
+-- "Append: 8,784 entries held, 17; the hour step's; buffer, 16." The zone is tested first.
+pub data AppendRefusal : (number index : ℕ) → Type 0 where
+  appendZone : {number index : ℕ} → ZoneRefusal number index → AppendRefusal number index
+  appendHeld : AppendRefusal 17 0
+  appendHour : {number index : ℕ} → HourRefusal number index → AppendRefusal number index
+  appendBuffer : AppendRefusal 16 0
+
+-- "Take up: head; start-up; then per whole entry, a 8,785th 17, a false one 18", with the entry's index from 0
+pub data TakeUpRefusal : (number index : ℕ) → Type 0 where
+  takeUpHead : {number index : ℕ} → HeadRefusal number index → TakeUpRefusal number index
+  takeUpStartUp : {number index : ℕ} → StartUpRefusal number index → TakeUpRefusal number index
+  takeUpMany : TakeUpRefusal 17 0
+  takeUpFalse : (entry : ℕ) → entry < 8784 → TakeUpRefusal 18 entry

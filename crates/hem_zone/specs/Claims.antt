@@ -1,0 +1,73 @@
+-- What a caller learns from what a call returned: 0 exactly where it is accepted, else the refusal, of which nothing is cut off; one claim for each
+-- function.
+use Prim.Native.Nat.{ℕ, _+_, _*_, _%_, _/_}
+use mathlib.Core.Path.{_≡_}
+use mathlib.Core.Logic.{_↔_}
+use mathlib.Core.List.{List}
+use lib.Ieee.{Float}
+use Rattle.solver.specs.Res.{Res, ok, refused}
+use Rattle.zone_head.specs.BuildingElement.{standardCoefficients}
+use Rattle.zone_head.specs.Head.{headOf}
+use Rattle.zone_head.specs.Refusals.{HeadRefusal}
+use Rattle.zone.specs.Hour.{demand, updateTemperatures, hourStep}
+use Rattle.zone.specs.StartUp.{initNodeTemps}
+use Rattle.zone.specs.Refusals.{HourRefusal, UpdateRefusal, StartUpRefusal}
+use Rattle.plain_book.specs.Calls as Book
+use Rattle.book.specs.Year.{year}
+use Rattle.book.specs.Refusals.{BeginRefusal, AppendRefusal, TakeUpRefusal}
+use Rattle.hem_zone.specs.Arrays.{stateIn, demandOut}
+use Rattle.hem_zone.specs.Zone.{withZone, hemHead, startUpOut, hemStartUp, hemDemand, updateOut, hemUpdate, hourOut, hemHourStep}
+use Rattle.hem_zone.specs.Book.{Held, valuesOf, heldOf, bookOut, hemBegin, hemAppend, hemTakeUp}
+
+-- the head is read first, 1 to 5; then what the call is refused with
+pub data AfterHead (P : (number index : ℕ) → Type 0) : (number index : ℕ) → Type 0 where
+  ofHead : {number index : ℕ} → HeadRefusal number index → AfterHead P number index
+  ofCall : {number index : ℕ} → P number index → AfterHead P number index
+
+-- a returned number that stands for a refusal, which is one that P allows: HEM_NUMBER and HEM_INDEX of the C header read number and index back
+pub record Refusal (P : (number index : ℕ) → Type 0) {A : Type 0} (r : Res A) (code : ℕ) : Type 0 where
+  pub number : ℕ
+  pub index : ℕ
+  pub is-refused : r ≡ refused number index
+  pub allowed : P number index
+  pub exact : code ≡ number + 256 * index
+  pub «HEM_NUMBER» : code % 256 ≡ number
+  pub «HEM_INDEX» : code / 256 ≡ index
+
+-- what the number that a call returned tells of its result r
+pub record Returned (P : (number index : ℕ) → Type 0) {A : Type 0} (r : Res A) (code : ℕ) : Type 0 where
+  pub accepted : (code ≡ 0) ↔ ((a : A) × (r ≡ ok a))
+  pub not-accepted : (code ≡ 0 → ⊥) → Refusal P r code
+
+-- and what it tells of the lent arrays, which stand behind it
+pub record Answered (P : (number index : ℕ) → Type 0) {A B : Type 0} (written : A → B) (before : B) (r : Res A) (answer : ℕ × B) : Type 0 where
+  pub returned : Returned P r (answer .0)
+  pub writes : (a : A) → r ≡ ok a → answer .1 ≡ written a
+  pub keeps : (answer .0 ≡ 0 → ⊥) → answer .1 ≡ before
+
+-- for every input of each function
+pub record Claims : Type 0 where
+  pub «hem_head» : (head : List ℕ) → Returned HeadRefusal (headOf head) (hemHead head)
+  pub «hem_start_up» :
+      (head : List ℕ) (temps : List Float) (nodes : ℕ)
+      → Answered (AfterHead StartUpRefusal) startUpOut (temps, nodes) (withZone head (initNodeTemps standardCoefficients)) (hemStartUp head temps nodes)
+  pub «hem_demand» :
+      (head : List ℕ) (temps : List Float) (nodes : ℕ) (conditions : List ℕ) (out : List Float)
+      → Answered (AfterHead HourRefusal) demandOut out (withZone head λ z. demand standardCoefficients z (stateIn temps nodes) conditions)
+      (hemDemand head temps nodes conditions out)
+  pub «hem_update» :
+      (head : List ℕ) (temps : List Float) (nodes : ℕ) (conditions : List ℕ) (gains fraction rate : Float) (balance : List Float)
+      → Answered (AfterHead UpdateRefusal) updateOut (temps, balance)
+      (withZone head λ z. updateTemperatures standardCoefficients z (stateIn temps nodes) conditions gains fraction rate)
+      (hemUpdate head temps nodes conditions gains fraction rate balance)
+  pub «hem_hour_step» :
+      (head : List ℕ) (temps : List Float) (nodes : ℕ) (conditions : List ℕ) (out balance : List Float)
+      → Answered (AfterHead HourRefusal) hourOut (temps, out, balance) (withZone head λ z. hourStep standardCoefficients z (stateIn temps nodes) conditions)
+      (hemHourStep head temps nodes conditions out balance)
+  pub «hem_begin» :
+      (head buf : List ℕ) (held : Held) → Answered BeginRefusal bookOut (buf, held) (Book.beginRes year head buf) (hemBegin head buf held)
+  pub «hem_append» :
+      (head buf : List ℕ) (held : Held) (conditions : List ℕ)
+      → Answered (AfterHead AppendRefusal) bookOut (buf, held) (withZone head λ z. Book.appendRes year z (valuesOf held) conditions buf)
+      (hemAppend head buf held conditions)
+  pub «hem_take_up» : (bytes : List ℕ) (held : Held) → Answered TakeUpRefusal heldOf held (Book.takeUpRes year bytes) (hemTakeUp bytes held)

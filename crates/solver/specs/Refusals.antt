@@ -1,0 +1,13 @@
+-- Which refusals a result can be, by number and index; and those of the solver (document 01, "Refused, operation by operation").
+use Prim.Native.Nat.{ℕ}
+use Rattle.solver.specs.Res.{Res, ok, refused}
+
+-- every refusal of a result is one that P allows
+pub data RefusesBy {A : Type 0} (P : (number index : ℕ) → Type 0) : Res A → Type 0 where
+  accepts : (a : A) → RefusesBy P (ok a)
+  refuses : {number index : ℕ} → P number index → RefusesBy P (refused number index)
+
+-- "then per solve: a divisor of a chain or a dense pivot that is zero or not finite, 12; node temperature not finite or beyond ±1e6, 13"
+pub data SolveRefusal : (number index : ℕ) → Type 0 where
+  divisor : SolveRefusal 12 0
+  temperature : SolveRefusal 13 0

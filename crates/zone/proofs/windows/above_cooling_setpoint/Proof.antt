@@ -1,0 +1,13 @@
+use mathlib.Core.Path.{refl}
+use borrow.Author.Needs.{needs}
+use Rattle.zone.proofs.windows.above_cooling_setpoint.Statement.{statement}
+use Rattle.zone.proofs.windows.above_cooling_setpoint.Tie as tie
+
+close-in-windows-test-requires : tie.Need-close-in-windows-test-requires
+close-in-windows-test-requires c κs = search needs
+
+returns : tie.Need-returns
+returns c = rw (c .close-in-windows-test .ensures) refl
+
+pub above-cooling-setpoint-spec : {M : Type 1} → statement M
+above-cooling-setpoint-spec = tie.close (tie.spec close-in-windows-test-requires returns)
