@@ -1,6 +1,5 @@
 -- What the functions answer, for what the definitions say: document 01's number and index of a refusal, and the values handed back.
 use Prim.Native.Nat.{ℕ}
-use mathlib.Core.Path.{_≡_, refl}
 use Rattle.solver.specs.Res.{Res, ok, refused}
 use Rattle.zone_head.specs.declared.zone_record.Verdict.{Verdict}
 use Rattle.zone_head.specs.declared.zone_record.Verdict.the-variants.{Accepted, Refused}
@@ -39,13 +38,7 @@ code =
       valuesIn = valuesIn;
       answerOf = answerOf;
       replyIn = replyIn;
-      given-back = λ v. refl;
-      answer-back = back;
     }
-  where
-    back : (a : Book.Answer State) → answerOf (replyIn a) ≡ a
-    back (Book.accepted v) = refl
-    back (Book.refusedWith number index v) = refl
 
 -- an entry's check: the state after it, or 18 and the state before it
 abbrev pub checkedEntry : (before : State) → Res State → CheckedEntry

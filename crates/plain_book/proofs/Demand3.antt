@@ -11,17 +11,17 @@ use Rattle.plain_book.specs.Layers.{Layers, Laws}
 use Rattle.plain_book.specs.Calls as Book
 use Rattle.plain_book.specs.Plain.{View}
 use Rattle.plain_book.specs.Run.{callBegin, callAppend, callTakeUp, callCut, Calls, Event, Held, make, run, replaced, afterAppend, afterTakeUp}
-use Rattle.plain_book.specs.Session.{CodeTypes, HeldBook, Returned, Session, ends, begins, appends, takesUp, cuts, replacedBy, replacing, continuing, replyOut, heldOut, returnedOf}
+use Rattle.plain_book.specs.Session.{CodeTypes, AnswerOfCall, ofBegin, ofAppend, ofTakeUp, CodeLaws, HeldBook, Returned, Session, ends, begins, appends, takesUp, cuts, replacedBy, replacing, continuing, replyOut, heldOut, returnedOf}
 use Rattle.plain_book.specs.Claims.{Demand3}
 use Rattle.plain_book.proofs.Whole.{whole}
 
-module _ (L : Layers) (T : CodeTypes L) where
+module _ (L : Layers) (T : CodeTypes L) (C : CodeLaws L T) where
   some-book : {b c : HeldBook L T} → some b ≡ some c → b ≡ c
   some-book e = cc
 
   -- a reply that is an answer's stands for that answer
-  stands : (r : T .Reply) (a : Book.Answer (L .State)) → r ≡ T .replyIn a → T .answerOf r ≡ a
-  stands r a e = ap (T .answerOf) e ∙ T .answer-back a
+  stands : (r : T .Reply) (a : Book.Answer (L .State)) → AnswerOfCall L a → r ≡ T .replyIn a → T .answerOf r ≡ a
+  stands r a p e = ap (T .answerOf) e ∙ C .answer-back a p
 
   pub replaces : (H : Held L) (bytes : List ℕ) (a : Book.Answer (L .State)) → replacedBy L T (heldOut L T H) bytes a ≡ heldOut L T (replaced L H bytes a)
   replaces H bytes (Book.accepted v) = refl
@@ -41,7 +41,7 @@ module _ (L : Layers) (T : CodeTypes L) where
   same-book : (b : HeldBook L T) (v : View (L .State)) → some b ≡ heldOut L T (some v) → SameBook b v
   same-book b v e =
       let q : b ≡ record { bytes = v .bytes; values = T .valuesIn (v .values) } = some-book e in
-      record { bytes = ap (λ x. x .bytes) q; given = ap (λ x. T .givenOf (x .values)) q ∙ T .given-back (v .values) }
+      record { bytes = ap (λ x. x .bytes) q; given = ap (λ x. T .givenOf (x .values)) q ∙ C .given-back (v .values) }
 
   no-book : {B : Type 0} (b : HeldBook L T) → some b ≡ heldOut L T none → B
   no-book b e = let z : _≡_ {A = ℕ} 0 1 = cc in absurd (omega arith)
@@ -53,12 +53,13 @@ module _ (L : Layers) (T : CodeTypes L) where
   session-run (begins h cs rs head buf g r out m rest) H e =
       let d : Book.Outcome (L .State) = Book.begin L head (T .givenOf g) buf in
       let k : replacing L T h out r ≡ heldOut L T (replaced L H (d .buffer) (d .answer)) =
-      (λ i. replacedBy L T (e i) (m .bytes i) (stands r (d .answer) (m .reply) i)) ∙ replaces H (d .buffer) (d .answer) in
+      (λ i. replacedBy L T (e i) (m .bytes i) (stands r (d .answer) (ofBegin head (T .givenOf g) buf) (m .reply) i)) ∙ replaces H (d .buffer) (d .answer) in
       follow r (some out) (replacing L T h out r) (make L H (callBegin head (T .givenOf g) buf)) cs rs
       (ap some (m .reply)) (ap some (m .bytes)) k (session-run rest (replaced L H (d .buffer) (d .answer)) k)
   session-run (takesUp h cs rs bytes g r m rest) H e =
       let a : Book.Answer (L .State) = Book.takeUp L (T .givenOf g) bytes in
-      let k : replacing L T h bytes r ≡ heldOut L T (replaced L H bytes a) = (λ i. replacedBy L T (e i) bytes (stands r a m i)) ∙ replaces H bytes a in
+      let k : replacing L T h bytes r ≡ heldOut L T (replaced L H bytes a) =
+      (λ i. replacedBy L T (e i) bytes (stands r a (ofTakeUp (T .givenOf g) bytes) m i)) ∙ replaces H bytes a in
       follow r none (replacing L T h bytes r) (make L H (callTakeUp (T .givenOf g) bytes)) cs rs (ap some m) refl k (session-run rest (replaced L H bytes a) k)
   session-run (appends b cs rs z n i spare r out hd m rest) H e = go H e (λ K k. session-run rest K k)
     where
@@ -72,7 +73,7 @@ module _ (L : Layers) (T : CodeTypes L) where
           let q : Book.append L z (T .givenOf (b .values)) i (b .bytes ++ spare) ≡ d = λ t. Book.append L z (s .given t) i (s .bytes t ++ spare) in
           let a : r ≡ T .replyIn (d .answer) = m .reply ∙ ap (λ x. T .replyIn (x .answer)) q in
           let o : out ≡ d .buffer = m .bytes ∙ ap (λ x. x .buffer) q in
-          let u = stands r (d .answer) a in
+          let u = stands r (d .answer) (ofAppend z (v .values) i (v .bytes ++ spare)) a in
           let K : Held L = some (record { bytes = take (Book.handedBack (d .answer) .used) (d .buffer); values = Book.handedBack (d .answer) }) in
           let k : some (continuing L T out r) ≡ heldOut L T K =
           λ t. some (record { bytes = take (Book.handedBack (u t) .used) (o t); values = T .valuesIn (Book.handedBack (u t)) }) in
@@ -93,11 +94,11 @@ module _ (L : Layers) (T : CodeTypes L) where
           let a : Book.Answer (L .State) = Book.takeUp L (v .values) w in
           let q : r ≡ T .replyIn a = m ∙ (λ t. T .replyIn (Book.takeUp L (s .given t) (take at (s .bytes t)))) in
           let k : replacing L T (some b) bytes r ≡ heldOut L T (replaced L (some v) w a) =
-          (λ t. replacedBy L T (e t) (take at (s .bytes t)) (stands r a q t)) ∙ replaces (some v) w a in
+          (λ t. replacedBy L T (e t) (take at (s .bytes t)) (stands r a (ofTakeUp (v .values) w) q t)) ∙ replaces (some v) w a in
           let hv : L .headOf (v .bytes) ≡ ok (z, n) = ap (L .headOf) (sym (s .bytes)) ∙ hd in
           let up : at ≤ v .values .used = subst (λ x. at ≤ x .used) (s .given) hi in
           rw (hv, le-leb n at lo, le-leb at (v .values .used) up)
           (follow r none (replacing L T (some b) bytes r) (afterTakeUp L (some v) w a) cs rs (ap some q) refl k (rec (replaced L (some v) w a) k))
 
-pub demand-3 : (L : Layers) → Laws L → (T : CodeTypes L) → Demand3 L T
-demand-3 L W T cs rs s = session-run L T s none refl ∙ ap (map (returnedOf L T)) (whole L W cs)
+pub demand-3 : (L : Layers) → Laws L → (T : CodeTypes L) → CodeLaws L T → Demand3 L T
+demand-3 L W T C cs rs s = session-run L T C s none refl ∙ ap (map (returnedOf L T)) (whole L W cs)

@@ -14,30 +14,30 @@ use Rattle.plain_book.specs.Layers.{Layers, Laws}
 use Rattle.plain_book.specs.Calls as Book
 use Rattle.plain_book.specs.Plain.{empty, View}
 use Rattle.plain_book.specs.Run.{Call, callBegin, callAppend, callTakeUp, callCut, Calls, Event, Held, make, makeAppend, makeCut, notMade, run, replaced, afterBegin, afterAppend, afterTakeUp, plainRun}
-use Rattle.plain_book.specs.Session.{CodeTypes, Meets, HeldBook, Returned, Session, ends, begins, appends, takesUp, cuts, replacedBy, replacing, continuing, replyOut, heldOut, returnedOf}
+use Rattle.plain_book.specs.Session.{CodeTypes, AnswerOfCall, ofBegin, ofAppend, ofTakeUp, CodeLaws, Meets, HeldBook, Returned, Session, ends, begins, appends, takesUp, cuts, replacedBy, replacing, continuing, replyOut, heldOut, returnedOf}
 use Rattle.plain_book.specs.Claims.{AllMade, SessionExists, SessionExactly}
 use Rattle.plain_book.proofs.Laws.Bytes.{and-parts}
 use Rattle.plain_book.proofs.Whole.{whole}
 use Rattle.plain_book.proofs.Demand3.{replaces, demand-3}
 
-module _ (L : Layers) (T : CodeTypes L) where
-  no-answer : {A B : Type 0} (a : A) → none ≡ some a → B
-  no-answer a e = let z : _≡_ {A = ℕ} 0 1 = cc in absurd (omega arith)
+no-answer : {A B : Type 0} (a : A) → none ≡ some a → B
+no-answer a e = let z : _≡_ {A = ℕ} 0 1 = cc in absurd (omega arith)
 
+module _ (L : Layers) (T : CodeTypes L) (C : CodeLaws L T) where
   -- all values are those of some at the functions' types, so what holds of these holds of all
   of-given : (P : Book.Values (L .State) → Type 0) → ((w : T .Values) → P (T .givenOf w)) → (g : Book.Values (L .State)) → P g
-  of-given P f g = subst P (T .given-back g) (f (T .valuesIn g))
+  of-given P f g = subst P (C .given-back g) (f (T .valuesIn g))
 
   -- the book held after the reply for an answer
-  replacing-answer : (H : Held L) (bytes : List ℕ) (a : Book.Answer (L .State))
+  replacing-answer : (H : Held L) (bytes : List ℕ) (a : Book.Answer (L .State)) → AnswerOfCall L a
       → replacing L T (heldOut L T H) bytes (T .replyIn a) ≡ heldOut L T (replaced L H bytes a)
-  replacing-answer H bytes a = ap (replacedBy L T (heldOut L T H) bytes) (T .answer-back a) ∙ replaces L T H bytes a
+  replacing-answer H bytes a p = ap (replacedBy L T (heldOut L T H) bytes) (C .answer-back a p) ∙ replaces L T C H bytes a
 
-  continuing-answer : (out : List ℕ) (a : Book.Answer (L .State))
+  continuing-answer : (out : List ℕ) (a : Book.Answer (L .State)) → AnswerOfCall L a
       → some (continuing L T out (T .replyIn a))
       ≡ heldOut L T (some (record { bytes = take (Book.handedBack a .used) out; values = Book.handedBack a }))
-  continuing-answer out a =
-      ap (λ x. some (record { bytes = take (Book.handedBack x .used) out; values = T .valuesIn (Book.handedBack x) })) (T .answer-back a)
+  continuing-answer out a p =
+      ap (λ x. some (record { bytes = take (Book.handedBack x .used) out; values = T .valuesIn (Book.handedBack x) })) (C .answer-back a p)
 
   -- from every book held, calls that may be made have a session
   abbrev Sessions : Calls L → Type 0
@@ -71,14 +71,15 @@ module _ (L : Layers) (T : CodeTypes L) where
         let d : Book.Outcome (L .State) = Book.begin L head (T .givenOf w) buf in
         let r : T .Reply = T .replyIn (d .answer) in
         before H (replaced L H (d .buffer) (d .answer)) (callBegin head (T .givenOf w) buf) r (some (d .buffer)) _
-        (replacing-answer H (d .buffer) (d .answer)) (m .1)
+        (replacing-answer H (d .buffer) (d .answer) (ofBegin head (T .givenOf w) buf)) (m .1)
         (begins (heldOut L T H) cs _ head buf w r (d .buffer) (record { reply = refl; bytes = refl }))
 
     one-take-up : (H : Held L) (bytes : List ℕ) (w : T .Values)
         → OneCall H (callTakeUp (T .givenOf w) bytes) (afterTakeUp L H bytes (Book.takeUp L (T .givenOf w) bytes))
     one-take-up H bytes w m =
         let a : Book.Answer (L .State) = Book.takeUp L (T .givenOf w) bytes in
-        before H (replaced L H bytes a) (callTakeUp (T .givenOf w) bytes) (T .replyIn a) none _ (replacing-answer H bytes a) (m .1)
+        before H (replaced L H bytes a) (callTakeUp (T .givenOf w) bytes) (T .replyIn a) none _
+        (replacing-answer H bytes a (ofTakeUp (T .givenOf w) bytes)) (m .1)
         (takesUp (heldOut L T H) cs _ bytes w (T .replyIn a) refl)
 
     -- calls on a book, which are given its values at the functions' types
@@ -87,7 +88,7 @@ module _ (L : Layers) (T : CodeTypes L) where
       held = record { bytes = v .bytes; values = T .valuesIn (v .values) }
 
       back : v .values ≡ T .givenOf (held .values)
-      back = sym (T .given-back (v .values))
+      back = sym (C .given-back (v .values))
 
       one-append : (i : L .Item) (spare : List ℕ) (x : Res (L .Zone × ℕ)) → L .headOf (v .bytes) ≡ x
           → OneCall (some v) (callAppend i spare) (makeAppend L v i spare x)
@@ -96,7 +97,8 @@ module _ (L : Layers) (T : CodeTypes L) where
           λ m.
           let d : Book.Outcome (L .State) = Book.append L (h .0) (v .values) i (v .bytes ++ spare) in
           let r : T .Reply = T .replyIn (d .answer) in
-          before (some v) (afterAppend L d .held) (callAppend i spare) r (some (d .buffer)) _ (continuing-answer (d .buffer) (d .answer)) (m .1)
+          before (some v) (afterAppend L d .held) (callAppend i spare) r (some (d .buffer)) _
+          (continuing-answer (d .buffer) (d .answer) (ofAppend (h .0) (v .values) i (v .bytes ++ spare))) (m .1)
           (appends held cs _ (h .0) (h .1) i spare r (d .buffer) e
           (subst (λ y. Meets L T r (d .buffer) (Book.append L (h .0) y i (v .bytes ++ spare))) back (record { reply = refl; bytes = refl })))
 
@@ -112,7 +114,7 @@ module _ (L : Layers) (T : CodeTypes L) where
             λ m.
             let both = and-parts (leb (h .1) at) (leb at (v .values .used)) t in
             before (some v) (replaced L (some v) (take at (v .bytes)) answer) (callCut at) (T .replyIn answer) none _
-            (replacing-answer (some v) (take at (v .bytes)) answer) (m .1)
+            (replacing-answer (some v) (take at (v .bytes)) answer (ofTakeUp (v .values) (take at (v .bytes)))) (m .1)
             (cuts held cs _ (h .0) (h .1) at (T .replyIn answer) e (leb-true _ _ (both .0)) (subst (λ y. at ≤ y .used) back (leb-true _ _ (both .1)))
             (ap (λ y. T .replyIn (Book.takeUp L y (take at (v .bytes)))) back))
 
@@ -134,8 +136,9 @@ module _ (L : Layers) (T : CodeTypes L) where
   sessions [] H m = ends (heldOut L T H)
   sessions (c ∷ cs) H m = one-call cs (sessions cs) H c m
 
-  -- ---- the calls of a session were all made: each has a reply
+-- ---- the calls of a session were all made: each has a reply
 
+module _ (L : Layers) (T : CodeTypes L) where
   abbrev AllReplied : List (Returned L T) → Type 0
   AllReplied [] = Unit {0}
   AllReplied (x ∷ xs) = ((r : T .Reply) × (x .reply ≡ some r)) × AllReplied xs
@@ -155,19 +158,19 @@ module _ (L : Layers) (T : CodeTypes L) where
       go none y = no-answer (y .0) (y .1)
       go (some a) y = (a, refl)
 
-pub session-exists : (L : Layers) (T : CodeTypes L) → SessionExists L T
-session-exists L T cs m = sessions L T cs none m
+pub session-exists : (L : Layers) (T : CodeTypes L) → CodeLaws L T → SessionExists L T
+session-exists L T C cs m = sessions L T C cs none m
 
-pub session-exactly : (L : Layers) → Laws L → (T : CodeTypes L) → SessionExactly L T
-session-exactly L W T cs rs = (only, exists)
+pub session-exactly : (L : Layers) → Laws L → (T : CodeTypes L) → CodeLaws L T → SessionExactly L T
+session-exactly L W T C cs rs = (only, exists)
   where
     es : List (Event (L .State))
     es = plainRun L empty cs
 
     only : Session L T none cs rs → AllMade L es × (rs ≡ map (returnedOf L T) es)
-    only s = let e = demand-3 L W T cs rs s in (made L T es (subst (AllReplied L T) e (replied L T s)), e)
+    only s = let e = demand-3 L W T C cs rs s in (made L T es (subst (AllReplied L T) e (replied L T s)), e)
 
     exists : AllMade L es × (rs ≡ map (returnedOf L T) es) → Session L T none cs rs
     exists x =
         let w = whole L W cs in
-        subst (Session L T none cs) (ap (map (returnedOf L T)) w ∙ sym (x .1)) (session-exists L T cs (subst (AllMade L) (sym w) (x .0)))
+        subst (Session L T none cs) (ap (map (returnedOf L T)) w ∙ sym (x .1)) (session-exists L T C cs (subst (AllMade L) (sym w) (x .0)))

@@ -13,7 +13,7 @@ use Rattle.plain_book.specs.Calls.{Values, Answer, accepted, refusedWith
 use Rattle.plain_book.specs.Plain.{empty, book, usedBytes, view, itemsEndingBy, cutPlain, WellFormed}
 use Rattle.plain_book.specs.PlainTakeUp.{numberOfEntries, itemsIn, falseAt, takeUpPlain}
 use Rattle.plain_book.specs.Run.{callAppend, callCut, Calls, Event, run, heldAfter, plainRun, plainAfter}
-use Rattle.plain_book.specs.Session.{CodeTypes, Returned, Session, returnedOf}
+use Rattle.plain_book.specs.Session.{CodeTypes, CodeLaws, Returned, Session, returnedOf}
 
 module _ (L : Layers) where
   -- Demand 3, "one claim about the whole list": for every list of calls that starts with no book, each answer, each lent buffer and the book held
@@ -30,7 +30,7 @@ module _ (L : Layers) where
   AllMade [] = Unit {0}
   AllMade (e ∷ es) = ((a : Answer (L .State)) × (e .answer ≡ some a)) × AllMade es
 
-  -- There are such sessions: every list of calls that may be made has one, whatever the functions' types.
+  -- There are such sessions: every list of calls that may be made has one, at any types that meet the laws of specs/Session.antt.
   abbrev pub SessionExists : CodeTypes L → Type 0
   SessionExists T = (cs : Calls L) → AllMade (run L none cs) → Session L T none cs (map (returnedOf L T) (run L none cs))
 
@@ -164,9 +164,9 @@ module _ (L : Layers) where
 
 pub record Claims (L : Layers) : Type 1 where
   pub whole : Whole L
-  pub demand-3 : (T : CodeTypes L) → Demand3 L T
-  pub session-exists : (T : CodeTypes L) → SessionExists L T
-  pub session-exactly : (T : CodeTypes L) → SessionExactly L T
+  pub demand-3 : (T : CodeTypes L) → CodeLaws L T → Demand3 L T
+  pub session-exists : (T : CodeTypes L) → CodeLaws L T → SessionExists L T
+  pub session-exactly : (T : CodeTypes L) → CodeLaws L T → SessionExactly L T
   pub well-formed-after : WellFormedAfter L
   pub equal-books : EqualBooks L
   pub cut-is-take-up : CutIsTakeUp L

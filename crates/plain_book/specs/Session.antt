@@ -18,8 +18,17 @@ pub record CodeTypes (L : Layers) : Type 1 where
   -- document 01's number, index and values for each case of a reply; and the reply for each answer
   pub answerOf : Reply → Book.Answer (L .State)
   pub replyIn : Book.Answer (L .State) → Reply
-  pub given-back : (v : Book.Values (L .State)) → givenOf (valuesIn v) ≡ v
-  pub answer-back : (a : Book.Answer (L .State)) → answerOf (replyIn a) ≡ a
+
+-- an answer that a call gives
+pub data AnswerOfCall (L : Layers) : Book.Answer (L .State) → Type 0 where
+  ofBegin : (head : List ℕ) (g : Book.Values (L .State)) (buf : List ℕ) → AnswerOfCall L (Book.begin L head g buf .answer)
+  ofAppend : (z : L .Zone) (g : Book.Values (L .State)) (i : L .Item) (buf : List ℕ) → AnswerOfCall L (Book.append L z g i buf .answer)
+  ofTakeUp : (g : Book.Values (L .State)) (bytes : List ℕ) → AnswerOfCall L (Book.takeUp L g bytes)
+
+-- The laws that the types meet: values come back, and so does every answer that a call gives, so that no two of them have the same reply.
+pub record CodeLaws (L : Layers) (T : CodeTypes L) : Type 0 where
+  pub given-back : (v : Book.Values (L .State)) → T .givenOf (T .valuesIn v) ≡ v
+  pub answer-back : (a : Book.Answer (L .State)) → AnswerOfCall L a → T .answerOf (T .replyIn a) ≡ a
 
 module _ (L : Layers) (T : CodeTypes L) where
   -- a reply and the whole lent buffer after the call, for what the call's definition says: the contracts of begin and append

@@ -1,0 +1,46 @@
+-- Every answer that begin, append and take-up give is read back from what the C functions return and leave.
+use Prim.Native.Nat.{ℕ, zero, suc, _%_, _/_, _≤_}
+use mathlib.Core.Path.{_≡_, refl}
+use mathlib.Core.List.{List}
+use native.Mathlib.Omega.{arith}
+use Rattle.solver.specs.Res.{Res}
+use Rattle.solver.specs.Refusals.{RefusesBy, accepts, refuses}
+use Rattle.zone.specs.declared.state.State.{State}
+use Rattle.plain_book.specs.Calls as Book
+use Rattle.plain_book.specs.Session.{AnswerOfCall, ofBegin, ofAppend, ofTakeUp, CodeLaws}
+use Rattle.book.specs.Year.{year}
+use Rattle.book.proofs.Refusals.{begin-refusals, append-refusals, take-up-refusals}
+use Rattle.hem_zone.specs.Code.{refusalCode}
+use Rattle.hem_zone.specs.BookTypes.{answerBy, answerOf, replyIn, cTypes}
+use Rattle.hem_zone.proofs.Laws.Numbered.{Numbered, begin-numbered, append-numbered, take-up-numbered}
+use Rattle.hem_zone.proofs.Claims.{code-exact, code-number, code-index}
+
+read-back : (returned number index : ℕ) (v : Book.Values State) → 1 ≤ returned → returned % 256 ≡ number → returned / 256 ≡ index
+    → answerBy returned v ≡ Book.refusedWith number index v
+read-back zero number index v h n i = absurd (omega (arith, h))
+read-back (suc c) number index v h n i = λ t. Book.refusedWith (n t) (i t) v
+
+refusal-back : (number index : ℕ) → Numbered number index → (v : Book.Values State)
+    → answerBy (refusalCode number index) v ≡ Book.refusedWith number index v
+refusal-back number index p v =
+    let e = code-exact number index p in
+    read-back (refusalCode number index) number index v (omega (arith, e, p .from-1)) (code-number number index p) (code-index number index p)
+
+module _ {P : ℕ → ℕ → Type 0} (numbered : (number index : ℕ) → P number index → Numbered number index) (g : Book.Values State) where
+  taken-back : {d : Res (Book.Values State)} → RefusesBy P d → answerOf (replyIn (Book.answerOf g d)) ≡ Book.answerOf g d
+  taken-back (accepts a) = refl
+  taken-back (refuses {number = n} {index = i} p) = refusal-back n i (numbered n i p) g
+
+  outcome-back : (buf : List ℕ) {d : Res (Book.Values State × List ℕ)} → RefusesBy P d
+      → answerOf (replyIn (Book.outcomeOf g buf d .answer)) ≡ Book.outcomeOf g buf d .answer
+  outcome-back buf (accepts a) = refl
+  outcome-back buf (refuses {number = n} {index = i} p) = refusal-back n i (numbered n i p) g
+
+answer-back : (a : Book.Answer State) → AnswerOfCall year a → answerOf (replyIn a) ≡ a
+unfolding Book.begin Book.append Book.takeUp
+answer-back a (ofBegin head g buf) = outcome-back begin-numbered g buf (begin-refusals head buf)
+answer-back a (ofAppend z g i buf) = outcome-back append-numbered g buf (append-refusals z g i buf)
+answer-back a (ofTakeUp g bytes) = taken-back take-up-numbered g (take-up-refusals bytes)
+
+pub c-laws : CodeLaws year cTypes
+c-laws = record { given-back = λ v. refl; answer-back = answer-back }

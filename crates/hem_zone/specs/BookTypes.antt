@@ -1,0 +1,36 @@
+-- Lists of calls of hem_begin, hem_append and hem_take_up: the types of what these functions are given and leave, and what it stands for.
+use Prim.Native.Nat.{ℕ, zero, suc, _%_, _/_}
+use Rattle.plain_book.specs.Calls as Book
+use Rattle.plain_book.specs.Session.{CodeTypes}
+use Rattle.zone.specs.declared.state.State.{State}
+use Rattle.book.specs.Year.{year}
+use Rattle.hem_zone.specs.Code.{refusalCode}
+use Rattle.hem_zone.specs.Book.{Held, valuesOf, heldOf}
+
+-- the returned number, and `temps`, `nodes`, `count`, `used` after the call
+abbrev pub Reply : Type 0
+Reply = ℕ × Held
+
+-- "Each returns 0 when accepted, else number + 256 × index, and then has written nothing": a refusal leaves the values that it was given
+abbrev pub replyIn : Book.Answer State → Reply
+replyIn (Book.accepted v) = (0, heldOf v)
+replyIn (Book.refusedWith number index v) = (refusalCode number index, heldOf v)
+
+-- and back: number and index as HEM_NUMBER and HEM_INDEX of the C header read them
+abbrev pub answerBy : (returned : ℕ) → Book.Values State → Book.Answer State
+answerBy zero v = Book.accepted v
+answerBy (suc c) v = Book.refusedWith (suc c % 256) (suc c / 256) v
+
+abbrev pub answerOf : Reply → Book.Answer State
+answerOf r = answerBy (r .0) (valuesOf (r .1))
+
+abbrev pub cTypes : CodeTypes year
+cTypes =
+    record {
+      Values = Held;
+      Reply = Reply;
+      givenOf = valuesOf;
+      valuesIn = heldOf;
+      answerOf = answerOf;
+      replyIn = replyIn;
+    }
