@@ -20,10 +20,12 @@ use zone_head::Conditions;
 use zone_head::Zone;
 use zone_head::calc_vent_heat_transfer_coeff;
 use zone_temps::ZoneTerms;
+use zone_temps::areas_of;
 ghost use mathlib.Core.Path.{_≡_};
 ghost use Rattle.solver.specs.FastSolver.{factored};
 ghost use Rattle.zone_head.specs.BuildingElement.{standardCoefficients};
 ghost use Rattle.zone_temps.specs.System.{assembled};
+ghost use Rattle.zone_temps.specs.TempOperative.{areasOf};
 ghost use Rattle.zone.specs.Demand.{achTarget, loadedDemand, demandTowards, demandFrom, spaceHeatCoolDemand};
 ghost use Rattle.zone.specs.Solves.{hourSystem, factorsAt, demandAnswer, DemandedAt};
 
@@ -42,17 +44,19 @@ fn loaded_demand(
     prev: &[f64; 120],
     dense: &[f64; 625],
     b: &[f64; 121],
+    area: &[f64; 24],
     factor_diag: &[f64; 120],
     factor_dense: &[f64; 625],
     exchanges: &[usize; 25],
 ) -> DemandAnswer
-    requires { ⌜ (assembled terms (now «two_nodes») (now diag) (now next) (now prev) (now dense) (now b) ≡ hourSystem z (now t) h) × (factored 0 (now «factor_diag») (now «factor_dense») (now exchanges) ≡ factorsAt z (now t) h (v .«ach_cooling»)) ⌝ }
+    requires { ⌜ (assembled terms (now «two_nodes») (now diag) (now next) (now prev) (now dense) (now b) ≡ hourSystem z (now t) h) × (factored 0 (now «factor_diag») (now «factor_dense») (now exchanges) ≡ factorsAt z (now t) h (v .«ach_cooling»)) × (now area ≡ areasOf z) ⌝ }
     ensures { λ r. ⌜ r ≡ demandAnswer (loadedDemand standardCoefficients z (now (t .entry)) h v setpoint load fraction) ⌝ }
 {
     let gains = gains_heat_cool_of(h) + load;
     let frac = frac_upper(h, load, fraction);
     let h_ve = calc_vent_heat_transfer_coeff(z.volume, v.ach_cooling);
-    let upper = solve_at(
+    let mut temps = [0.0; 121];
+    let number = solve_at(
         terms,
         h_ve,
         gains,
@@ -64,15 +68,12 @@ fn loaded_demand(
         factor_diag,
         factor_dense,
         exchanges,
+        &mut temps,
     );
-    if upper.number != 0 {
-        return DemandAnswer::Refused {
-            number: upper.number,
-            index: 0,
-        };
+    if number != 0 {
+        return DemandAnswer::Refused { number, index: 0 };
     }
-    let temps = upper.temps;
-    let temp_upper = control_temperature(z, &temps);
+    let temp_upper = control_temperature(z, area, terms.area_el_total, &temps);
     let kwh = interp_heat_cool_demand(h.delta_t_h, setpoint, load, v.temp_free, temp_upper);
     match kwh {
         Interpolated::Refused { number, index } => DemandAnswer::Refused { number, index },
@@ -93,11 +94,12 @@ fn demand_towards(
     prev: &[f64; 120],
     dense: &[f64; 625],
     b: &[f64; 121],
+    area: &[f64; 24],
     factor_diag: &[f64; 120],
     factor_dense: &[f64; 625],
     exchanges: &[usize; 25],
 ) -> DemandAnswer
-    requires { ⌜ (assembled terms (now «two_nodes») (now diag) (now next) (now prev) (now dense) (now b) ≡ hourSystem z (now t) h) × (factored 0 (now «factor_diag») (now «factor_dense») (now exchanges) ≡ factorsAt z (now t) h (v .«ach_cooling»)) ⌝ }
+    requires { ⌜ (assembled terms (now «two_nodes») (now diag) (now next) (now prev) (now dense) (now b) ≡ hourSystem z (now t) h) × (factored 0 (now «factor_diag») (now «factor_dense») (now exchanges) ≡ factorsAt z (now t) h (v .«ach_cooling»)) × (now area ≡ areasOf z) ⌝ }
     ensures { λ r. ⌜ r ≡ demandAnswer (demandTowards standardCoefficients z (now (t .entry)) h v w) ⌝ }
 {
     match w {
@@ -121,6 +123,7 @@ fn demand_towards(
             prev,
             dense,
             b,
+            area,
             factor_diag,
             factor_dense,
             exchanges,
@@ -140,11 +143,12 @@ fn demand_from(
     prev: &[f64; 120],
     dense: &[f64; 625],
     b: &[f64; 121],
+    area: &[f64; 24],
     factor_diag: &mut [f64; 120],
     factor_dense: &mut [f64; 625],
     exchanges: &mut [usize; 25],
 ) -> DemandAnswer
-    requires { ⌜ (assembled terms (now «two_nodes») (now diag) (now next) (now prev) (now dense) (now b) ≡ hourSystem z (now t) h) × (factored 0 (now «factor_diag») (now «factor_dense») (now exchanges) ≡ factorsAt z (now t) h (achTarget (h .«ach_args»))) ⌝ }
+    requires { ⌜ (assembled terms (now «two_nodes») (now diag) (now next) (now prev) (now dense) (now b) ≡ hourSystem z (now t) h) × (factored 0 (now «factor_diag») (now «factor_dense») (now exchanges) ≡ factorsAt z (now t) h (achTarget (h .«ach_args»))) × (now area ≡ areasOf z) ⌝ }
     ensures { λ r. ⌜ DemandedAt z (now (t .entry)) h (demandFrom standardCoefficients z (now (t .entry)) h free) r (now («factor_diag» .exit)) (now («factor_dense» .exit)) (now (exchanges .exit)) ⌝ }
 {
     let ventilated = calc_cooling_potential_from_ventilation(
@@ -159,6 +163,7 @@ fn demand_from(
         prev,
         dense,
         b,
+        area,
         factor_diag,
         factor_dense,
         exchanges,
@@ -180,6 +185,7 @@ fn demand_from(
                 prev,
                 dense,
                 b,
+                area,
                 factor_diag,
                 factor_dense,
                 exchanges,
@@ -216,6 +222,7 @@ pub fn hour_demand(
     requires { ⌜ (assembled terms (now «two_nodes») (now diag) (now next) (now prev) (now dense) (now b) ≡ hourSystem z (now t) h) ⌝ }
     ensures { λ r. ⌜ DemandedAt z (now (t .entry)) h (spaceHeatCoolDemand standardCoefficients z (now (t .entry)) h) r (now («factor_diag» .exit)) (now («factor_dense» .exit)) (now (exchanges .exit)) ⌝ }
 {
+    let area = areas_of(z);
     if h.temp_setpnt_cool < h.temp_setpnt_heat {
         return DemandAnswer::Refused {
             number: 10,
@@ -230,7 +237,8 @@ pub fn hour_demand(
     }
     let ach_args = h.ach_args;
     let target = ach_target(ach_args);
-    let free = free_temperatures(
+    let mut temps = [0.0; 121];
+    let number = free_temperatures(
         z,
         t,
         h,
@@ -245,15 +253,12 @@ pub fn hour_demand(
         factor_diag,
         factor_dense,
         exchanges,
+        &mut temps,
     );
-    if free.number != 0 {
-        return DemandAnswer::Refused {
-            number: free.number,
-            index: 0,
-        };
+    if number != 0 {
+        return DemandAnswer::Refused { number, index: 0 };
     }
-    let temps = free.temps;
-    let indoor = zone_temperatures(z, &temps);
+    let indoor = zone_temperatures(z, &area, terms.area_el_total, &temps);
     demand_from(
         z,
         t,
@@ -266,6 +271,7 @@ pub fn hour_demand(
         prev,
         dense,
         b,
+        &area,
         factor_diag,
         factor_dense,
         exchanges,

@@ -10,7 +10,6 @@ use crate::state::HourAnswer;
 use crate::state::HourStep;
 use crate::state::State;
 use crate::state::slots_of;
-use crate::state::state_of;
 use crate::tests::tested;
 use solver::close_in_demand;
 use zone_head::Conditions;
@@ -21,14 +20,15 @@ use zone_head::standard_coefficients;
 use zone_temps::ZoneTerms;
 use zone_temps::assemble;
 use zone_temps::heat_balance;
+use zone_temps::to_nodes;
 ghost use mathlib.Core.Path.{_≡_};
 ghost use Rattle.solver.specs.Res.{refused};
 ghost use Rattle.solver.specs.FastSolver.{factored};
-ghost use Rattle.zone_head.specs.BuildingElement.{standardCoefficients};
+ghost use Rattle.zone_head.specs.BuildingElement.{standardCoefficients, nodeCount};
 ghost use Rattle.zone_temps.specs.System.{assembled};
 ghost use Rattle.zone.specs.State.{slotsOf};
 ghost use Rattle.zone.specs.Demand.{spaceHeatCoolDemand};
-ghost use Rattle.zone.specs.Hour.{demand, delivered, totalGains, convectiveShare, hourMet, hourResult, hourStep};
+ghost use Rattle.zone.specs.Hour.{demand, delivered, totalGains, convectiveShare, hourMet, hourStep};
 ghost use Rattle.zone.specs.Answers.{demanded, hourStepped};
 ghost use Rattle.zone.specs.Solves.{hourSystem, factorsAt};
 
@@ -140,7 +140,7 @@ impl State {
         }
     }
 
-    // The last calculation, by the factors that the demand left.
+    // The last calculation, by the factors that the demand left. The state given has the zone's node count.
     fn meet_demand(
         self,
         z: Zone,
@@ -158,14 +158,15 @@ impl State {
         factor_dense: &[f64; 625],
         exchanges: &[usize; 25],
     ) -> HourStep
-        requires { ⌜ (now t ≡ slotsOf z self) × (assembled terms (now «two_nodes») (now diag) (now next) (now prev) (now dense) (now b) ≡ hourSystem z (now t) h) × (factored 0 (now «factor_diag») (now «factor_dense») (now exchanges) ≡ factorsAt z (now t) h (d .«ach_cooling»)) ⌝ }
+        requires { ⌜ (now t ≡ slotsOf z self) × (assembled terms (now «two_nodes») (now diag) (now next) (now prev) (now dense) (now b) ≡ hourSystem z (now t) h) × (factored 0 (now «factor_diag») (now «factor_dense») (now exchanges) ≡ factorsAt z (now t) h (d .«ach_cooling»)) × (self .nodes ≡ nodeCount z) ⌝ }
         ensures { λ r. ⌜ r ≡ hourStepped self (hourMet standardCoefficients z self h d) ⌝ }
     {
         let w = delivered_of(h, d);
         let g = total_gains(h, w);
         let share = convective_share(h, w, g);
         let h_ve = calc_vent_heat_transfer_coeff(z.volume, d.ach_cooling);
-        let after = solve_at(
+        let mut temps = [0.0; 121];
+        let number = solve_at(
             terms,
             h_ve,
             g,
@@ -177,83 +178,21 @@ impl State {
             factor_diag,
             factor_dense,
             exchanges,
+            &mut temps,
         );
-        if after.number != 0 {
-            return refuse(self, after.number, 0);
+        if number != 0 {
+            return refuse(self, number, 0);
         }
-        let temps = after.temps;
         let c = standard_coefficients();
         let delta_t = delta_t_of(h);
         let balance = heat_balance(c, z, t, h, delta_t, g, share, d.ach_cooling, &temps);
-        let state = state_of(z, &temps);
+        let nodes = self.nodes;
+        let own = to_nodes(z.count, two_nodes, &temps);
+        let state = State { nodes, temps: own };
         let answer = HourAnswer::Accepted(d, balance);
         HourStep {
             answer: answer,
             state: state,
-        }
-    }
-
-    fn hour_in(self, z: Zone, h: Conditions) -> HourStep
-        ensures { λ r. ⌜ r ≡ hourStepped self (hourResult standardCoefficients z self h) ⌝ }
-    {
-        let t = slots_of(z, self);
-        let c = standard_coefficients();
-        let delta_t = delta_t_of(h);
-        let mut two_nodes = [false; 24];
-        let mut diag = [0.0; 120];
-        let mut next = [0.0; 120];
-        let mut prev = [0.0; 120];
-        let mut dense = [0.0; 625];
-        let mut b = [0.0; 121];
-        let terms = assemble(
-            c,
-            z,
-            h,
-            delta_t,
-            &t,
-            &mut two_nodes,
-            &mut diag,
-            &mut next,
-            &mut prev,
-            &mut dense,
-            &mut b,
-        );
-        let mut factor_diag = [0.0; 120];
-        let mut factor_dense = [0.0; 625];
-        let mut exchanges = [0; 25];
-        let demand = hour_demand(
-            z,
-            &t,
-            h,
-            terms,
-            &two_nodes,
-            &diag,
-            &next,
-            &prev,
-            &dense,
-            &b,
-            &mut factor_diag,
-            &mut factor_dense,
-            &mut exchanges,
-        );
-        match demand {
-            DemandAnswer::Refused { number, index } => refuse(self, number, index),
-            DemandAnswer::Accepted(d) => self.meet_demand(
-                z,
-                &t,
-                h,
-                d,
-                terms,
-                &two_nodes,
-                &diag,
-                &next,
-                &prev,
-                &dense,
-                &b,
-                &factor_diag,
-                &factor_dense,
-                &exchanges,
-            ),
         }
     }
 
@@ -266,7 +205,65 @@ impl State {
             Verdict::Refused { number, index } => refuse(self, number, index),
             Verdict::Accepted => {
                 let h = read.conditions;
-                self.hour_in(z, h)
+                let t = slots_of(z, self);
+                let c = standard_coefficients();
+                let delta_t = delta_t_of(h);
+                let mut two_nodes = [false; 24];
+                let mut diag = [0.0; 120];
+                let mut next = [0.0; 120];
+                let mut prev = [0.0; 120];
+                let mut dense = [0.0; 625];
+                let mut b = [0.0; 121];
+                let terms = assemble(
+                    c,
+                    z,
+                    h,
+                    delta_t,
+                    &t,
+                    &mut two_nodes,
+                    &mut diag,
+                    &mut next,
+                    &mut prev,
+                    &mut dense,
+                    &mut b,
+                );
+                let mut factor_diag = [0.0; 120];
+                let mut factor_dense = [0.0; 625];
+                let mut exchanges = [0; 25];
+                let demand = hour_demand(
+                    z,
+                    &t,
+                    h,
+                    terms,
+                    &two_nodes,
+                    &diag,
+                    &next,
+                    &prev,
+                    &dense,
+                    &b,
+                    &mut factor_diag,
+                    &mut factor_dense,
+                    &mut exchanges,
+                );
+                match demand {
+                    DemandAnswer::Refused { number, index } => refuse(self, number, index),
+                    DemandAnswer::Accepted(d) => self.meet_demand(
+                        z,
+                        &t,
+                        h,
+                        d,
+                        terms,
+                        &two_nodes,
+                        &diag,
+                        &next,
+                        &prev,
+                        &dense,
+                        &b,
+                        &factor_diag,
+                        &factor_dense,
+                        &exchanges,
+                    ),
+                }
             }
         }
     }

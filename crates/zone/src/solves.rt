@@ -1,5 +1,4 @@
 // The calculations of one hour: the matrix is factored for each rate, and the right side of each load substituted.
-use solver::Solved;
 use solver::close_in_demand;
 use zone_head::Conditions;
 use zone_head::Zone;
@@ -8,11 +7,12 @@ use zone_head::calc_vent_heat_transfer_coeff;
 use zone_temps::ZoneTerms;
 use zone_temps::factor_rate;
 use zone_temps::solve_load;
-use zone_temps::temp_operative;
+use zone_temps::temp_operative_by_temp_vector;
 ghost use mathlib.Core.Path.{_≡_};
 ghost use lib.ListN.{replicate};
-ghost use Rattle.solver.specs.FastSolver.{factored, factor, substitute};
-ghost use Rattle.zone_temps.specs.System.{assembled, denseWith, rightSideWith};
+ghost use Rattle.solver.specs.FastSolver.{atMost24, factored, factor, solved, substitute};
+ghost use Rattle.zone_temps.specs.System.{areaElTotal, assembled, denseWith, rightSideWith};
+ghost use Rattle.zone_temps.specs.TempOperative.{areasOf};
 ghost use Rattle.zone.specs.Demand.{deltaT, gainsHeatCool, fracConvGainsHeatCool, controlTemperature};
 ghost use Rattle.zone.specs.Solves.{hourSystem, factorsAt, FreeAt};
 
@@ -42,14 +42,17 @@ pub fn frac_conv_gains_heat_cool_of(h: Conditions) -> f64
     }
 }
 
-// The temperature that the setpoints are held against.
-pub fn control_temperature(z: Zone, t: &[f64; 121]) -> f64
+// The temperature that the setpoints are held against, from the elements' areas and their total.
+pub fn control_temperature(z: Zone, area: &[f64; 24], area_el_total: f64, t: &[f64; 121]) -> f64
+    requires { ⌜ (now area ≡ areasOf z) × («area_el_total» ≡ areaElTotal (atMost24 (z .count)) (z .«building_elements»)) ⌝ }
     ensures { λ r. ⌜ r ≡ controlTemperature z (now (t .entry)) ⌝ }
 {
     let basis = z.temp_setpnt_basis;
     match basis {
         ZoneTemperatureControlBasis::Air => t[120],
-        ZoneTemperatureControlBasis::Operative => temp_operative(z, t),
+        ZoneTemperatureControlBasis::Operative => {
+            temp_operative_by_temp_vector(z.count, area, area_el_total, t)
+        }
     }
 }
 
@@ -84,7 +87,7 @@ pub fn factor_at(
     )
 }
 
-// The temperatures of one load, by the factors of its rate.
+// The temperatures of one load, by the factors of its rate: 0, or 13.
 pub fn solve_at(
     terms: ZoneTerms,
     h_ve: f64,
@@ -97,12 +100,13 @@ pub fn solve_at(
     factor_diag: &[f64; 120],
     factor_dense: &[f64; 625],
     exchanges: &[usize; 25],
-) -> Solved
-    ensures { λ r. ⌜ r
+    temps: &mut [f64; 121],
+) -> u32
+    ensures { λ r. ⌜ solved r (now (temps .exit))
         ≡ substitute record { n = terms .n; «two_nodes» = now («two_nodes» .entry); diag = now («factor_diag» .entry); next = now (next .entry); prev = now (prev .entry); dense = now («factor_dense» .entry) } (now (exchanges .entry)) (rightSideWith terms «h_ve» «gains_heat_cool» «f_hc_c» (now (b .entry))) ⌝ }
 {
-    let mut temps = *b;
-    let number = solve_load(
+    *temps = *b;
+    solve_load(
         terms,
         h_ve,
         gains_heat_cool,
@@ -113,9 +117,8 @@ pub fn solve_at(
         prev,
         factor_dense,
         exchanges,
-        &mut temps,
-    );
-    Solved { number, temps }
+        temps,
+    )
 }
 
 // The temperatures without demand at one rate: 0, or 12 or 13; where 0, the factors of the rate are left for further loads.
@@ -134,9 +137,10 @@ pub fn free_temperatures(
     factor_diag: &mut [f64; 120],
     factor_dense: &mut [f64; 625],
     exchanges: &mut [usize; 25],
-) -> Solved
+    temps: &mut [f64; 121],
+) -> u32
     requires { ⌜ (assembled terms (now «two_nodes») (now diag) (now next) (now prev) (now dense) (now b) ≡ hourSystem z (now t) h) ⌝ }
-    ensures { λ r. ⌜ FreeAt z (now (t .entry)) h ach r (now («factor_diag» .exit)) (now («factor_dense» .exit)) (now (exchanges .exit)) ⌝ }
+    ensures { λ r. ⌜ FreeAt z (now (t .entry)) h ach (solved r (now (temps .exit))) (now («factor_diag» .exit)) (now («factor_dense» .exit)) (now (exchanges .exit)) ⌝ }
 {
     let h_ve = calc_vent_heat_transfer_coeff(z.volume, ach);
     let number = factor_at(
@@ -152,8 +156,7 @@ pub fn free_temperatures(
         exchanges,
     );
     if number != 0 {
-        let temps = *b;
-        return Solved { number: 12, temps };
+        return 12;
     }
     let gains = gains_heat_cool_of(h);
     let fraction = frac_conv_gains_heat_cool_of(h);
@@ -169,5 +172,6 @@ pub fn free_temperatures(
         factor_diag,
         factor_dense,
         exchanges,
+        temps,
     )
 }

@@ -150,7 +150,8 @@ fn pass(z: Zone, h: Conditions, t: [f64; 121]) -> Passed
         DemandAnswer::Accepted(d) => {
             let w = delivered_of(h, d);
             let h_ve = calc_vent_heat_transfer_coeff(z.volume, d.ach_cooling);
-            let after = solve_at(
+            let mut temps = [0.0; 121];
+            let number = solve_at(
                 terms,
                 h_ve,
                 w,
@@ -162,7 +163,9 @@ fn pass(z: Zone, h: Conditions, t: [f64; 121]) -> Passed
                 &factor_diag,
                 &factor_dense,
                 &exchanges,
+                &mut temps,
             );
+            let after = Solved { number, temps };
             passed_of(after)
         }
     }

@@ -16,6 +16,7 @@ ghost use mathlib.Core.Path.{_≡_};
 ghost use Rattle.solver.specs.FastSolver.{factored};
 ghost use Rattle.zone_head.specs.BuildingElement.{standardCoefficients};
 ghost use Rattle.zone_temps.specs.System.{assembled};
+ghost use Rattle.zone_temps.specs.TempOperative.{areasOf};
 ghost use Rattle.zone.specs.Demand.{achTarget, coolByWindows, withChoice, chooseRate, calcCoolingPotentialFromVentilation};
 ghost use Rattle.zone.specs.Solves.{hourSystem, factorsAt, VentilatedAt};
 
@@ -40,17 +41,19 @@ fn cool_by_windows(
     prev: &[f64; 120],
     dense: &[f64; 625],
     b: &[f64; 121],
+    area: &[f64; 24],
     factor_diag: &mut [f64; 120],
     factor_dense: &mut [f64; 625],
     exchanges: &mut [usize; 25],
 ) -> VentilatedAnswer
-    requires { ⌜ (assembled terms (now «two_nodes») (now diag) (now next) (now prev) (now dense) (now b) ≡ hourSystem z (now t) h) × (factored 0 (now «factor_diag») (now «factor_dense») (now exchanges) ≡ factorsAt z (now t) h target) ⌝ }
+    requires { ⌜ (assembled terms (now «two_nodes») (now diag) (now next) (now prev) (now dense) (now b) ≡ hourSystem z (now t) h) × (factored 0 (now «factor_diag») (now «factor_dense») (now exchanges) ≡ factorsAt z (now t) h target) × (now area ≡ areasOf z) ⌝ }
     ensures { λ r. ⌜ VentilatedAt z (now (t .entry)) h (coolByWindows standardCoefficients z (now (t .entry)) h target «temp_free» ach trigger) r (now («factor_diag» .exit)) (now («factor_dense» .exit)) (now (exchanges .exit)) ⌝ }
 {
     let mut extra_diag = [0.0; 120];
     let mut extra_dense = [0.0; 625];
     let mut extra_exchanges = [0; 25];
-    let extra = free_temperatures(
+    let mut temps = [0.0; 121];
+    let number = free_temperatures(
         z,
         t,
         h,
@@ -65,15 +68,12 @@ fn cool_by_windows(
         &mut extra_diag,
         &mut extra_dense,
         &mut extra_exchanges,
+        &mut temps,
     );
-    if extra.number != 0 {
-        return VentilatedAnswer::Refused {
-            number: extra.number,
-            index: 0,
-        };
+    if number != 0 {
+        return VentilatedAnswer::Refused { number, index: 0 };
     }
-    let temps = extra.temps;
-    let temp_extra = control_temperature(z, &temps);
+    let temp_extra = control_temperature(z, area, terms.area_el_total, &temps);
     if above_cooling_setpoint(temp_extra, h.temp_setpnt_cool) {
         return VentilatedAnswer::Accepted(Ventilated {
             temp_free,
@@ -106,11 +106,12 @@ fn with_choice(
     prev: &[f64; 120],
     dense: &[f64; 625],
     b: &[f64; 121],
+    area: &[f64; 24],
     factor_diag: &mut [f64; 120],
     factor_dense: &mut [f64; 625],
     exchanges: &mut [usize; 25],
 ) -> VentilatedAnswer
-    requires { ⌜ (assembled terms (now «two_nodes») (now diag) (now next) (now prev) (now dense) (now b) ≡ hourSystem z (now t) h) × (factored 0 (now «factor_diag») (now «factor_dense») (now exchanges) ≡ factorsAt z (now t) h target) ⌝ }
+    requires { ⌜ (assembled terms (now «two_nodes») (now diag) (now next) (now prev) (now dense) (now b) ≡ hourSystem z (now t) h) × (factored 0 (now «factor_diag») (now «factor_dense») (now exchanges) ≡ factorsAt z (now t) h target) × (now area ≡ areasOf z) ⌝ }
     ensures { λ r. ⌜ VentilatedAt z (now (t .entry)) h (withChoice standardCoefficients z (now (t .entry)) h target windows free «vent_max») r (now («factor_diag» .exit)) (now («factor_dense» .exit)) (now (exchanges .exit)) ⌝ }
 {
     let trigger = AchToTriggerHeating::At(ach_to_reach(
@@ -138,6 +139,7 @@ fn with_choice(
             prev,
             dense,
             b,
+            area,
             factor_diag,
             factor_dense,
             exchanges,
@@ -164,17 +166,19 @@ fn choose_rate(
     prev: &[f64; 120],
     dense: &[f64; 625],
     b: &[f64; 121],
+    area: &[f64; 24],
     factor_diag: &mut [f64; 120],
     factor_dense: &mut [f64; 625],
     exchanges: &mut [usize; 25],
 ) -> VentilatedAnswer
-    requires { ⌜ (assembled terms (now «two_nodes») (now diag) (now next) (now prev) (now dense) (now b) ≡ hourSystem z (now t) h) × (factored 0 (now «factor_diag») (now «factor_dense») (now exchanges) ≡ factorsAt z (now t) h target) ⌝ }
+    requires { ⌜ (assembled terms (now «two_nodes») (now diag) (now next) (now prev) (now dense) (now b) ≡ hourSystem z (now t) h) × (factored 0 (now «factor_diag») (now «factor_dense») (now exchanges) ≡ factorsAt z (now t) h target) × (now area ≡ areasOf z) ⌝ }
     ensures { λ r. ⌜ VentilatedAt z (now (t .entry)) h (chooseRate standardCoefficients z (now (t .entry)) h target windows free) r (now («factor_diag» .exit)) (now («factor_dense» .exit)) (now (exchanges .exit)) ⌝ }
 {
     let mut open_diag = [0.0; 120];
     let mut open_dense = [0.0; 625];
     let mut open_exchanges = [0; 25];
-    let open = free_temperatures(
+    let mut temps = [0.0; 121];
+    let number = free_temperatures(
         z,
         t,
         h,
@@ -189,15 +193,12 @@ fn choose_rate(
         &mut open_diag,
         &mut open_dense,
         &mut open_exchanges,
+        &mut temps,
     );
-    if open.number != 0 {
-        return VentilatedAnswer::Refused {
-            number: open.number,
-            index: 0,
-        };
+    if number != 0 {
+        return VentilatedAnswer::Refused { number, index: 0 };
     }
-    let temps = open.temps;
-    let vent_max = zone_temperatures(z, &temps);
+    let vent_max = zone_temperatures(z, area, terms.area_el_total, &temps);
     with_choice(
         z,
         t,
@@ -213,6 +214,7 @@ fn choose_rate(
         prev,
         dense,
         b,
+        area,
         factor_diag,
         factor_dense,
         exchanges,
@@ -232,11 +234,12 @@ pub fn calc_cooling_potential_from_ventilation(
     prev: &[f64; 120],
     dense: &[f64; 625],
     b: &[f64; 121],
+    area: &[f64; 24],
     factor_diag: &mut [f64; 120],
     factor_dense: &mut [f64; 625],
     exchanges: &mut [usize; 25],
 ) -> VentilatedAnswer
-    requires { ⌜ (assembled terms (now «two_nodes») (now diag) (now next) (now prev) (now dense) (now b) ≡ hourSystem z (now t) h) × (factored 0 (now «factor_diag») (now «factor_dense») (now exchanges) ≡ factorsAt z (now t) h (achTarget (h .«ach_args»))) ⌝ }
+    requires { ⌜ (assembled terms (now «two_nodes») (now diag) (now next) (now prev) (now dense) (now b) ≡ hourSystem z (now t) h) × (factored 0 (now «factor_diag») (now «factor_dense») (now exchanges) ≡ factorsAt z (now t) h (achTarget (h .«ach_args»))) × (now area ≡ areasOf z) ⌝ }
     ensures { λ r. ⌜ VentilatedAt z (now (t .entry)) h (calcCoolingPotentialFromVentilation standardCoefficients z (now (t .entry)) h free (h .«ach_args»)) r (now («factor_diag» .exit)) (now («factor_dense» .exit)) (now (exchanges .exit)) ⌝ }
 {
     let ach_args = h.ach_args;
@@ -262,6 +265,7 @@ pub fn calc_cooling_potential_from_ventilation(
                     prev,
                     dense,
                     b,
+                    area,
                     factor_diag,
                     factor_dense,
                     exchanges,

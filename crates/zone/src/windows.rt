@@ -8,7 +8,10 @@ use zone_head::ach_req_to_reach_temperature;
 ghost use mathlib.Core.Path.{_≡_};
 ghost use mathlib.Core.Bool.{not, _&&_};
 ghost use lib.Ieee.{lt};
+ghost use Rattle.solver.specs.FastSolver.{atMost24};
 ghost use Rattle.solver.specs.Near.{closeInWindowsTest};
+ghost use Rattle.zone_temps.specs.System.{areaElTotal};
+ghost use Rattle.zone_temps.specs.TempOperative.{areasOf};
 ghost use Rattle.zone.specs.Demand.{zoneTemperatures, achToReach, windowsCool};
 
 // Of a calculation's temperatures, what the choice of a rate looks at.
@@ -24,10 +27,16 @@ pub struct Ventilated {
     pub ach_to_trigger_heating: AchToTriggerHeating,
 }
 
-pub fn zone_temperatures(z: Zone, t: &[f64; 121]) -> ZoneTemperatures
+pub fn zone_temperatures(
+    z: Zone,
+    area: &[f64; 24],
+    area_el_total: f64,
+    t: &[f64; 121],
+) -> ZoneTemperatures
+    requires { ⌜ (now area ≡ areasOf z) × («area_el_total» ≡ areaElTotal (atMost24 (z .count)) (z .«building_elements»)) ⌝ }
     ensures { λ r. ⌜ r ≡ zoneTemperatures z (now (t .entry)) ⌝ }
 {
-    let temp_control = control_temperature(z, t);
+    let temp_control = control_temperature(z, area, area_el_total, t);
     ZoneTemperatures {
         temp_control,
         temp_int_air: t[120],

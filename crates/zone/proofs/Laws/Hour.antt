@@ -8,9 +8,11 @@ use lib.ListN.{take, replicate}
 use lib.Dec.{eqb}
 use lib.Ieee.{Float}
 use Rattle.solver.specs.F64.{zero64}
-use Rattle.solver.specs.Res.{Res, ok, refused}
+use borrow.Author.Tests.{eqb-true}
+use Rattle.solver.specs.Res.{Res, ok, refused, bind-ok, need-ok}
 use Rattle.solver.specs.declared.system.Solved.{Solved}
 use Rattle.solver.specs.FastSolver.{solvedOrRefused, solvedRes, fastSolver, fastSolverRes}
+use Rattle.zone_head.proofs.Laws.Shape.{and-true}
 use Rattle.zone_head.specs.declared.building_element.Coefficients.{Coefficients}
 use Rattle.zone_head.specs.declared.zone_record.Zone.{Zone}
 use Rattle.zone_head.specs.declared.zone_record.Verdict.{Verdict}
@@ -102,6 +104,14 @@ module _ (z : Zone) (s : State) where
     pub asked-accepted : (r : Demanded) → v ≡ Verdict.Accepted → r ≡ demanded s (spaceHeatCoolDemand standardCoefficients z (slotsOf z s) h) → r ≡ demanded s (demand standardCoefficients z s bytes)
     unfolding demand
     asked-accepted r e p = rw (res-accepted v h (tested z s bytes) read e) p
+
+    -- the state has the zone's node count: refusal 6
+    pub nodes-counted : v ≡ Verdict.Accepted → s .nodes ≡ nodeCount z
+    unfolding tested zoneAndStateTest stateTest
+    nodes-counted e =
+        let t = bind-ok (zoneAndStateTest z s) _ h (res-accepted v h (tested z s bytes) read e) in
+        let u = bind-ok (zoneTest z) _ (t .0) (t .1) in
+        eqb-true (s .nodes) (nodeCount z) (and-true _ _ (need-ok (eqb (s .nodes) (nodeCount z) && allWithinMillion (take (s .nodes) (s .temps))) 6 0 (t .0) (u .2)) .0)
 
     pub hour-refused : (n i : ℕ) (r : HourStep) → v ≡ Verdict.Refused n i → r ≡ hourStepped s (refused n i) → r ≡ hourStepped s (hourStep standardCoefficients z s bytes)
     unfolding hourStep

@@ -17,7 +17,7 @@ wanted-of-requires : tie.Need-wanted-of-requires
 wanted-of-requires c κs = search needs
 
 demand-towards-requires : tie.Need-demand-towards-requires
-demand-towards-requires c κs = (c .before .before .before .before .before .before .before .before .before .before .before .pre .0, c .before .before .before .before .before .before .before .calc-cooling-potential-from-ventilation .ensures .factors _ (c .before .before .before .before .before .ventilated2 .given .1))
+demand-towards-requires c κs = (c .before .before .before .before .before .before .before .before .before .before .before .pre .0, c .before .before .before .before .before .before .before .calc-cooling-potential-from-ventilation .ensures .factors _ (c .before .before .before .before .before .ventilated2 .given .1), c .before .before .before .before .before .before .before .before .before .before .before .pre .2)
 
 returns : tie.Need-returns
 returns c = from-refused _ _ _ _ _ _ _ _ (c .before .before .before .calc-cooling-potential-from-ventilation .ensures) _ _ (c .before .ventilated .given .1)

@@ -10,7 +10,7 @@ factor-at-requires : tie.Need-factor-at-requires
 factor-at-requires c κs = search needs
 
 returns : tie.Need-returns
-returns c = free-12 _ _ _ _ _ _ _ _ _ _ (c .before .before .before .before .before .before .before .pre) _ _ (c .before .before .before .before .before .before .calc-vent-heat-transfer-coeff .ensures) _ _ _ _ _ (c .before .before .factor-at .ensures) (c .before .if1 .taken)
+returns c = free-12 _ _ _ _ _ _ _ _ _ _ (c .before .before .before .before .before .before .pre) _ _ (c .before .before .before .before .before .calc-vent-heat-transfer-coeff .ensures) _ _ _ _ _ (c .before .factor-at .ensures) (c .if1 .taken)
 
 gains-heat-cool-of-requires : tie.Need-gains-heat-cool-of-requires
 gains-heat-cool-of-requires c κs = search needs
@@ -22,7 +22,7 @@ solve-at-requires : tie.Need-solve-at-requires
 solve-at-requires c κs = search needs
 
 returns-2 : tie.Need-returns-2
-returns-2 c = free-solved _ _ _ _ _ _ _ _ _ _ (c .before .before .before .before .before .before .before .before .before .before .before .before .pre) _ _ (c .before .before .before .before .before .before .before .before .before .before .before .calc-vent-heat-transfer-coeff .ensures) _ _ _ _ _ _ _ (c .before .before .before .before .before .before .before .factor-at .ensures) (c .before .before .before .before .before .before .if1 .left) (c .before .before .before .before .before .gains-heat-cool-of .ensures) (c .before .before .before .before .frac-conv-gains-heat-cool-of .ensures) (c .solve-at .ensures)
+returns-2 c = free-solved _ _ _ _ _ _ _ _ _ _ (c .before .before .before .before .before .before .before .before .before .before .before .before .before .pre) _ _ (c .before .before .before .before .before .before .before .before .before .before .before .before .calc-vent-heat-transfer-coeff .ensures) _ _ _ _ _ _ _ (c .before .before .before .before .before .before .before .before .factor-at .ensures) (c .before .before .before .before .before .before .before .if1 .left) (c .before .before .before .before .before .before .gains-heat-cool-of .ensures) (c .before .before .before .before .before .frac-conv-gains-heat-cool-of .ensures) (c .solve-at .ensures)
 
 pub free-temperatures-spec : {M : Type 1} → statement M
 free-temperatures-spec =

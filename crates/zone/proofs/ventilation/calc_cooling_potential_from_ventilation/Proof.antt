@@ -13,7 +13,7 @@ enum-known-ach-args-2 : tie.Need-enum-known-ach-args-2
 enum-known-ach-args-2 c = search needs
 
 choose-rate-requires : tie.Need-choose-rate-requires
-choose-rate-requires c κs = (c .before .before .before .before .before .before .before .pre .0, target-factors _ _ _ _ _ _ (c .before .before .before .before .before .ach-args2 .given .1) (c .before .before .before .before .before .before .before .pre .1))
+choose-rate-requires c κs = (c .before .before .before .before .before .before .before .pre .0, target-factors _ _ _ _ _ _ (c .before .before .before .before .before .ach-args2 .given .1) (c .before .before .before .before .before .before .before .pre .1), c .before .before .before .before .before .before .before .pre .2)
 
 returns : tie.Need-returns
 returns c = potential-choice _ _ _ _ _ _ _ _ _ _ (c .before .before .before .before .before .before .ach-args2 .given .1) (c .before .before .before .before .if1 .taken) (c .choose-rate .ensures)
