@@ -18,7 +18,8 @@
  * that the call is given.
  *
  * `temps` is always an array of 121, of which the first `nodes` count: element by element from the
- * outer to the inner surface, then the air. A five-node element has 5, a transparent one 2.
+ * outer to the inner surface, then the air. A five-node element has 5, a transparent one 2. The places
+ * behind them are not looked at, and a call that writes `temps` writes 0.0 there.
  */
 #ifndef HEM_ZONE_H
 #define HEM_ZONE_H
@@ -54,7 +55,7 @@ extern "C" {
  *    6  the state has a wrong node count, or a temperature that is not finite or beyond +-1e6
  *    7  the conditions have a wrong size
  *    8  the rate code, the second rate of code 0 or an open bit is bad
- *    9  a value of the conditions is out of range
+ *    9  a value of the conditions, or an update's own gains, fraction or rate, is out of range
  *   10  the cooling setpoint is below the heating setpoint
  *   11  the ventilation setpoint is below the heating setpoint
  *   12  a divisor of the solution is zero or not finite
@@ -79,8 +80,8 @@ uint32_t hem_demand(const uint8_t *head, size_t head_len, const double temps[HEM
                     const uint8_t *cond, size_t cond_len, double out[HEM_OUT]);
 
 /* The temperatures after one hour in which heating or cooling gives `gains` watts, of which `fraction`
-   goes to the air, at `rate` air changes. Replaces `temps`
-   (0.0 behind the first `nodes`), writes `balance`.
+   goes to the air, at `rate` air changes. Replaces `temps`, writes
+   `balance`.
    Refused with 1 to 9, 12 and 13. */
 uint32_t hem_update(const uint8_t *head, size_t head_len, double temps[HEM_TEMPS], uint64_t nodes,
                     const uint8_t *cond, size_t cond_len, double gains, double fraction, double rate,
@@ -107,8 +108,8 @@ uint32_t hem_append(const uint8_t *head, size_t head_len, uint8_t *buf, size_t b
                     const uint8_t *cond, size_t cond_len);
 
 /* Takes up the bytes of a book: each whole entry is calculated again and must be the same bytes.
-   Writes the temperatures after the last whole entry, the number of entries and the number of bytes
-   that they and the head take; a shorter rest behind them is an entry that was not written to its end.
+   Writes the temperatures after the last whole entry (start-up's if there is none) and their number, the
+   number of entries and the number of bytes that they and the head take; a shorter rest behind them is an entry that was not written to its end.
    Refused with 1 to 5, 11 to 15, 17 at the 8,785th entry and 18 at the first false one. */
 uint32_t hem_take_up(const uint8_t *bytes, size_t bytes_len,
                      double temps[HEM_TEMPS], uint64_t *nodes, uint64_t *count, uint64_t *used);

@@ -38,7 +38,7 @@ use Rattle.book.specs.Year.{startUp, hour, step, year}
 use Rattle.book.specs.Answers.{givenOf, replyIn, code}
 use Rattle.book.specs.declared.book.Values.{Values}
 use Rattle.book.specs.declared.book.Reply.{Reply}
-use Rattle.book.proofs.Laws.Accepted.{tested-few, head-few, hour-conditions, hour-entry}
+use Rattle.book.proofs.Laws.Accepted.{head-few, hour-conditions, hour-entry}
 use Rattle.book.proofs.Laws.Layers.{step-hour, step-length}
 
 -- ---- room behind the used bytes
@@ -73,9 +73,6 @@ module _ (z : Zone) (s : State) (i : List ℕ) (x : HourStep) (e : x ≡ hourSte
 
 pub zone-passed : (z : Zone) (v : Verdict) → v ≡ verdictOf (zoneTest z) → v ≡ Accepted → zoneTest z ≡ ok tt
 zone-passed z v e f = verdict-accepted (zoneTest z) (sym e ∙ f)
-
-pub zone-few : (z : Zone) → zoneTest z ≡ ok tt → z .count ≤ 24
-zone-few z e = tested-few z e
 
 -- ---- begin
 

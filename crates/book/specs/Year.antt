@@ -1,4 +1,5 @@
 -- The layers of the year book: the head's reader, start-up and the hour step of the crates below, and the bytes of an entry.
+use mathlib.Core.Bool.{cond}
 use Prim.Native.Nat.{ℕ}
 use mathlib.Core.List.{List}
 use mathlib.Core.Option.{Option, none, some}
@@ -12,7 +13,6 @@ use Rattle.zone_head.specs.declared.zone_record.Zone.{Zone}
 use Rattle.zone.specs.Hour.{HourResult, hourStep}
 use Rattle.zone.specs.StartUp.{initNodeTemps}
 use Rattle.zone.specs.declared.state.State.{State}
-use Rattle.plain_book.specs.Bytes.{cond}
 use Rattle.plain_book.specs.Layers.{Layers}
 use Rattle.book.specs.Entry.{conditionsLength, wholeLength, entryOf}
 

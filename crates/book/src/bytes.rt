@@ -7,7 +7,7 @@ ghost use Rattle.zone_head.specs.Bytes.{bytesOf};
 ghost use Rattle.plain_book.specs.Bytes.{equalBytes};
 ghost use Rattle.book.specs.Bytes.{replaceAt, floatBytes, floatsBytes};
 
-// The 64-bit pattern of a float; each NaN has one.
+// The 64-bit pattern of a float; all NaNs have the same one.
 fn bits_of(x: f64) -> u64
     ensures { λ r. ⌜ r ≡ toBits binary64 x ⌝ }
 {

@@ -1,5 +1,6 @@
 -- House P: the marked rows of document 01, in one table under one claim, by computing; and its head of 180 bytes. The definitions are those
--- that the contracts cite, from the bytes of the head and of the hour's conditions on.
+-- that the contracts cite. The hour's conditions go in as bytes; the house is a record, which head-claim shows to be what its head is read as (the
+-- house of the row with 12 is a record only).
 use Prim.Native.Nat.{ℕ}
 use mathlib.Core.Path.{_≡_, refl}
 use mathlib.Core.Bool.{Bool, true, false, _&&_}
@@ -171,7 +172,7 @@ pub data Row : Type 0 where
 
 unfoldable pub holds : Row → Bool
 holds (hCiRow pitch x) = same (hCi standardCoefficients pitch (dec 20 0) (dec 20 0)) x
-holds (achRow target lowest highest x) = same (achReqToReachTemperature target lowest highest (dec 24 0) (dec 16 0) (dec 24 0) (dec 16 0) (dec 8 0)) x
+holds (achRow target achMin achMax x) = same (achReqToReachTemperature target achMin achMax (dec 24 0) (dec 16 0) (dec 24 0) (dec 16 0) (dec 8 0)) x
 holds freeRow = allTwenty (updated houseP)
 holds (demandRow heat cool heating cooling) = demandIs heating cooling (asked houseP heat cool)
 holds (refusedRow heat cool n) = refusedWith n (asked houseP heat cool)

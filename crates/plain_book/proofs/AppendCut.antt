@@ -11,12 +11,12 @@ use lib.Seq.{take-append-add, take-at, drop-at}
 use lib.Dec.{leb, ltb}
 use borrow.Author.Tests.{leb-true, leb-false, ltb-true, le-leb, lt-leb}
 use Rattle.solver.specs.Res.{Res, ok, refused, bind-is}
+use Rattle.solver.proofs.Laws.Tests.{and-true}
 use Rattle.plain_book.specs.Layers.{Layers, Laws}
 use Rattle.plain_book.specs.Calls.{Values, accepted, append, appendRes, wholeEntries, takeUp}
 use Rattle.plain_book.specs.Plain.{Plain, book, View, entryBytes, lastState, entries, contents, usedBytes, ownValues, view, appendPlain, itemsEndingBy, cutPlain, WellFormed, wellFormed}
 use Rattle.plain_book.specs.PlainTakeUp.{testEntries, takeUpPlain}
 use Rattle.plain_book.specs.Run.{Call, callAppend, callCut, afterAppend, afterTakeUp, make, written, plainOutcome, plainMake, plainEvent}
-use Rattle.plain_book.proofs.Laws.Bytes.{and-parts}
 use Rattle.plain_book.proofs.Laws.Entries.{Entries, length-bytesOf, entryBytes-append, lastState-append, length-entries, parts-entries}
 use Rattle.plain_book.proofs.Laws.Reading.{cut-short}
 use Rattle.plain_book.proofs.Laws.ByIndex.{items-in, tests-ok}
@@ -182,7 +182,7 @@ module _ (L : Layers) (W : Laws L) where
         go : (b : Bool) → (leb (length head) at && leb at (length usedOf)) ≡ b → Agrees (book head is) (callCut at)
         go false t = rw (view-is L head is S, head-on L W head is S (entryBytes (S .contents .entries)), t) (rw (view-is L head is S) refl, S)
         go true t =
-            let lo = leb-true (length head) at (and-parts (leb (length head) at) (leb at (length usedOf)) t .0) in
+            let lo = leb-true (length head) at (and-true (leb (length head) at) (leb at (length usedOf)) t .0) in
             let a = takeUp-agrees L W (book head is) S own (take at usedOf) in
             rw (view-is L head is S, head-on L W head is S (entryBytes (S .contents .entries)), t, cut-take-up at lo)
             (ap (λ x. afterTakeUp L x (take at usedOf) (takeUp L own (take at usedOf))) (sym (view-is L head is S)) ∙ a .0, a .1)

@@ -13,12 +13,10 @@ use Rattle.plain_book.specs.Plain.{View}
 use Rattle.plain_book.specs.Run.{callBegin, callAppend, callTakeUp, callCut, Calls, Event, Held, make, run, replaced, afterAppend, afterTakeUp}
 use Rattle.plain_book.specs.Session.{CodeTypes, AnswerOfCall, ofBegin, ofAppend, ofTakeUp, CodeLaws, HeldBook, Returned, Session, ends, begins, appends, takesUp, cuts, replacedBy, replacing, continuing, replyOut, heldOut, returnedOf}
 use Rattle.plain_book.specs.Claims.{Demand3}
+use Rattle.plain_book.proofs.Laws.Bytes.{some-inj, none-not-some}
 use Rattle.plain_book.proofs.Whole.{whole}
 
 module _ (L : Layers) (T : CodeTypes L) (C : CodeLaws L T) where
-  some-book : {b c : HeldBook L T} → some b ≡ some c → b ≡ c
-  some-book e = cc
-
   -- a reply that is an answer's stands for that answer
   stands : (r : T .Reply) (a : Book.Answer (L .State)) → AnswerOfCall L a → r ≡ T .replyIn a → T .answerOf r ≡ a
   stands r a p e = ap (T .answerOf) e ∙ C .answer-back a p
@@ -40,11 +38,8 @@ module _ (L : Layers) (T : CodeTypes L) (C : CodeLaws L T) where
 
   same-book : (b : HeldBook L T) (v : View (L .State)) → some b ≡ heldOut L T (some v) → SameBook b v
   same-book b v e =
-      let q : b ≡ record { bytes = v .bytes; values = T .valuesIn (v .values) } = some-book e in
+      let q : b ≡ record { bytes = v .bytes; values = T .valuesIn (v .values) } = some-inj e in
       record { bytes = ap (λ x. x .bytes) q; given = ap (λ x. T .givenOf (x .values)) q ∙ C .given-back (v .values) }
-
-  no-book : {B : Type 0} (b : HeldBook L T) → some b ≡ heldOut L T none → B
-  no-book b e = let z : _≡_ {A = ℕ} 0 1 = cc in absurd (omega arith)
 
   session-run : {h : Option (HeldBook L T)} {cs : Calls L} {rs : List (Returned L T)} → Session L T h cs rs
       → (H : Held L) → h ≡ heldOut L T H → rs ≡ map (returnedOf L T) (run L H cs)
@@ -66,7 +61,7 @@ module _ (L : Layers) (T : CodeTypes L) (C : CodeLaws L T) where
       go : (H : Held L) → some b ≡ heldOut L T H
           → ((K : Held L) → some (continuing L T out r) ≡ heldOut L T K → rs ≡ map (returnedOf L T) (run L K cs))
           → record { reply = some r; buffer = some out; held = some (continuing L T out r) } ∷ rs ≡ map (returnedOf L T) (run L H (callAppend i spare ∷ cs))
-      go none e rec = no-book b e
+      go none e rec = none-not-some b (sym e)
       go (some v) e rec =
           let s = same-book b v e in
           let d : Book.Outcome (L .State) = Book.append L z (v .values) i (v .bytes ++ spare) in
@@ -87,7 +82,7 @@ module _ (L : Layers) (T : CodeTypes L) (C : CodeLaws L T) where
       go : (H : Held L) → some b ≡ heldOut L T H
           → ((K : Held L) → replacing L T (some b) bytes r ≡ heldOut L T K → rs ≡ map (returnedOf L T) (run L K cs))
           → record { reply = some r; buffer = none; held = replacing L T (some b) bytes r } ∷ rs ≡ map (returnedOf L T) (run L H (callCut at ∷ cs))
-      go none e rec = no-book b e
+      go none e rec = none-not-some b (sym e)
       go (some v) e rec =
           let s = same-book b v e in
           let w : List ℕ = take at (v .bytes) in

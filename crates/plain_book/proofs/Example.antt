@@ -2,7 +2,7 @@
 -- Head: version byte 1 and n, not 0. Hour: one byte, at most 200. Entry: version byte 1, the hour, the state after it. At most 2 entries.
 -- An append refuses the hour 0, which a take-up accepts.
 use mathlib.Core.Path.{_≡_, refl, sym, ap, _∙_, subst}
-use mathlib.Core.Bool.{Bool, true, false, not}
+use mathlib.Core.Bool.{Bool, true, false, not, cond}
 use mathlib.Core.List.{List, [], _∷_, _++_}
 use mathlib.Core.Option.{Option, none, some}
 use Prim.Native.Nat.{ℕ, suc, _+_, _*_, _≤_, _<_}
@@ -11,15 +11,14 @@ use lib.ListN.{length, take, drop, getD, length-append, length-take}
 use lib.Seq.{take-at}
 use lib.Dec.{leb, ltb, eqb}
 use borrow.Author.Tests.{leb-true, eqb-true, le-leb, lt-leb}
-use Rattle.solver.specs.Res.{Res, ok, refused, bind, bind-ok, need, need-ok}
-use Rattle.plain_book.specs.Bytes.{cond, firstFrom}
+use Rattle.solver.specs.Res.{Res, ok, refused, bind, bind-ok, need, need-ok, ok-inj, ok-not-refused}
+use Rattle.plain_book.specs.Bytes.{firstFrom}
 use Rattle.plain_book.specs.Layers.{Layers, Laws}
 use Rattle.plain_book.specs.Calls.{Values, Answer, accepted, refusedWith, beginRes, begin, appendRes, append, wholeEntriesUpTo, wholeEntries, checkEntries, takeUpRes, takeUp}
 use Rattle.plain_book.specs.Plain.{empty, entries, contents, view, beginPlain, appendPlain, itemsEndingBy, cutPlain}
 use Rattle.plain_book.specs.PlainTakeUp.{restAt, entryAt, numberOfEntries, itemsBefore, stepAt, falseAt, firstBad, testEntries, takeUpPlain}
 use Rattle.plain_book.specs.Run.{callBegin, callAppend, callTakeUp, callCut, Calls, Event, make, run, plainMake, plainEvent, plainRun}
 use Rattle.plain_book.specs.Claims.{Claims}
-use Rattle.plain_book.proofs.Laws.Bytes.{ok-inj, ok-not-refused}
 use Rattle.plain_book.proofs.Claims.{claims}
 
 unfoldable headOf : List ℕ → Res (ℕ × ℕ)

@@ -8,20 +8,17 @@ use lib.ListN.{take}
 use lib.Dec.{leb}
 use borrow.Author.Tests.{leb-true}
 use Rattle.solver.specs.Res.{Res, ok, refused}
-use mathlib.Core.Bool.{Bool, true, false, _&&_}
-use Rattle.plain_book.specs.Bytes.{cond}
+use mathlib.Core.Bool.{Bool, true, false, _&&_, cond}
+use Rattle.solver.proofs.Laws.Tests.{and-true}
 use Rattle.plain_book.specs.Layers.{Layers, Laws}
 use Rattle.plain_book.specs.Calls as Book
 use Rattle.plain_book.specs.Plain.{empty, View}
 use Rattle.plain_book.specs.Run.{Call, callBegin, callAppend, callTakeUp, callCut, Calls, Event, Held, make, makeAppend, makeCut, notMade, run, replaced, afterBegin, afterAppend, afterTakeUp, plainRun}
 use Rattle.plain_book.specs.Session.{CodeTypes, AnswerOfCall, ofBegin, ofAppend, ofTakeUp, CodeLaws, Meets, HeldBook, Returned, Session, ends, begins, appends, takesUp, cuts, replacedBy, replacing, continuing, replyOut, heldOut, returnedOf}
 use Rattle.plain_book.specs.Claims.{AllMade, SessionExists, SessionExactly}
-use Rattle.plain_book.proofs.Laws.Bytes.{and-parts}
+use Rattle.plain_book.proofs.Laws.Bytes.{none-not-some}
 use Rattle.plain_book.proofs.Whole.{whole}
 use Rattle.plain_book.proofs.Demand3.{replaces, demand-3}
-
-no-answer : {A B : Type 0} (a : A) → none ≡ some a → B
-no-answer a e = let z : _≡_ {A = ℕ} 0 1 = cc in absurd (omega arith)
 
 module _ (L : Layers) (T : CodeTypes L) (C : CodeLaws L T) where
   -- all values are those of some at the functions' types, so what holds of these holds of all
@@ -63,7 +60,7 @@ module _ (L : Layers) (T : CodeTypes L) (C : CodeLaws L T) where
 
     -- a call that may not be made has no answer
     none-made : (H K : Held L) (c : Call (L .State) (L .Item)) → OneCall H c (notMade L K)
-    none-made H K c m = no-answer (m .0 .0) (m .0 .1)
+    none-made H K c m = none-not-some (m .0 .0) (m .0 .1)
 
     one-begin : (H : Held L) (head buf : List ℕ) (w : T .Values)
         → OneCall H (callBegin head (T .givenOf w) buf) (afterBegin L H (Book.begin L head (T .givenOf w) buf))
@@ -112,7 +109,7 @@ module _ (L : Layers) (T : CodeTypes L) (C : CodeLaws L T) where
         in-range h e false t = none-made (some v) (some v) (callCut at)
         in-range h e true t =
             λ m.
-            let both = and-parts (leb (h .1) at) (leb at (v .values .used)) t in
+            let both = and-true (leb (h .1) at) (leb at (v .values .used)) t in
             before (some v) (replaced L (some v) (take at (v .bytes)) answer) (callCut at) (T .replyIn answer) none _
             (replacing-answer (some v) (take at (v .bytes)) answer (ofTakeUp (v .values) (take at (v .bytes)))) (m .1)
             (cuts held cs _ (h .0) (h .1) at (T .replyIn answer) e (leb-true _ _ (both .0)) (subst (λ y. at ≤ y .used) back (leb-true _ _ (both .1)))
@@ -155,7 +152,7 @@ module _ (L : Layers) (T : CodeTypes L) where
   made (e ∷ es) x = (go (e .answer) (x .0), made es (x .1))
     where
       go : (o : Option (Book.Answer (L .State))) → ((r : T .Reply) × (replyOut L T o ≡ some r)) → (a : Book.Answer (L .State)) × (o ≡ some a)
-      go none y = no-answer (y .0) (y .1)
+      go none y = none-not-some (y .0) (y .1)
       go (some a) y = (a, refl)
 
 pub session-exists : (L : Layers) (T : CodeTypes L) → CodeLaws L T → SessionExists L T

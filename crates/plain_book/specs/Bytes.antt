@@ -1,16 +1,11 @@
 -- Byte strings, and a search for the first number that passes a test.
-use mathlib.Core.Bool.{Bool, true, false}
+use mathlib.Core.Bool.{Bool, true, false, cond}
 use mathlib.Core.List.{List, [], _∷_, _++_}
 use mathlib.Core.Option.{Option, none, some}
 use Prim.Native.Nat.{ℕ, zero, suc, _+_}
 use lib.Dec.{eqb}
 
 module _ {A : Type 0} where
-  -- if, then, else
-  abbrev pub cond : Bool → A → A → A
-  cond true a b = a
-  cond false a b = b
-
   abbrev pub concat : List (List A) → List A
   concat [] = []
   concat (x ∷ xs) = x ++ concat xs

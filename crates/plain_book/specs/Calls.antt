@@ -1,10 +1,11 @@
 -- What begin, append and take-up answer, and what they leave in the lent buffer: the definitions that the functions' contracts cite.
+use mathlib.Core.Bool.{cond}
 use mathlib.Core.List.{List, [], _∷_, _++_}
 use Prim.Native.Nat.{ℕ, zero, suc, _+_}
 use lib.ListN.{length, take, drop}
 use lib.Dec.{leb, ltb}
 use Rattle.solver.specs.Res.{Res, ok, refused, bind, need}
-use Rattle.plain_book.specs.Bytes.{cond, fromOption, equalBytes}
+use Rattle.plain_book.specs.Bytes.{fromOption, equalBytes}
 use Rattle.plain_book.specs.Layers.{Layers}
 
 -- what a call is given and hands back: "the temperatures, count and used length"

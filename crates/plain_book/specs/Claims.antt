@@ -157,7 +157,7 @@ module _ (L : Layers) where
 
   abbrev pub AppendLeavesBehind : Type 0
   AppendLeavesBehind =
-      (z : L .Zone) (g : Values (L .State)) (i : L .Item) (buf : List ℕ) → g .used ≤ length buf
+      (z : L .Zone) (g : Values (L .State)) (i : L .Item) (buf : List ℕ)
       → drop (handedBack (append L z g i buf .answer) .used) (append L z g i buf .buffer) ≡ drop (handedBack (append L z g i buf .answer) .used) buf
 
 -- ---- all of them

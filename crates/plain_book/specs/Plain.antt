@@ -1,4 +1,5 @@
 -- The plain book of document 01: a head's bytes and the items that it holds, and nothing else. Whatever else it has is worked out from these.
+use mathlib.Core.Bool.{cond}
 use mathlib.Core.Path.{_≡_}
 use mathlib.Core.List.{List, [], _∷_, _++_, map}
 use mathlib.Core.Option.{Option, none, some}
@@ -6,7 +7,7 @@ use Prim.Native.Nat.{ℕ, _+_, _≤_}
 use lib.ListN.{length, take}
 use lib.Dec.{leb, ltb}
 use Rattle.solver.specs.Res.{Res, ok, refused, bind, need}
-use Rattle.plain_book.specs.Bytes.{cond, concat}
+use Rattle.plain_book.specs.Bytes.{concat}
 use Rattle.plain_book.specs.Layers.{Layers}
 use Rattle.plain_book.specs.Calls.{Values}
 

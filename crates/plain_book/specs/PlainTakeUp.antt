@@ -1,11 +1,11 @@
 -- The plain book's own take-up. It goes by the index of an entry, and shares no loop with the take-up that the contract cites.
-use mathlib.Core.Bool.{Bool, true, false, not, _||_}
+use mathlib.Core.Bool.{Bool, true, false, not, _||_, cond}
 use mathlib.Core.List.{List, [], _∷_, _++_}
 use Prim.Native.Nat.{ℕ, zero, suc}
 use lib.ListN.{length, take, drop}
 use lib.Dec.{eqb}
 use Rattle.solver.specs.Res.{Res, ok, refused, bind}
-use Rattle.plain_book.specs.Bytes.{cond, fromOption, equalBytes, firstBelow}
+use Rattle.plain_book.specs.Bytes.{fromOption, equalBytes, firstBelow}
 use Rattle.plain_book.specs.Layers.{Layers}
 use Rattle.plain_book.specs.Plain.{Plain, book, entries, lastState}
 

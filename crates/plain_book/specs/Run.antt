@@ -1,12 +1,12 @@
 -- Lists of calls, and their two runs: by the definitions that the functions' contracts cite, and by the plain book.
-use mathlib.Core.Bool.{_&&_}
+use mathlib.Core.Bool.{_&&_, cond}
 use mathlib.Core.List.{List, [], _∷_, _++_}
 use mathlib.Core.Option.{Option, none, some}
 use Prim.Native.Nat.{ℕ}
 use lib.ListN.{length, take, drop}
 use lib.Dec.{leb}
 use Rattle.solver.specs.Res.{Res, ok, refused}
-use Rattle.plain_book.specs.Bytes.{cond, fromOption}
+use Rattle.plain_book.specs.Bytes.{fromOption}
 use Rattle.plain_book.specs.Layers.{Layers}
 use Rattle.plain_book.specs.Calls.{Values, Answer, accepted, refusedWith, handedBack, Outcome, begin, append, takeUp}
 use Rattle.plain_book.specs.Plain.{Plain, empty, book, View, view, beginPlain, appendPlain, cutPlain}

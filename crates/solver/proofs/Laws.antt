@@ -6,3 +6,4 @@ pub mod Signs
 pub mod Sums
 pub mod Solver
 pub mod Refusals
+pub mod Tests

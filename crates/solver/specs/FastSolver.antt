@@ -38,7 +38,7 @@ testDivisors n twoNodes diag (luWith dense exchanges) =
 unfoldable pub factorDense : ℕ → List Bool → List Float → List Float → List ℕ → Factored
 factorDense n twoNodes diag dense exchanges = testDivisors n twoNodes diag (luFactor (n + 1) (setInnerDiagonals n diag dense) exchanges)
 
--- of a matrix and of the exchanges' list as it is before: no place behind the last column of it is written
+-- of a matrix. The list of exchanges is lent: its first n + 1 places are written, the others stay as they were
 unfoldable pub factor : Matrix → List ℕ → Factored
 factor a exchanges =
     let n = atMost24 (a .n) in
@@ -88,7 +88,7 @@ abbrev pub substituteFactored : Matrix → List Float → Factored → Solved
 substituteFactored a b (factored zero diag dense exchanges) = substitute (withFactors a diag dense) exchanges b
 substituteFactored a b (factored (suc k) diag dense exchanges) = solved (suc k) b
 
--- both: 0 with the temperatures, 12 with the right side as it was, or 13
+-- both: 0 with the temperatures, 12 with the right side as it was, or 13 with the temperatures that were found
 unfoldable pub fastSolver : Matrix → List Float → Solved
 fastSolver a b = substituteFactored a b (factor a (replicate 25 0))
 

@@ -14,7 +14,7 @@ use Rattle.solver.specs.Rows.{entry, row, setRow, pivotRow, eliminateRow
 pub data Lu : Type 0 where
   luWith : (matrix : List Float) (exchanges : List ℕ) → Lu
 
--- row k and row q, which is pivots, change places whole, their factors included; nothing is done where they are one row
+-- row k and row q, the pivot row, whose entries are given, change places whole, their factors included; nothing is done where they are one row
 unfoldable pub exchangeRows : ℕ → ℕ → List Float → List Float → List Float
 exchangeRows k q pivots m = cond (eqb q k) m (setRow k pivots (setRow q (row k m) m))
 

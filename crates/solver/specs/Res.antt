@@ -8,6 +8,14 @@ pub data Res (A : Type 0) : Type 0 where
   ok : A → Res A
   refused : (number index : ℕ) → Res A
 
+module _ {A : Type 0} where
+  pub ok-inj : {a b : A} → ok a ≡ ok b → a ≡ b
+  ok-inj e = cc
+
+  -- an answer is no refusal
+  pub ok-not-refused : {B : Type 0} (a : A) (number index : ℕ) → ok a ≡ refused number index → B
+  ok-not-refused a number index e = let z : _≡_ {A = ℕ} 0 1 = cc in absurd (omega arith)
+
 module _ {A B : Type 0} where
   -- goes on with an answer; a refusal stays
   abbrev pub bind : Res A → (A → Res B) → Res B

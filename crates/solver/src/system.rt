@@ -25,7 +25,7 @@ pub struct Matrix {
     pub dense: [f64; 625],
 }
 
-// 0 and the temperatures in their slots; 12 and the right side as it was; or 13.
+// 0 and the temperatures in their slots; 12 and the right side as it was; or 13 and the temperatures that were found.
 pub struct Solved {
     pub number: u32,
     pub temps: [f64; 121],

@@ -123,7 +123,7 @@ demandBy kWh v =
       «ach_to_trigger_heating» = v .«ach_to_trigger_heating»;
     }
 
--- ---- the whole. c: the numbers of annex B; z: the zone; t: the node temperatures before the hour; h: the hour's conditions
+-- ---- the whole. c: the standards' numbers; z: the zone; t: the node temperatures before the hour; h: the hour's conditions
 module _ (c : Coefficients) (z : Zone) (t : List Float) (h : Conditions) where
   -- node temperatures after the hour, by heating or cooling gains, their convective fraction and the air change rate
   abbrev pub temperaturesWith : (gains fraction ach : Float) → Res (List Float)

@@ -58,7 +58,7 @@ delivered h d = (d .«space_heat_demand» +ᶠ d .«space_cool_demand») *ᶠ de
 
 -- total g
 abbrev pub totalGains : Conditions → Float → Float
-totalGains h w = (h .«gains_heat_cool_convective» +ᶠ h .«gains_heat_cool_radiative») +ᶠ w
+totalGains h w = gainsHeatCool h +ᶠ w
 
 -- the convective share of g, 0 where g is close to 0
 unfoldable pub convectiveShare : Conditions → Float → Float → Float

@@ -29,6 +29,7 @@ ghost use Rattle.zone_temps.specs.TempOperative.{areasOf};
 ghost use Rattle.zone.specs.Demand.{achTarget, loadedDemand, demandTowards, demandFrom, spaceHeatCoolDemand};
 ghost use Rattle.zone.specs.Solves.{hourSystem, factorsAt, demandAnswer, DemandedAt};
 
+// diag and dense only say which system was factored.
 fn loaded_demand(
     z: Zone,
     t: &[f64; 121],

@@ -34,6 +34,7 @@ pub use zone_head::ZoneTemperatureControlBasis;
 pub use zone_head::ach_req_to_reach_temperature;
 pub use zone_head::calc_vent_heat_transfer_coeff;
 pub use zone_head::h_ci;
+pub use zone_head::node_count;
 pub use zone_head::standard_coefficients;
 pub use zone_head::zone_of_head;
 pub use zone_head::zone_test;

@@ -1,4 +1,5 @@
-// The calculations of one hour: the matrix is factored for each rate, and the right side of each load substituted.
+// The calculations of one hour: the matrix is factored for each rate, and the right side of each load substituted. Before them the hour's numbers and
+// the control temperature.
 use solver::close_in_demand;
 use zone_head::Conditions;
 use zone_head::Zone;

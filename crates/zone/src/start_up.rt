@@ -95,7 +95,7 @@ fn start_slots(z: Zone) -> [f64; 121]
     slots_of(z, s)
 }
 
-// The demand is met with fraction 0.4 and rate 0.
+// The demand is met with start-up's fraction, 0.4, and the demand's rate, which is the fixed 0.
 fn pass(z: Zone, h: Conditions, t: [f64; 121]) -> Passed
     requires { ⌜ h ≡ startUpConditions z ⌝ }
     ensures { λ r. ⌜ verdictRes (r .verdict) (r .temps) ≡ pass standardCoefficients z t ⌝ }
@@ -171,7 +171,7 @@ fn pass(z: Zone, h: Conditions, t: [f64; 121]) -> Passed
     }
 }
 
-// As the verdict that goes with it.
+// A solve's number as a verdict: 0 accepts.
 fn passed_of(after: Solved) -> Passed
     ensures { λ r. ⌜ verdictRes (r .verdict) (r .temps) ≡ solvedRes after ⌝ }
 {

@@ -63,6 +63,7 @@ pub struct HourStep {
     pub state: State,
 }
 
+// Of a refused start-up: no nodes, every temperature 0.0.
 pub struct StartUp {
     pub verdict: Verdict,
     pub state: State,

@@ -1,4 +1,4 @@
-// Refusals 4 to 9 of a call: the zone, the state, the conditions.
+// Refusals 4 to 9 of a call: the zone, the state, the conditions. (Tests of a call's arguments, not of the program.)
 use crate::state::State;
 use solver::within_million;
 use zone_head::HourConditions;

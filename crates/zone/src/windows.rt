@@ -1,4 +1,5 @@
-// What the choice of an air change rate looks at: temperatures, the rates that reach them, and whether windows cool.
+// What the choice of an air change rate looks at: temperatures, the rates that reach them, whether windows cool and whether they cool enough; and what it
+// gives.
 use crate::solves::control_temperature;
 use crate::state::AchToTriggerHeating;
 use solver::close_in_windows_test;

@@ -14,7 +14,8 @@ use Rattle.zone_head.specs.declared.building_element.HeatFlowDirection.{
 use Rattle.zone_head.specs.declared.building_element.HeatFlowDirection.the-variants.{Horizontal, Upwards, Downwards}
 use Rattle.zone_head.specs.declared.zone_record.Zone.{Zone}
 
--- BS EN ISO 52016-1, Tables B.11 and B.17
+-- f_int_c, f_sol_c: BS EN ISO 52016-1:2017, Table B.11; k_m_int: Table B.17; the three h_ci: BS EN ISO 13789:2017, Table 8; the pitches that part
+-- ceilings, walls and floors: the Rust's PITCH_LIMIT_HORIZ_CEILING and PITCH_LIMIT_HORIZ_FLOOR
 unfoldable pub standardCoefficients : Coefficients
 standardCoefficients =
     record {

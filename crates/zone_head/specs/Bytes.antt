@@ -21,7 +21,7 @@ numAt bs at count = bigEndian (take count (drop at bs))
 abbrev pub floatAt : List ℕ → (at : ℕ) → Float
 floatAt bs at = ofBits binary64 (numAt bs at 8)
 
--- a number in so many bytes
+-- the lowest `count` bytes of a number, the highest first
 unfoldable pub bytesOf : (count n : ℕ) → List ℕ
 bytesOf zero n = []
 bytesOf (suc k) n = bytesOf k (n / 256) ++ (n % 256 ∷ [])

@@ -77,7 +77,7 @@ unfoldable pub openBitsGood : List ℕ → (treatments : List ℕ) → (p : ℕ)
 openBitsGood bs [] p = true
 openBitsGood bs (t ∷ ts) p = openWithin t (getD bs (p + 40) 0) && openBitsGood bs ts (p + 41)
 
--- the twelve floats and the rates
+-- the first six floats: hour length, external temperature, internal and solar gains, the two fractions
 unfoldable pub hourAndGainsInRange : Conditions → Bool
 hourAndGainsInRange c =
     hourLengthRange (c .«delta_t_h»)
@@ -87,6 +87,7 @@ hourAndGainsInRange c =
     && fractionRange (c .«frac_convective_heat»)
     && fractionRange (c .«frac_convective_cool»)
 
+-- the other six: three setpoints, supply temperature, convective and radiative gains
 unfoldable pub setpointsInRange : Conditions → Bool
 setpointsInRange c =
     heatingSetpointRange (c .«temp_setpnt_heat»)
@@ -96,6 +97,7 @@ setpointsInRange c =
     && gainsRange (c .«gains_heat_cool_convective»)
     && gainsRange (c .«gains_heat_cool_radiative»)
 
+-- the rates
 abbrev pub achArgsInRange : AirChangesPerHourArgument → Bool
 achArgsInRange (Cooling rate) = rateRange rate
 achArgsInRange (TargetAndWindowsOpen target windows) = rateRange target && rateRange windows

@@ -28,7 +28,7 @@ raisedTo ach achMin = cond (lt ach achMin) achMin ach
 unfoldable pub cappedAt : (ach achMax : Float) → Float
 cappedAt ach achMax = cond (lt achMax ach) achMax ach
 
--- min and max are of the two solved cases: the rate, the temperature that is controlled and the air temperature. An early answer is
+-- Min: solved at the rate achMin; Max: solved at achMax; tempAch: the temperature that is controlled, tempIntAir: the air's. An early answer is
 -- neither raised nor capped
 unfoldable pub achReqToReachTemperature : (target achMin achMax tempAchMin tempAchMax tempIntAirMin tempIntAirMax supply : Float) → Float
 achReqToReachTemperature target achMin achMax tempAchMin tempAchMax tempIntAirMin tempIntAirMax supply =

@@ -51,7 +51,7 @@ pub struct Element {
     pub first_hour: ElementHour,
 }
 
-// The numbers of the standard's annex B that assembly and h_ci use.
+// The standards' numbers that assembly and h_ci use.
 pub struct Coefficients {
     pub f_int_c: f64,
     pub f_sol_c: f64,
@@ -69,7 +69,7 @@ pub enum HeatFlowDirection {
     Downwards,
 }
 
-// Table B.11 and B.17, with the pitches that part ceilings, walls and floors.
+// BS EN ISO 52016-1, Tables B.11 and B.17; h_ci: BS EN ISO 13789, Table 8; and the pitches that part ceilings, walls and floors.
 pub fn standard_coefficients() -> Coefficients
     ensures { λ r. ⌜ r ≡ standardCoefficients ⌝ }
 {

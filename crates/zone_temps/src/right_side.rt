@@ -1,4 +1,4 @@
-// The right side of the system.
+// The rows of the chains with their right sides, and the right side of one rate and load.
 use crate::equations::right_sides_of;
 use crate::equations::rows_of;
 use crate::matrix::set_rows;

@@ -1,21 +1,19 @@
 -- The year book's layers meet the laws that the plain book asks of its layers.
 use Prim.Native.Nat.{ℕ, _≤_, _<_}
 use mathlib.Core.Path.{_≡_, refl, sym, ap, _∙_}
-use mathlib.Core.Bool.{Bool, true, false}
+use mathlib.Core.Bool.{Bool, true, false, cond}
 use mathlib.Core.List.{List, _++_}
 use mathlib.Core.Option.{none, some}
 use native.Mathlib.Omega.{arith}
 use lib.ListN.{length, take, length-append, length-take}
 use lib.Dec.{leb}
 use borrow.Author.Tests.{leb-true, le-leb, lt-leb}
-use Rattle.solver.specs.Res.{ok, bind-ok}
+use Rattle.solver.specs.Res.{ok, bind-ok, ok-inj}
 use Rattle.zone_head.specs.declared.zone_record.Zone.{Zone}
 use Rattle.zone_head.proofs.Claims.Head.{head-within, head-then, head-tested}
 use Rattle.zone.specs.Hour.{HourResult}
 use Rattle.zone.specs.declared.state.State.{State}
-use Rattle.plain_book.specs.Bytes.{cond}
 use Rattle.plain_book.specs.Layers.{Laws}
-use Rattle.plain_book.proofs.Laws.Bytes.{ok-inj}
 use Rattle.book.specs.Entry.{wholeLength, entryOf}
 use Rattle.book.specs.Year.{hour, step, entryLength, conditionsIn, year}
 use Rattle.book.proofs.Laws.Entry.{conditions-back}

@@ -13,10 +13,6 @@ unfolding bytesOf
 length-bytesOf zero n = refl
 length-bytesOf (suc k) n = simp length-append (omega (arith, length-bytesOf k (n / 256)))
 
-pub length-replace : (at : ℕ) (bs b : List ℕ) → at + length bs ≤ length b → length (replaceAt at bs b) ≡ length b
-unfolding replaceAt
-length-replace at bs b h = simp (length-append, length-take, length-drop) (omega arith)
-
 -- no byte replaced
 pub replace-none : (at : ℕ) (b : List ℕ) → replaceAt at [] b ≡ b
 unfolding replaceAt

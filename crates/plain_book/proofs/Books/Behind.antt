@@ -1,15 +1,16 @@
 -- The bytes behind the used ones stay as they were, whatever a begin or an append answers.
 use mathlib.Core.Path.{_≡_, refl, ap, _∙_, subst}
 use mathlib.Core.List.{List, _++_}
-use Prim.Native.Nat.{ℕ, _+_}
+use Prim.Native.Nat.{ℕ, _+_, _≤_}
+use native.Mathlib.Omega.{arith}
 use lib.ListN.{length, take, drop, length-append}
 use lib.Seq.{drop-at, length-take-le}
 use lib.Dec.{leb, ltb}
-use Rattle.solver.specs.Res.{Res, ok, refused, bind-ok, need}
+use borrow.Author.Tests.{leb-true}
+use Rattle.solver.specs.Res.{Res, ok, refused, bind-ok, need, need-ok, ok-inj}
 use Rattle.plain_book.specs.Layers.{Layers, Laws}
 use Rattle.plain_book.specs.Calls.{Values, handedBack, outcomeOf, beginRes, begin, appendRes, append}
 use Rattle.plain_book.specs.Claims.{BeginLeavesBehind, AppendLeavesBehind}
-use Rattle.plain_book.proofs.Laws.Bytes.{ok-inj}
 
 module _ (L : Layers) (W : Laws L) where
   -- an outcome leaves them if an accepted one does
@@ -33,7 +34,7 @@ module _ (L : Layers) (W : Laws L) where
 
   pub append-leaves-behind : AppendLeavesBehind L
   unfolding append appendRes
-  append-leaves-behind z g i buf fits = outcome-behind g buf (appendRes L z g i buf) accepted
+  append-leaves-behind z g i buf = outcome-behind g buf (appendRes L z g i buf) accepted
     where
       accepted : (r : Values (L .State) × List ℕ) → appendRes L z g i buf ≡ ok r → drop (r .0 .used) (r .1) ≡ drop (r .0 .used) buf
       accepted r e =
@@ -41,6 +42,8 @@ module _ (L : Layers) (W : Laws L) where
           let b = bind-ok (need (ltb (g .count) (L .limit)) 17) _ r (a .2) in
           let c = bind-ok (L .appendStep z (g .count) (g .state) i) _ r (b .2) in
           let d = bind-ok (need (leb (g .used + length (c .0 .0)) (length buf)) 16) _ r (c .2) in
+          let room = leb-true (g .used + length (c .0 .0)) (length buf) (need-ok _ 16 0 (d .0) (d .1)) in
+          let fits : g .used ≤ length buf = omega (arith, room) in
           subst (λ x. drop (x .0 .used) (x .1) ≡ drop (x .0 .used) buf) (ok-inj (d .2))
           (drop-at (take (g .used) buf ++ c .0 .0) _ (g .used + length (c .0 .0))
           (length-append (take (g .used) buf) (c .0 .0) ∙ ap (λ x. x + length (c .0 .0)) (length-take-le (g .used) buf fits)))

@@ -10,14 +10,14 @@ use lib.ListN.{length, take, drop, length-append}
 use lib.Seq.{drop-at, drop-drop}
 use lib.Dec.{leb, ltb}
 use borrow.Author.Tests.{leb-false, le-leb, lt-ltb}
-use Rattle.solver.specs.Res.{Res, ok, refused, bind-ok, need}
+use Rattle.solver.specs.Res.{Res, ok, refused, bind-ok, need, ok-inj}
 use Rattle.plain_book.specs.Layers.{Layers, Laws}
 use Rattle.plain_book.specs.Calls.{Values, accepted, refusedWith, takeUp}
 use Rattle.plain_book.specs.Plain.{Plain, empty, book, lastState, entries, contents, view, appendPlain, itemsEndingBy, WellFormed, wellFormed}
 use Rattle.plain_book.specs.PlainTakeUp.{takeUpPlain}
 use Rattle.plain_book.specs.Run.{callAppend, callCut, Calls, run, heldAfter, plainOutcome, plainMake, plainEvent, plainRun, plainAfter}
 use Rattle.plain_book.specs.Claims.{CutIsTakeUp, CutAccepted, CutKeepsFirst, appendsOf, AllAccepted, HeldAgain, Ready, AcceptedAnew}
-use Rattle.plain_book.proofs.Laws.Bytes.{ok-inj, some-inj}
+use Rattle.plain_book.proofs.Laws.Bytes.{some-inj}
 use Rattle.plain_book.proofs.Laws.Entries.{Entries, entries-cons, entries-parts, length-entries}
 use Rattle.plain_book.proofs.Laws.Reading.{none-ending}
 use Rattle.plain_book.proofs.Agreement.{contents-is, viewed, view-is, takeUp-agrees}

@@ -4,12 +4,11 @@ use mathlib.Core.List.{List, [], _∷_, _++_, map, append-cancel-left}
 use Prim.Native.Nat.{ℕ, _+_}
 use lib.ListN.{length, take}
 use lib.Seq.{take-at, drop-at}
-use Rattle.solver.specs.Res.{ok}
+use Rattle.solver.specs.Res.{ok, ok-inj}
 use Rattle.plain_book.specs.Layers.{Layers, Laws}
 use Rattle.plain_book.specs.Calls.{wholeEntries}
 use Rattle.plain_book.specs.Plain.{entries, entryBytes, contents, usedBytes}
 use Rattle.plain_book.specs.Claims.{EqualBooks}
-use Rattle.plain_book.proofs.Laws.Bytes.{ok-inj}
 use Rattle.plain_book.proofs.Laws.Entries.{Entries, bytesOf, entries-cons}
 use Rattle.plain_book.proofs.Laws.Reading.{whole-none, whole-some, length-nil}
 use Rattle.plain_book.proofs.Agreement.{contents-is, head-on}

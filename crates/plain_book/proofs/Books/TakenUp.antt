@@ -1,6 +1,6 @@
 -- Which bytes are taken up, and which number and index there is otherwise.
 use mathlib.Core.Path.{_≡_, refl, sym, ap, _∙_, subst}
-use mathlib.Core.Bool.{Bool, true, false, _||_}
+use mathlib.Core.Bool.{Bool, true, false, _||_, cond}
 use mathlib.Core.List.{List}
 use mathlib.Core.Option.{some}
 use Prim.Native.Nat.{ℕ, _≤_, _<_}
@@ -10,7 +10,7 @@ use lib.ListN.{take, drop}
 use lib.Dec.{eqb, leb, ltb}
 use borrow.Author.Tests.{eqb-true, eqb-false, eq-eqb, ne-eqb, leb-true, leb-false, ltb-true, ltb-false}
 use Rattle.solver.specs.Res.{Res, ok, refused, bind-is}
-use Rattle.plain_book.specs.Bytes.{cond, firstBelow}
+use Rattle.plain_book.specs.Bytes.{firstBelow}
 use Rattle.plain_book.specs.Layers.{Layers, Laws}
 use Rattle.plain_book.specs.Calls.{Values, accepted, refusedWith, takeUp}
 use Rattle.plain_book.specs.Plain.{Plain, empty, book, view, WellFormed}

@@ -1,7 +1,7 @@
 -- The plain book's take-up, which goes by index, against the whole entries as a list.
 use mathlib.Core.Path.{_≡_, refl, sym, ap, _∙_, subst}
 use mathlib.Core.Logic.{_⊎_, inl, inr}
-use mathlib.Core.Bool.{Bool, true, false, not, _||_}
+use mathlib.Core.Bool.{Bool, true, false, not, _||_, cond}
 use mathlib.Core.List.{List, [], _∷_, _++_, map, map-append, nil≢cons}
 use mathlib.Core.Option.{Option, none, some}
 use Prim.Native.Nat.{ℕ, zero, suc, _+_, _≤_, _<_}
@@ -12,7 +12,7 @@ use lib.Seq.{take-suc, drop-cons, split-at, drop-nil, drop-length, take-length, 
 use lib.Dec.{eqb}
 use borrow.Author.Tests.{eq-eqb, ne-eqb}
 use Rattle.solver.specs.Res.{Res, ok, refused, bind-is}
-use Rattle.plain_book.specs.Bytes.{cond, equalBytes, firstBelow}
+use Rattle.plain_book.specs.Bytes.{equalBytes, firstBelow}
 use Rattle.plain_book.specs.Layers.{Layers, Laws}
 use Rattle.plain_book.specs.Calls.{wholeEntriesUpTo, wholeEntries}
 use Rattle.plain_book.specs.Plain.{entries, lastState}

@@ -1,8 +1,8 @@
--- Laws of byte strings, of the search for a first number, and of refusals.
+-- Laws of byte strings and of the search for a first number.
 use mathlib.Core.Path.{_≡_, refl, sym, ap, _∙_}
-use mathlib.Core.Bool.{Bool, true, false, _&&_, _||_}
+use mathlib.Core.Bool.{Bool, true, false, _||_, cond}
 use mathlib.Core.List.{List, [], _∷_, _++_, append-assoc}
-use mathlib.Core.Option.{some}
+use mathlib.Core.Option.{none, some}
 use Prim.Native.Nat.{ℕ, zero, suc, _+_, _≤_, _<_}
 use native.Mathlib.Omega.{arith}
 use native.Mathlib.Nat.{add-zero}
@@ -10,19 +10,14 @@ use lib.ListN.{length, take}
 use lib.Seq.{take-at}
 use lib.Dec.{eqb}
 use borrow.Author.Tests.{eqb-true, eq-eqb}
-use Rattle.solver.specs.Res.{ok, refused}
-use Rattle.plain_book.specs.Bytes.{cond, concat, equalBytes, firstFrom, firstBelow}
+use Rattle.plain_book.specs.Bytes.{concat, equalBytes, firstFrom, firstBelow}
 
 module _ {A : Type 0} where
-  pub ok-inj : {a b : A} → ok a ≡ ok b → a ≡ b
-  ok-inj e = cc
-
   pub some-inj : {a b : A} → some a ≡ some b → a ≡ b
   some-inj e = cc
 
-  -- an answer is no refusal
-  pub ok-not-refused : {B : Type 0} (a : A) (n j : ℕ) → ok a ≡ refused n j → B
-  ok-not-refused a n j e = let z : _≡_ {A = ℕ} 0 1 = cc in absurd (omega arith)
+  pub none-not-some : {B : Type 0} (a : A) → none ≡ some a → B
+  none-not-some a e = let z : _≡_ {A = ℕ} 0 1 = cc in absurd (omega arith)
 
   pub concat-append : (xs ys : List (List A)) → concat (xs ++ ys) ≡ concat xs ++ concat ys
   concat-append [] ys = refl
@@ -30,10 +25,6 @@ module _ {A : Type 0} where
 
 pub true-not-false : {B : Type 0} → true ≡ false → B
 true-not-false e = let z : _≡_ {A = ℕ} 0 1 = cc in absurd (omega arith)
-
-pub and-parts : (a b : Bool) → (a && b) ≡ true → (a ≡ true) × (b ≡ true)
-and-parts true b e = (refl, e)
-and-parts false b e = (e, cc)
 
 pub front-of : (a b c : List ℕ) → a ≡ b ++ c → take (length b) a ≡ b
 front-of a b c e = ap (take (length b)) e ∙ take-at b c (length b) refl

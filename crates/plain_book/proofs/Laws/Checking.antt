@@ -1,20 +1,20 @@
--- Laws of `checkEntries`: what it accepts, what it refuses and where; and one turn of a loop that computes it.
+-- Laws of `checkEntries`: what it accepts, what it refuses and where.
 use mathlib.Core.Path.{_≡_, refl, sym, ap, _∙_, subst}
 use mathlib.Core.Logic.{_⊎_, inl, inr}
-use mathlib.Core.Bool.{Bool, true, false}
+use mathlib.Core.Bool.{Bool, true, false, cond}
 use mathlib.Core.List.{List, [], _∷_, _++_, map}
 use Prim.Native.Nat.{ℕ, suc, _+_, _≤_, _<_}
 use native.Mathlib.Nat.{add-zero}
 use native.Mathlib.Omega.{arith}
 use lib.ListN.{length, take, getD, length-append}
 use lib.Dec.{ltb}
-use borrow.Author.Tests.{ltb-true, ltb-false, lt-ltb, le-ltb}
-use Rattle.solver.specs.Res.{Res, ok, refused, bind, bind-ok, bind-is, need, need-ok}
-use Rattle.plain_book.specs.Bytes.{cond, concat, equalBytes}
+use borrow.Author.Tests.{ltb-true, ltb-false, lt-ltb}
+use Rattle.solver.specs.Res.{Res, ok, refused, bind, bind-ok, bind-is, need, need-ok, ok-inj, ok-not-refused}
+use Rattle.plain_book.specs.Bytes.{concat, equalBytes}
 use Rattle.plain_book.specs.Layers.{Layers}
 use Rattle.plain_book.specs.Calls.{Values, checkEntry, checkEntries}
 use Rattle.plain_book.specs.Plain.{entries, lastState}
-use Rattle.plain_book.proofs.Laws.Bytes.{ok-inj, ok-not-refused, true-not-false, equal-self, equal-true}
+use Rattle.plain_book.proofs.Laws.Bytes.{true-not-false, equal-self, equal-true}
 use Rattle.plain_book.proofs.Laws.Entries.{Entries, bytesOf, entries-cons}
 
 module _ (L : Layers) where
@@ -145,29 +145,3 @@ module _ (L : Layers) where
             reason = subst (λ y. ((y ≡ L .limit) × (c ≡ 17) × (j ≡ 0)) ⊎ ((y < L .limit) × (c ≡ 18) × (j ≡ y)
                 × ((t′ : L .State) → L .step z y (lastState t (r .es)) (L .itemOf z (getD cs (r .m) [])) ≡ ok (getD cs (r .m) [], t′) → ⊥))) n (r .reason);
           }
-
--- ---- one turn of a loop that computes it
-
-module _ (L : Layers) (z : L .Zone) (k : ℕ) (s : L .State) (u : ℕ) (c : List ℕ) (cs : List (List ℕ)) where
-  -- one entry too many
-  pub check-full : L .limit ≤ k → checkEntries L z k s u (c ∷ cs) ≡ refused 17 0
-  unfolding checkEntries
-  check-full h = rw (le-ltb k (L .limit) h)
-
-  module _ (room : k < L .limit) where
-    -- an entry that the step gives
-    pub check-true : (e : List ℕ × L .State) → L .step z k s (L .itemOf z c) ≡ ok e → equalBytes (e .0) c ≡ true
-        → checkEntries L z k s u (c ∷ cs) ≡ checkEntries L z (k + 1) (e .1) (u + length c) cs
-    unfolding checkEntries
-    check-true e st m = rw (lt-ltb k (L .limit) room, st, m)
-
-    -- an entry of other bytes
-    pub check-other : (e : List ℕ × L .State) → L .step z k s (L .itemOf z c) ≡ ok e → equalBytes (e .0) c ≡ false
-        → checkEntries L z k s u (c ∷ cs) ≡ refused 18 k
-    unfolding checkEntries
-    check-other e st m = rw (lt-ltb k (L .limit) room, st, m)
-
-    -- an entry whose conditions the step refuses
-    pub check-refusing : (n j : ℕ) → L .step z k s (L .itemOf z c) ≡ refused n j → checkEntries L z k s u (c ∷ cs) ≡ refused 18 k
-    unfolding checkEntries
-    check-refusing n j st = rw (lt-ltb k (L .limit) room, st)

@@ -5,11 +5,11 @@ use Prim.Native.Nat.{ℕ, suc, _+_}
 use native.Mathlib.Nat.{add-zero}
 use native.Mathlib.Omega.{arith}
 use lib.ListN.{length, length-map}
-use Rattle.solver.specs.Res.{ok, bind-ok, bind-is}
+use Rattle.solver.specs.Res.{ok, bind-ok, bind-is, ok-inj}
 use Rattle.plain_book.specs.Bytes.{concat}
 use Rattle.plain_book.specs.Layers.{Layers}
 use Rattle.plain_book.specs.Plain.{entries, entryBytes, lastState}
-use Rattle.plain_book.proofs.Laws.Bytes.{ok-inj, concat-append}
+use Rattle.plain_book.proofs.Laws.Bytes.{concat-append}
 
 module _ {S : Type 0} where
   -- the bytes alone

@@ -9,12 +9,11 @@ use lib.ListN.{length, take, drop, length-append, length-drop, take-append-drop}
 use lib.Seq.{take-append-le, take-append-add, take-at, drop-at, take-nil}
 use lib.Dec.{leb}
 use borrow.Author.Tests.{leb-true, leb-false, le-leb, lt-leb}
-use Rattle.solver.specs.Res.{ok, bind-is}
+use Rattle.solver.specs.Res.{ok, bind-is, ok-inj}
 use Rattle.plain_book.specs.Bytes.{concat, fromOption}
 use Rattle.plain_book.specs.Layers.{Layers, Laws}
 use Rattle.plain_book.specs.Calls.{wholeEntriesUpTo, wholeEntries}
 use Rattle.plain_book.specs.Plain.{entries, entryBytes, itemsEndingBy}
-use Rattle.plain_book.proofs.Laws.Bytes.{ok-inj}
 use Rattle.plain_book.proofs.Laws.Entries.{Entries, bytesOf, entries-cons}
 
 module _ (L : Layers) where

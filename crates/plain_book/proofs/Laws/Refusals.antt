@@ -1,6 +1,6 @@
 -- What begin, append and take-up are refused with: by every family that allows what the layers refuse with, and the numbers of the book.
 use Prim.Native.Nat.{ℕ, _+_, _<_}
-use mathlib.Core.Bool.{Bool, true, false}
+use mathlib.Core.Bool.{Bool, true, false, cond}
 use mathlib.Core.List.{List, [], _∷_}
 use lib.Dec.{leb, ltb}
 use lib.ListN.{length, drop}
@@ -8,7 +8,7 @@ use borrow.Author.Tests.{ltb-true}
 use Rattle.solver.specs.Res.{Res, ok, refused}
 use Rattle.solver.specs.Refusals.{RefusesBy, accepts, refuses}
 use Rattle.solver.proofs.Laws.Refusals.{bind-refuses, test-refuses}
-use Rattle.plain_book.specs.Bytes.{cond, equalBytes}
+use Rattle.plain_book.specs.Bytes.{equalBytes}
 use Rattle.plain_book.specs.Layers.{Layers}
 use Rattle.plain_book.specs.Calls.{Values, beginRes, appendRes, wholeEntries, checkEntry, checkEntries, takeUpRes}
 

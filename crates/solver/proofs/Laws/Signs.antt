@@ -11,14 +11,11 @@ use lib.Ieee.Fits.{up-pos}
 use borrow.Author.Tests.{ltb-true, ltb-false, eqb-true, eq-eqb}
 use Rattle.solver.specs.F64.{zero64}
 use Rattle.solver.specs.Near.{magnitude, isFinite}
+use Rattle.solver.proofs.Laws.Tests.{and-true}
 
 -- a test that computes to false is not true
 pub never : {A : Type 0} → false ≡ true → A
 never h = absurd (subst T (sym h) tt)
-
-and-left : (p q : Bool) → p && q ≡ true → p ≡ true
-and-left true q h = refl
-and-left false q h = h
 
 -- a number that is not 0 is above 0
 some-up : (m : ℕ) (e : ℤ) → 0 < suc m * up e * 1
@@ -43,7 +40,7 @@ level-zero nan h = never h
 level-zero (inf s) h = never h
 level-zero (fin s zero e) h = refl
 level-zero (fin s (suc m) e) h =
-    let z : suc m * up e * 1 ≡ 0 * 1 * down e = eqb-true _ _ (and-left _ _ h) in
+    let z : suc m * up e * 1 ≡ 0 * 1 * down e = eqb-true _ _ (and-true _ _ h .0) in
     let p : 0 < suc m * up e * 1 = some-up m e in
     absurd (omega arith)
 

@@ -4,7 +4,7 @@ use mathlib.Core.Path.{_≡_, sym, ap, _∙_}
 use mathlib.Core.List.{List}
 use lib.ListN.{length}
 use lib.Ieee.{Float}
-use Rattle.solver.specs.Res.{Res, ok, bind, bind-ok}
+use Rattle.solver.specs.Res.{Res, ok, bind, bind-ok, ok-inj}
 use Rattle.zone_head.specs.declared.building_element.Coefficients.{Coefficients}
 use Rattle.zone_head.specs.declared.conditions.Conditions.{Conditions}
 use Rattle.zone_head.specs.declared.zone_record.Zone.{Zone}
@@ -19,9 +19,6 @@ use Rattle.zone.specs.declared.state.State.{State}
 use Rattle.zone.specs.State.{zoneAndStateTest, slotsOf, stateOf}
 use Rattle.zone.specs.Demand.{deltaT, spaceHeatCoolDemand}
 use Rattle.zone.specs.Hour.{tested, step, delivered, totalGains, convectiveShare, meetDemand, HourResult, hourMet, hourResult, hourStep}
-
-ok-is : {A : Type 0} {a b : A} → ok a ≡ ok b → a ≡ b
-ok-is e = cc
 
 module _ (c : Coefficients) (z : Zone) (s : State) (bytes : List ℕ) (r : HourResult) (e : hourStep c z s bytes ≡ ok r) where
   -- the conditions that it was made with
@@ -54,6 +51,6 @@ module _ (c : Coefficients) (z : Zone) (s : State) (bytes : List ℕ) (r : HourR
       let w = delivered h (d .0) in
       let g = totalGains h w in
       let t = bind-ok (calcTemperatures c z (slotsOf z s) h (deltaT h) g (convectiveShare h w g) (d .0 .«ach_cooling»)) _ (m .0) (m .1) in
-      sym (ap (λ x. length (x .state .temps)) (ok-is (m .2)))
-      ∙ sym (ap (λ x. length (x .0 .temps)) (ok-is (t .2)))
+      sym (ap (λ x. length (x .state .temps)) (ok-inj (m .2)))
+      ∙ sym (ap (λ x. length (x .0 .temps)) (ok-inj (t .2)))
       ∙ to-nodes-length (zoneTwoNodes z) (z .count) (t .0)

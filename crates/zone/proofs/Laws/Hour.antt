@@ -12,7 +12,7 @@ use borrow.Author.Tests.{eqb-true}
 use Rattle.solver.specs.Res.{Res, ok, refused, bind-ok, need-ok}
 use Rattle.solver.specs.declared.system.Solved.{Solved}
 use Rattle.solver.specs.FastSolver.{solvedOrRefused, solvedRes, fastSolver, fastSolverRes}
-use Rattle.zone_head.proofs.Laws.Shape.{and-true}
+use Rattle.solver.proofs.Laws.Tests.{and-true}
 use Rattle.zone_head.specs.declared.building_element.Coefficients.{Coefficients}
 use Rattle.zone_head.specs.declared.zone_record.Zone.{Zone}
 use Rattle.zone_head.specs.declared.zone_record.Verdict.{Verdict}

@@ -6,7 +6,7 @@ use mathlib.Core.List.{List, map}
 use borrow.Author.Tests.{leb-true, eqb-true}
 use lib.Dec.{leb, eqb}
 use lib.ListN.{length, take}
-use Rattle.solver.specs.Res.{Res, ok, refused, bind, bind-ok, need, needAt, need-ok}
+use Rattle.solver.specs.Res.{Res, ok, refused, bind, bind-ok, need, needAt, need-ok, ok-inj}
 use Rattle.zone_head.specs.Conditions.{conditionsAt, conditionsTest, rateCodeGood, openBitsGood, testedAt, conditionsFor, conditionsOf, treatmentsOf}
 use Rattle.zone_head.specs.declared.zone_record.Zone.{Zone}
 use Rattle.zone_head.specs.declared.conditions.Conditions.{Conditions}
@@ -19,9 +19,6 @@ pub record Accepted (n : ℕ) (ts bs : List ℕ) (c : Conditions) : Type 0 where
   pub values : conditionsTest n c ≡ ok tt
   pub decoded : c ≡ conditionsAt bs n
 
-ok-same : (a b : Conditions) → _≡_ {A = Res Conditions} (ok a) (ok b) → b ≡ a
-ok-same a b e = cc
-
 pub accepted : (n : ℕ) (ts bs : List ℕ) (c : Conditions) → conditionsFor n ts bs ≡ ok c → Accepted n ts bs c
 unfolding conditionsFor testedAt
 accepted n ts bs c e =
@@ -29,7 +26,7 @@ accepted n ts bs c e =
     let y = bind-ok (need (eqb (length bs) (113 + 41 * n)) 7) _ c (x .2) in
     let v = bind-ok (need (rateCodeGood bs && openBitsGood bs (take n ts) 113) 8) _ c (y .2) in
     let w = bind-ok (conditionsTest n (conditionsAt bs n)) _ c (v .2) in
-    let d = ok-same (conditionsAt bs n) c (w .2) in
+    let d = sym (ok-inj (w .2)) in
     record {
       few = leb-true n 24 (need-ok (leb n 24) 4 0 (x .0) (x .1));
       size = eqb-true (length bs) (113 + 41 * n) (need-ok (eqb (length bs) (113 + 41 * n)) 7 0 (y .0) (y .1));

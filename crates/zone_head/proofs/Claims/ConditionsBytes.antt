@@ -20,7 +20,7 @@ use Rattle.zone_head.specs.declared.building_element.ElementHour.{Elemen
 use Rattle.zone_head.specs.declared.zone_record.Zone.{Zone}
 use Rattle.zone_head.specs.declared.conditions.Conditions.{Conditions}
 use Rattle.zone_head.specs.declared.conditions.AirChangesPerHourArgument.the-variants.{Cooling, TargetAndWindowsOpen}
-use Rattle.zone_head.proofs.Laws.Shape.{and-true}
+use Rattle.solver.proofs.Laws.Tests.{and-true}
 use Rattle.zone_head.proofs.Laws.RoundTrip.{Bytes, Number, Numbers, part, part-add, part-one, number-part, float-part, row-part}
 use Rattle.zone_head.proofs.Laws.Numbers.{hourLength-number, temperature-number, gains-number, fraction-number, heatingSetpoint-number, setpoint-number, rate-number, irradiance-number}
 use Rattle.zone_head.proofs.Claims.Conditions.{Accepted, accepted}
@@ -171,6 +171,6 @@ conditions-bytes z bs c b e =
     let v : conditionsTest (z .count) (conditionsAt bs (z .count)) ≡ ok tt = rw (← a .decoded) (a .values) in
     sym (ap (conditionsBytes (z .count)) (a .decoded) ∙ bytes-of bs (z .count) b (a .size) (and-true (rateCodeGood bs) (openBitsGood bs (take (z .count) ts) 113) (a .code) .0) v)
 
--- so no two byte strings decode to the same conditions
+-- so no two byte strings that a zone accepts decode to the same conditions
 pub conditions-injective : (z : Zone) (a b : List ℕ) (c : Conditions) → Bytes a → Bytes b → conditionsOf z a ≡ ok c → conditionsOf z b ≡ ok c → a ≡ b
 conditions-injective z a b c ba bb ea eb = conditions-bytes z a c ba ea ∙ sym (conditions-bytes z b c bb eb)

@@ -16,7 +16,8 @@ use Rattle.zone_head.specs.ZoneTest.{valuesTest, treatmentsTest, countsT
 use Rattle.zone_head.specs.Head.{elementsEnd, lengthField, structureWithin, structureOf, headOf}
 use Rattle.zone_head.specs.declared.building_element.Element.{Element}
 use Rattle.zone_head.specs.declared.zone_record.Zone.{Zone}
-use Rattle.zone_head.proofs.Laws.Shape.{and-true, treatments-few}
+use Rattle.solver.proofs.Laws.Tests.{and-true}
+use Rattle.zone_head.proofs.Laws.Shape.{treatments-few}
 use Rattle.zone_head.proofs.Laws.Structure.{Whole, whole-of, Structured, structured}
 use Rattle.zone_head.proofs.Laws.Same.{byte-same, num-same, end-same, zone-same}
 

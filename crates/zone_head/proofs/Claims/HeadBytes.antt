@@ -19,7 +19,8 @@ use Rattle.zone_head.specs.ZoneTest.{elementHourInRange, arraysInRange, 
 use Rattle.zone_head.specs.Head.{elementsEnd, lengthField, headOf}
 use Rattle.zone_head.specs.Encoding.{rowBytes, elementHourBytes, kindNumber, basisNumber, elementBytes, elementsBytes, headBytes}
 use Rattle.zone_head.specs.declared.zone_record.Zone.{Zone}
-use Rattle.zone_head.proofs.Laws.Shape.{and-true, shaped, treatments-few}
+use Rattle.solver.proofs.Laws.Tests.{and-true}
+use Rattle.zone_head.proofs.Laws.Shape.{shaped, treatments-few}
 use Rattle.zone_head.proofs.Laws.Structure.{Whole, whole-of, Structured, structured}
 use Rattle.zone_head.proofs.Laws.RoundTrip.{Bytes, Number, Numbers, part, part-add, part-one, number-part, row-part}
 use Rattle.zone_head.proofs.Laws.Numbers.{area-number, pitch-number, coefficient-number, hPli-number, kPli-number, fraction-number, sky-number, deltaR-number, temperature-number, heatingSetpoint-number, setpoint-number}

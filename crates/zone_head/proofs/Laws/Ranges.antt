@@ -19,7 +19,7 @@ use Rattle.zone_head.specs.declared.zone_record.Zone.{Zone}
 use Rattle.zone_head.specs.declared.zone_record.Verdict.{Verdict}
 use Rattle.zone_head.specs.declared.zone_record.Verdict.the-variants.{Accepted, Refused}
 use Rattle.zone_head.proofs.Laws.Lists.{from}
-use Rattle.zone_head.proofs.Laws.Shape.{and-true}
+use Rattle.solver.proofs.Laws.Tests.{and-true}
 
 module _ (range : Float → Bool) (a : List Float) (i n : ℕ) (h : i < n) (r : n ≤ length a) where
   pub one-out : range (getD a i nan) ≡ false → allIn range (drop i (take n a)) ≡ false

@@ -12,7 +12,7 @@ use lib.Ieee.Bits.{toBits-ofBits}
 use Rattle.zone_head.specs.Bytes.{bigEndianFrom, bigEndian, numAt, floatAt, bytesOf}
 use Rattle.zone_head.specs.Reading.{floatsAt}
 use Rattle.zone_head.specs.Encoding.{floatBytes, rowBytes}
-use Rattle.zone_head.proofs.Laws.Shape.{and-true}
+use Rattle.solver.proofs.Laws.Tests.{and-true}
 
 pub bigEndian-snoc : (n : ℕ) (bs : List ℕ) (b : ℕ) → bigEndianFrom n (bs ++ (b ∷ [])) ≡ bigEndianFrom n bs * 256 + b
 unfolding bigEndianFrom

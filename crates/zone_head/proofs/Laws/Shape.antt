@@ -5,13 +5,10 @@ use mathlib.Core.Bool.{Bool, true, false, cond, _&&_}
 use native.Mathlib.Omega.{arith}
 use borrow.Author.Tests.{leb-true}
 use lib.Dec.{leb}
+use Rattle.solver.proofs.Laws.Tests.{and-true}
 use Rattle.zone_head.specs.BuildingElement.{isTwoNodes}
 use Rattle.zone_head.specs.Shape.{kCount, hCount, kindOf, kindGood, maxTreatments, elementSize}
 use Rattle.zone_head.specs.declared.building_element.Kind.{Kind}
-
-pub and-true : (a b : Bool) → (a && b) ≡ true → (a ≡ true) × (b ≡ true)
-and-true true b e = (refl, e)
-and-true false b e = absurd (let z : _≡_ {A = ℕ} 0 1 = cc in omega arith)
 
 pub record Shaped (size t kc hc : ℕ) : Type 0 where
   pub sized : size ≡ 99 + 8 * kc + 8 * hc + 8 * t

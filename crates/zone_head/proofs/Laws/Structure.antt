@@ -7,14 +7,14 @@ use native.Mathlib.Omega.{arith}
 use borrow.Author.Tests.{le-leb, lt-leb, leb-true, eq-eqb, ne-eqb, eqb-true}
 use lib.Dec.{leb, eqb}
 use lib.ListN.{getD, length}
-use Rattle.solver.specs.Res.{Res, ok, refused, bind, bind-ok, need, needAt, need-ok}
+use Rattle.solver.specs.Res.{Res, ok, refused, bind, bind-ok, need, needAt, need-ok, ok-inj}
 use Rattle.zone_head.specs.Bytes.{numAt}
 use Rattle.zone_head.specs.Shape.{kindGoodAt, sizeAt}
 use Rattle.zone_head.specs.Head.{elementsEnd, frontGood, lengthField, lengthGood, structureWithin, structureOf, structureAnswer}
 use Rattle.zone_head.specs.declared.head.Structure.{Structure}
 use Rattle.zone_head.specs.declared.head.Structure.the-variants.{End, Wrong}
 use Rattle.zone_head.proofs.Laws.Lists.{one-left}
-use Rattle.zone_head.proofs.Laws.Shape.{and-true}
+use Rattle.solver.proofs.Laws.Tests.{and-true}
 
 -- what an answer tells of the test that gave it
 pub answer-end : (r : Res ℕ) (n : ℕ) → structureAnswer r ≡ End n → r ≡ ok n
@@ -129,7 +129,7 @@ within-ok s end n lo hi th l e =
     let b = bind-ok (needAt (frontGood (getD s 5 0) (getD s 6 0)) 4 0) _ n (a .2) in
     let d = bind-ok (elementsEnd s end (getD s 6 0) 0 57) _ n (b .2) in
     let f = bind-ok (need (eqb (d .0) end) 2) _ n (d .2) in
-    let q : end ≡ n = ok-same end n (f .2) in
+    let q : end ≡ n = ok-inj (f .2) in
     let p : d .0 ≡ end = eqb-true (d .0) end (need-ok (eqb (d .0) end) 2 0 (f .0) (f .1)) in
     let g = need-ok (frontGood (getD s 5 0) (getD s 6 0)) 4 0 (b .0) (b .1) in
     let g1 = and-true (leb (getD s 5 0) 1 && leb 1 (getD s 6 0)) (leb (getD s 6 0) 24) g in
@@ -146,9 +146,6 @@ within-ok s end n lo hi th l e =
       few = leb-true (getD s 6 0) 24 (g1 .1);
       elements = d .1 ∙ ap ok p;
     })
-  where
-    ok-same : (a b : ℕ) → _≡_ {A = Res ℕ} (ok a) (ok b) → a ≡ b
-    ok-same a b e = cc
 
 pub structured : (s : List ℕ) (end : ℕ) → structureOf s ≡ ok end → Structured s end
 unfolding structureOf

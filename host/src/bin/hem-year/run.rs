@@ -1,6 +1,6 @@
 //! `hem-year run`: the missing hours of a book.
 //!
-//! The file only ever grows by whole entries, one write each, and is synced after each day. So a cut
+//! A run only adds whole entries to the file, one write each, and syncs it after each day. So a cut
 //! at any byte leaves the entries before it, and perhaps a part of one, which the next run drops once
 //! the engine has accepted the rest (README.md, "What is promised under power loss").
 use crate::calendar::Moment;

@@ -1,16 +1,17 @@
-use Rattle.book.proofs.Calls.{append-cases, zone-few, append-room, append-sum, step-size}
+use Rattle.book.proofs.Laws.Accepted.{tested-few}
+use Rattle.book.proofs.Calls.{append-cases, append-room, append-sum, step-size}
 use borrow.Author.Needs.{needs}
 use Rattle.book.proofs.book.append_entry.Statement.{statement}
 use Rattle.book.proofs.book.append_entry.Tie as tie
 
 entry-length-requires : tie.Need-entry-length-requires
-entry-length-requires c κs = search zone-few
+entry-length-requires c κs = search tested-few
 
 has-room-requires : tie.Need-has-room-requires
 has-room-requires c κs = search needs
 
 put-entry-requires : tie.Need-put-entry-requires
-put-entry-requires c κs = (search zone-few, search step-size, search append-room)
+put-entry-requires c κs = (search tested-few, search step-size, search append-room)
 
 add-accept : tie.Need-add-accept
 add-accept c = search needs
