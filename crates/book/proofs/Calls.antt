@@ -9,29 +9,27 @@ use lib.ListN.{length, take, drop}
 use lib.Seq.{length-take-le}
 use lib.Dec.{leb, ltb}
 use borrow.Author.Tests.{leb-true, leb-false, le-leb, lt-ltb, lt-leb, le-ltb}
-use Rattle.solver.specs.Res.{Res, ok, refused}
-use Rattle.zone_head.specs.BuildingElement.{standardCoefficients}
-use Rattle.zone_head.specs.Head.{headOf, headAnswer}
-use Rattle.zone_head.specs.ZoneTest.{zoneTest, verdictOf}
-use Rattle.zone_head.specs.declared.zone_record.Zone.{Zone}
-use Rattle.zone_head.specs.declared.zone_record.Verdict.{Verdict}
-use Rattle.zone_head.specs.declared.zone_record.Verdict.the-variants.{Accepted, Refused}
-use Rattle.zone_head.specs.declared.head.Head.{Head}
-use Rattle.zone_head.proofs.Laws.Ranges.{verdict-accepted, verdict-refused}
-use Rattle.zone_head.proofs.Laws.Answers.{head-no, head-yes}
-use Rattle.zone_head.proofs.Claims.Head.{head-within}
-use Rattle.zone_temps.specs.declared.balance.HeatBalance.{HeatBalance}
-use Rattle.zone.specs.Hour.{hourStep}
-use Rattle.zone.specs.StartUp.{initNodeTemps}
-use Rattle.zone.specs.Answers.{hourStepped, startedUp}
-use Rattle.zone.proofs.Laws.Answers.{start-no, start-yes, hour-no, hour-yes}
-use Rattle.zone.specs.declared.state.State.{State}
-use Rattle.zone.specs.declared.state.Demand.{Demand}
-use Rattle.zone.specs.declared.state.HourAnswer.the-variants as HourAnswer
-use Rattle.zone.specs.declared.state.HourStep.{HourStep}
-use Rattle.zone.specs.declared.state.StartUp.{StartUp}
-use Rattle.plain_book.specs.Calls as Book
-use Rattle.plain_book.specs.Session.{Meets}
+use Rattle.zone.specs.Promise.{ok, refused}
+use Rattle.zone.specs.Record.BuildingElement.{standardCoefficients}
+use Rattle.zone.specs.Format.Head.{headOf, headAnswer}
+use Rattle.zone.specs.Check.ZoneTest.{zoneTest, verdictOf}
+use Rattle.zone.specs.declared.record.zone_record.Zone.{Zone}
+use Rattle.zone.specs.declared.record.zone_record.Verdict.{Verdict}
+use Rattle.zone.specs.declared.record.zone_record.Verdict.the-variants.{Accepted, Refused}
+use Rattle.zone.specs.declared.format.head.Head.{Head}
+use Rattle.zone.proofs.Promise.{verdict-accepted, verdict-refused, head-no, head-yes, start-no, start-yes, hour-no, hour-yes}
+use Rattle.zone.proofs.Claims.Head.{head-within}
+use Rattle.zone.specs.declared.physics.balance.HeatBalance.{HeatBalance}
+use Rattle.zone.specs.Calls.Hour.{hourStep}
+use Rattle.zone.specs.Calls.StartUp.{initNodeTemps}
+use Rattle.zone.specs.Calls.Answers.{hourStepReply, startUpReply}
+use Rattle.zone.specs.declared.calls.state.State.{State}
+use Rattle.zone.specs.declared.calls.state.Demand.{Demand}
+use Rattle.zone.specs.declared.calls.state.HourAnswer.the-variants as HourAnswer
+use Rattle.zone.specs.declared.calls.state.HourStepReply.{HourStepReply}
+use Rattle.zone.specs.declared.calls.state.StartUp.{StartUp}
+use Rattle.book.specs.Model.Calls as Book
+use Rattle.book.specs.Model.Session.{Meets}
 use Rattle.book.specs.Bytes.{replaceAt}
 use Rattle.book.specs.Entry.{conditionsLength, wholeLength, entryOf}
 use Rattle.book.specs.Year.{startUp, hour, step, year}
@@ -64,7 +62,7 @@ module _ (bs : List ℕ) (h : Head) (e : h ≡ headAnswer (headOf bs)) where
   pub head-count : h .verdict ≡ Accepted → h .zone .count ≤ 24
   head-count f = head-few bs (h .zone) (h .length) (head-yes (headOf bs) h e f)
 
-module _ (z : Zone) (s : State) (i : List ℕ) (x : HourStep) (e : x ≡ hourStepped s (hourStep standardCoefficients z s i)) where
+module _ (z : Zone) (s : State) (i : List ℕ) (x : HourStepReply) (e : x ≡ hourStepReply s (hourStep standardCoefficients z s i)) where
   pub hour-size : (d : Demand) (b : HeatBalance) → x .answer ≡ HourAnswer.Accepted d b → length i ≡ conditionsLength z
   hour-size d b f = hour-conditions z s i (record { demand = d; state = x .state; balance = b }) (hour-yes s (hour z s i) x e d b f)
 
@@ -91,7 +89,7 @@ module _ (head : List ℕ) (h : Head) (e : h ≡ headAnswer (headOf head)) (g : 
   unfolding Book.beginRes
   begin-head r n j q f = begin-refused r n j q (rw (head-no (headOf head) h e n j f))
 
-  module _ (f : h .verdict ≡ Accepted) (s : StartUp) (i : s ≡ startedUp (initNodeTemps standardCoefficients (h .zone))) where
+  module _ (f : h .verdict ≡ Accepted) (s : StartUp) (i : s ≡ startUpReply (initNodeTemps standardCoefficients (h .zone))) where
     pub begin-start : (r : Reply) (n j : ℕ) → Refuses r n j → s .verdict ≡ Refused n j → BeginMeets r buf
     unfolding Book.beginRes
     begin-start r n j q k = begin-refused r n j q (rw (head-yes (headOf head) h e f, start-no (startUp (h .zone)) s i n j k))
@@ -139,7 +137,7 @@ module _ (z : Zone) (g : Values) (i : List ℕ) (buf : List ℕ) where
       room = lt-ltb (g .count) 8784 few
 
       pub append-hour : (r : Reply) (n j : ℕ) → r ≡ replyIn (Book.refusedWith n j (givenOf g))
-          → (x : HourStep) → x ≡ hourStepped (g .state) (hourStep standardCoefficients z (g .state) i) → x .answer ≡ HourAnswer.Refused n j → AppendMeets r buf
+          → (x : HourStepReply) → x ≡ hourStepReply (g .state) (hourStep standardCoefficients z (g .state) i) → x .answer ≡ HourAnswer.Refused n j → AppendMeets r buf
       unfolding Book.appendRes step
       append-hour r n j q x e f = append-refused r n j q (rw (tested, room, hour-no (g .state) (hour z (g .state) i) x e n j f))
 
@@ -175,7 +173,7 @@ pub step-size : (z : Zone) (k : ℕ) (s : State) (i : List ℕ) (e : List ℕ ×
 step-size z k s i e p = let a = step-hour z k s i e p in hour-conditions z s i (a .0) (a .1)
 
 -- what the hour step gives, as an append's entry
-pub step-given : (z : Zone) (s : State) (i : List ℕ) (x : HourStep) → x ≡ hourStepped s (hourStep standardCoefficients z s i)
+pub step-given : (z : Zone) (s : State) (i : List ℕ) (x : HourStepReply) → x ≡ hourStepReply s (hourStep standardCoefficients z s i)
     → (d : Demand) (b : HeatBalance) → x .answer ≡ HourAnswer.Accepted d b → (k : ℕ) → step z k s i ≡ ok (entryOf z i d (x .state), x .state)
 unfolding step
 step-given z s i x e d b f k = rw (hour-yes s (hour z s i) x e d b f)

@@ -4,8 +4,8 @@ use contract.Lifetimes.{Lfts}
 use denote.Ref.{now}
 use denote.Triple.Clauses.{AtExit}
 use borrow.Fn.Kinds.{Dens, endedOf}
-use Rattle.plain_book.specs.Calls as Book
-use Rattle.plain_book.specs.Session.{Meets}
+use Rattle.book.specs.Model.Calls as Book
+use Rattle.book.specs.Model.Session.{Meets}
 use Rattle.book.specs.Year.{year}
 use Rattle.book.specs.Answers.{givenOf, replyIn, code}
 use Rattle.book.specs.declared.book.Reply.{Reply}

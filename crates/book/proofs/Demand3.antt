@@ -3,13 +3,13 @@ use mathlib.Core.Path.{_≡_, refl}
 use mathlib.Core.Logic.{_↔_}
 use mathlib.Core.List.{List, map}
 use mathlib.Core.Option.{none}
-use Rattle.zone.specs.declared.state.State.{State}
-use Rattle.plain_book.specs.Calls as Book
-use Rattle.plain_book.specs.Plain.{empty}
-use Rattle.plain_book.specs.Run.{Calls, run, plainRun}
-use Rattle.plain_book.specs.Session.{CodeLaws, Returned, Session, returnedOf}
-use Rattle.plain_book.specs.Claims.{Claims, AllMade}
-use Rattle.plain_book.proofs.Claims.{claims}
+use Rattle.zone.specs.declared.calls.state.State.{State}
+use Rattle.book.specs.Model.Calls as Book
+use Rattle.book.specs.Model.Plain.{empty}
+use Rattle.book.specs.Model.Run.{Calls, run, plainRun}
+use Rattle.book.specs.Model.Session.{CodeLaws, Returned, Session, returnedOf}
+use Rattle.book.specs.Model.Claims.{Claims, AllMade}
+use Rattle.book.proofs.Model.Claims.{claims}
 use Rattle.book.specs.Year.{year}
 use Rattle.book.specs.Answers.{answerOf, replyIn, code}
 use Rattle.book.proofs.Laws.Layers.{year-laws}

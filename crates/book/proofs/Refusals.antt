@@ -1,15 +1,15 @@
 -- Which numbers and indices begin, append and take-up are refused with.
 use Prim.Native.Nat.{ℕ}
 use mathlib.Core.List.{List}
-use Rattle.solver.specs.Refusals.{RefusesBy, accepts}
-use Rattle.solver.proofs.Laws.Refusals.{bind-refuses, refuses-also}
-use Rattle.zone_head.specs.BuildingElement.{standardCoefficients}
-use Rattle.zone_head.specs.declared.zone_record.Zone.{Zone}
-use Rattle.zone_head.proofs.Claims.Refusals.{head-refusals, zone-refusals}
-use Rattle.zone.specs.declared.state.State.{State}
+use Rattle.zone.specs.Promise.{RefusesOnly, accepts}
+use Rattle.zone.proofs.Promise.{bind-refuses, refuses-also}
+use Rattle.zone.specs.Record.BuildingElement.{standardCoefficients}
+use Rattle.zone.specs.declared.record.zone_record.Zone.{Zone}
+use Rattle.zone.proofs.Claims.HeadRefusals.{head-refusals, zone-refusals}
+use Rattle.zone.specs.declared.calls.state.State.{State}
 use Rattle.zone.proofs.Claims.Refusals.{hour-step-refusals, start-up-refusals}
-use Rattle.plain_book.specs.Calls.{Values, beginRes, appendRes, takeUpRes}
-use Rattle.plain_book.proofs.Laws.Refusals.{begin-refuses-by, append-refuses-by, take-up-refuses-by}
+use Rattle.book.specs.Model.Calls.{Values, beginRes, appendRes, takeUpRes}
+use Rattle.book.proofs.Model.Laws.Refusals.{begin-refuses-by, append-refuses-by, take-up-refuses-by}
 use Rattle.book.specs.Year.{step, year}
 use Rattle.book.specs.Refusals.{
   BeginRefusal,
@@ -28,26 +28,26 @@ use Rattle.book.specs.Refusals.{
   takeUpFalse,
 }
 
-pub begin-refusals : (head buf : List ℕ) → RefusesBy BeginRefusal (beginRes year head buf)
+pub begin-refusals : (head buf : List ℕ) → RefusesOnly BeginRefusal (beginRes year head buf)
 begin-refusals head buf =
     begin-refuses-by year
     (λ bs. refuses-also (λ n i p. beginHead p) (head-refusals bs))
     (λ z. refuses-also (λ n i p. beginStartUp p) (start-up-refusals standardCoefficients z))
     beginBuffer head buf
 
-step-refuses : (z : Zone) (k : ℕ) (s : State) (conditions : List ℕ) → RefusesBy AppendRefusal (step z k s conditions)
+step-refuses : (z : Zone) (k : ℕ) (s : State) (conditions : List ℕ) → RefusesOnly AppendRefusal (step z k s conditions)
 unfolding step
 step-refuses z k s conditions =
     bind-refuses _ (refuses-also (λ n i p. appendHour p) (hour-step-refusals standardCoefficients z s conditions)) λ r _.
     accepts _
 
-pub append-refusals : (z : Zone) (given : Values State) (conditions buf : List ℕ) → RefusesBy AppendRefusal (appendRes year z given conditions buf)
+pub append-refusals : (z : Zone) (given : Values State) (conditions buf : List ℕ) → RefusesOnly AppendRefusal (appendRes year z given conditions buf)
 append-refusals z given conditions buf =
     append-refuses-by year
     (λ z. refuses-also (λ n i p. appendZone p) (zone-refusals z))
     step-refuses appendBuffer appendHeld z given conditions buf
 
-pub take-up-refusals : (bytes : List ℕ) → RefusesBy TakeUpRefusal (takeUpRes year bytes)
+pub take-up-refusals : (bytes : List ℕ) → RefusesOnly TakeUpRefusal (takeUpRes year bytes)
 take-up-refusals bytes =
     take-up-refuses-by year
     (λ bs. refuses-also (λ n i p. takeUpHead p) (head-refusals bs))

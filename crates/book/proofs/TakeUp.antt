@@ -9,26 +9,25 @@ use native.Mathlib.Omega.{arith}
 use lib.ListN.{length, take, drop, length-drop}
 use lib.Seq.{length-take-le, drop-drop}
 use borrow.Author.Tests.{lt-ltb, le-ltb}
-use Rattle.solver.specs.Res.{Res, ok, refused}
-use Rattle.zone_head.specs.BuildingElement.{standardCoefficients}
-use Rattle.zone_head.specs.Head.{headOf, headAnswer}
-use Rattle.zone_head.specs.declared.zone_record.Zone.{Zone}
-use Rattle.zone_head.specs.declared.zone_record.Verdict.the-variants.{Accepted, Refused}
-use Rattle.zone_head.specs.declared.head.Head.{Head}
-use Rattle.zone_head.proofs.Laws.Answers.{apart, same-refusal, head-no, head-yes}
-use Rattle.zone_temps.specs.declared.balance.HeatBalance.{HeatBalance}
-use Rattle.zone.specs.Hour.{hourStep}
-use Rattle.zone.specs.StartUp.{initNodeTemps}
-use Rattle.zone.specs.Answers.{hourStepped, startedUp}
-use Rattle.zone.proofs.Laws.Answers.{start-no, start-yes, hour-no, hour-yes}
-use Rattle.zone.specs.declared.state.State.{State}
-use Rattle.zone.specs.declared.state.Demand.{Demand}
-use Rattle.zone.specs.declared.state.HourAnswer.the-variants as HourAnswer
-use Rattle.zone.specs.declared.state.HourStep.{HourStep}
-use Rattle.zone.specs.declared.state.StartUp.{StartUp}
-use Rattle.plain_book.specs.Bytes.{equalBytes}
-use Rattle.plain_book.specs.Calls as Book
-use Rattle.plain_book.proofs.Laws.Reading.{whole-none, whole-some}
+use Rattle.zone.specs.Promise.{Result, ok, refused}
+use Rattle.zone.specs.Record.BuildingElement.{standardCoefficients}
+use Rattle.zone.specs.Format.Head.{headOf, headAnswer}
+use Rattle.zone.specs.declared.record.zone_record.Zone.{Zone}
+use Rattle.zone.specs.declared.record.zone_record.Verdict.the-variants.{Accepted, Refused}
+use Rattle.zone.specs.declared.format.head.Head.{Head}
+use Rattle.zone.proofs.Promise.{apart, same-refusal, head-no, head-yes, start-no, start-yes, hour-no, hour-yes}
+use Rattle.zone.specs.declared.physics.balance.HeatBalance.{HeatBalance}
+use Rattle.zone.specs.Calls.Hour.{hourStep}
+use Rattle.zone.specs.Calls.StartUp.{initNodeTemps}
+use Rattle.zone.specs.Calls.Answers.{hourStepReply, startUpReply}
+use Rattle.zone.specs.declared.calls.state.State.{State}
+use Rattle.zone.specs.declared.calls.state.Demand.{Demand}
+use Rattle.zone.specs.declared.calls.state.HourAnswer.the-variants as HourAnswer
+use Rattle.zone.specs.declared.calls.state.HourStepReply.{HourStepReply}
+use Rattle.zone.specs.declared.calls.state.StartUp.{StartUp}
+use Rattle.book.specs.Model.Bytes.{equalBytes}
+use Rattle.book.specs.Model.Calls as Book
+use Rattle.book.proofs.Model.Laws.Decode.{whole-none, whole-some}
 use Rattle.book.specs.Entry.{conditionsLength, wholeLength, entryOf}
 use Rattle.book.specs.Year.{startUp, hour, step, entryLength, conditionsIn, year}
 use Rattle.book.specs.Answers.{givenOf, replyIn, checkedEntry}
@@ -53,7 +52,7 @@ module _ (z : Zone) (k : ℕ) (s : State) (c : List ℕ) where
   abbrev False : CheckedEntry → Type 0
   False y = y ≡ record { verdict = Refused 18 k; state = s }
 
-  module _ (x : HourStep) (r : x ≡ hourStepped s (hourStep standardCoefficients z s part)) where
+  module _ (x : HourStepReply) (r : x ≡ hourStepReply s (hourStep standardCoefficients z s part)) where
     pub entry-refused : (n j : ℕ) → x .answer ≡ HourAnswer.Refused n j → (y : CheckedEntry) → False y → Checked y
     unfolding step
     entry-refused n j f y q =
@@ -79,15 +78,15 @@ pub ruleset entry-cases = (entry-refused, entry-right, entry-other)
 
 -- ---- the loop over the whole entries
 
-check-no : (s : State) (r : Res State) (x : CheckedEntry) → x ≡ checkedEntry s r → (n j : ℕ) → x .verdict ≡ Refused n j → r ≡ refused n j
+check-no : (s : State) (r : Result State) (x : CheckedEntry) → x ≡ checkedEntry s r → (n j : ℕ) → x .verdict ≡ Refused n j → r ≡ refused n j
 check-no s (ok a) x e n j f = apart n j (sym (ap (λ y. y .verdict) e) ∙ f)
 check-no s (refused m k) x e n j f = same-refusal m k n j (sym (ap (λ y. y .verdict) e) ∙ f)
 
-check-yes : (s : State) (r : Res State) (x : CheckedEntry) → x ≡ checkedEntry s r → x .verdict ≡ Accepted → r ≡ ok (x .state)
+check-yes : (s : State) (r : Result State) (x : CheckedEntry) → x ≡ checkedEntry s r → x .verdict ≡ Accepted → r ≡ ok (x .state)
 check-yes s (ok a) x e f = λ i. ok (sym e i .state)
 check-yes s (refused m k) x e f = apart m k (sym f ∙ ap (λ y. y .verdict) e)
 
-module _ (z : Zone) (m : ℕ) (l : m ≡ wholeLength z) (k : ℕ) (t : State) (at : ℕ) (b : List ℕ) (g : Values) (J : Res (Book.Values State))
+module _ (z : Zone) (m : ℕ) (l : m ≡ wholeLength z) (k : ℕ) (t : State) (at : ℕ) (b : List ℕ) (g : Values) (J : Result (Book.Values State))
     (within : at ≤ length b) (inv : J ≡ Book.checkEntries year z k t at (Book.wholeEntries year z (drop at b))) where
   abbrev Told : Reply → Type 0
   Told r = r ≡ replyIn (Book.answerOf (givenOf g) J)
@@ -116,7 +115,7 @@ module _ (z : Zone) (m : ℕ) (l : m ≡ wholeLength z) (k : ℕ) (t : State) (a
 
     module _ (few : k < 8784) (x : CheckedEntry)
         (r : x ≡ checkedEntry t (Book.checkEntry year k (take (at + m - at) (drop at b)) (step z k t (conditionsIn z (take (at + m - at) (drop at b)))))) where
-      abbrev Entry : Res State
+      abbrev Entry : Result State
       Entry = Book.checkEntry year k (take m (drop at b)) (step z k t (conditionsIn z (take m (drop at b))))
 
       r′ : x ≡ checkedEntry t Entry
@@ -150,7 +149,7 @@ module _ (bytes : List ℕ) (h : Head) (e : h ≡ headAnswer (headOf bytes)) (g 
   unfolding Book.takeUp Book.takeUpRes
   take-up-head r n j q f = rw (head-no (headOf bytes) h e n j f) q
 
-  module _ (f : h .verdict ≡ Accepted) (s : StartUp) (i : s ≡ startedUp (initNodeTemps standardCoefficients (h .zone))) where
+  module _ (f : h .verdict ≡ Accepted) (s : StartUp) (i : s ≡ startUpReply (initNodeTemps standardCoefficients (h .zone))) where
     pub take-up-start : (r : Reply) (n j : ℕ) → r ≡ replyIn (Book.refusedWith n j (givenOf g)) → s .verdict ≡ Refused n j → TakenUp r
     unfolding Book.takeUp Book.takeUpRes
     take-up-start r n j q k = rw (head-yes (headOf bytes) h e f, start-no (startUp (h .zone)) s i n j k) q

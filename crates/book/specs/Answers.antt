@@ -1,11 +1,10 @@
 -- What the functions answer, for what the definitions say: document 01's number and index of a refusal, and the values handed back.
-use Prim.Native.Nat.{ℕ}
-use Rattle.solver.specs.Res.{Res, ok, refused}
-use Rattle.zone_head.specs.declared.zone_record.Verdict.{Verdict}
-use Rattle.zone_head.specs.declared.zone_record.Verdict.the-variants.{Accepted, Refused}
-use Rattle.zone.specs.declared.state.State.{State}
-use Rattle.plain_book.specs.Calls as Book
-use Rattle.plain_book.specs.Session.{CodeTypes}
+use Rattle.zone.specs.Promise.{Result, ok, refused}
+use Rattle.zone.specs.declared.record.zone_record.Verdict.{Verdict}
+use Rattle.zone.specs.declared.record.zone_record.Verdict.the-variants.{Accepted, Refused}
+use Rattle.zone.specs.declared.calls.state.State.{State}
+use Rattle.book.specs.Model.Calls as Book
+use Rattle.book.specs.Model.Session.{CodeTypes}
 use Rattle.book.specs.Year.{year}
 use Rattle.book.specs.declared.book.Values.{Values}
 use Rattle.book.specs.declared.book.Reply.{Reply}
@@ -41,6 +40,6 @@ code =
     }
 
 -- an entry's check: the state after it, or 18 and the state before it
-abbrev pub checkedEntry : (before : State) → Res State → CheckedEntry
+abbrev pub checkedEntry : (before : State) → Result State → CheckedEntry
 checkedEntry s (ok t) = record { verdict = Accepted; state = t }
 checkedEntry s (refused number index) = record { verdict = Refused number index; state = s }

@@ -3,7 +3,7 @@ use Prim.Native.Nat.{ℕ, _+_}
 use mathlib.Core.List.{List, [], _∷_, _++_}
 use lib.ListN.{length, take, drop}
 use lib.Ieee.{Float, binary64, toBits}
-use Rattle.zone_head.specs.Bytes.{bytesOf}
+use Rattle.zone.specs.Format.Bytes.{bytesOf}
 
 -- b with bs in place of as many bytes from `at` on
 unfoldable pub replaceAt : (at : ℕ) → (bs b : List ℕ) → List ℕ

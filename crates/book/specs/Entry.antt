@@ -2,13 +2,13 @@
 use Prim.Native.Nat.{ℕ, _+_, _*_}
 use mathlib.Core.List.{List, [], _∷_, _++_}
 use lib.ListN.{take}
-use Rattle.zone_head.specs.Bytes.{bytesOf}
-use Rattle.zone_head.specs.BuildingElement.{nodeCount}
-use Rattle.zone_head.specs.declared.zone_record.Zone.{Zone}
-use Rattle.zone.specs.declared.state.State.{State}
-use Rattle.zone.specs.declared.state.Demand.{Demand}
-use Rattle.zone.specs.declared.state.AchToTriggerHeating.{AchToTriggerHeating}
-use Rattle.zone.specs.declared.state.AchToTriggerHeating.the-variants.{Absent, At}
+use Rattle.zone.specs.Format.Bytes.{bytesOf}
+use Rattle.zone.specs.Record.BuildingElement.{nodeCount}
+use Rattle.zone.specs.declared.record.zone_record.Zone.{Zone}
+use Rattle.zone.specs.declared.calls.state.State.{State}
+use Rattle.zone.specs.declared.calls.state.Demand.{Demand}
+use Rattle.zone.specs.declared.calls.state.AchToTriggerHeating.{AchToTriggerHeating}
+use Rattle.zone.specs.declared.calls.state.AchToTriggerHeating.the-variants.{Absent, At}
 use Rattle.book.specs.Bytes.{floatBytes, floatsBytes}
 
 -- an hour's conditions: "113 + 41n bytes"

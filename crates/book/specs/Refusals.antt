@@ -1,7 +1,7 @@
 -- Document 01, "Refused, operation by operation": which numbers and indices begin, append and take-up can be refused with.
 use Prim.Native.Nat.{ℕ, _<_}
-use Rattle.zone_head.specs.Refusals.{HeadRefusal, ZoneRefusal}
-use Rattle.zone.specs.Refusals.{HourRefusal, StartUpRefusal}
+use Rattle.zone.specs.Claims.HeadRefusals.{HeadRefusal, ZoneRefusal}
+use Rattle.zone.specs.Claims.Refusals.{HourRefusal, StartUpRefusal}
 
 -- "Begin book: head, start-up, then buffer too short, 16."
 pub data BeginRefusal : (number index : ℕ) → Type 0 where

@@ -5,25 +5,25 @@ use mathlib.Core.List.{List}
 use mathlib.Core.Option.{Option, none, some}
 use lib.ListN.{length, take, drop}
 use lib.Dec.{leb}
-use Rattle.solver.specs.Res.{Res, ok, bind}
-use Rattle.zone_head.specs.BuildingElement.{standardCoefficients}
-use Rattle.zone_head.specs.Head.{headOf}
-use Rattle.zone_head.specs.ZoneTest.{zoneTest}
-use Rattle.zone_head.specs.declared.zone_record.Zone.{Zone}
-use Rattle.zone.specs.Hour.{HourResult, hourStep}
-use Rattle.zone.specs.StartUp.{initNodeTemps}
-use Rattle.zone.specs.declared.state.State.{State}
-use Rattle.plain_book.specs.Layers.{Layers}
+use Rattle.zone.specs.Promise.{Result, ok, bind}
+use Rattle.zone.specs.Record.BuildingElement.{standardCoefficients}
+use Rattle.zone.specs.Format.Head.{headOf}
+use Rattle.zone.specs.Check.ZoneTest.{zoneTest}
+use Rattle.zone.specs.declared.record.zone_record.Zone.{Zone}
+use Rattle.zone.specs.Calls.Hour.{HourResult, hourStep}
+use Rattle.zone.specs.Calls.StartUp.{initNodeTemps}
+use Rattle.zone.specs.declared.calls.state.State.{State}
+use Rattle.book.specs.Model.Layers.{Layers}
 use Rattle.book.specs.Entry.{conditionsLength, wholeLength, entryOf}
 
-abbrev pub startUp : Zone → Res State
+abbrev pub startUp : Zone → Result State
 startUp z = initNodeTemps standardCoefficients z
 
-abbrev pub hour : Zone → State → (conditions : List ℕ) → Res HourResult
+abbrev pub hour : Zone → State → (conditions : List ℕ) → Result HourResult
 hour z s i = hourStep standardCoefficients z s i
 
 -- the entry that an hour has, and the state after it: how many entries are before it does not matter
-unfoldable pub step : Zone → (count : ℕ) → State → (conditions : List ℕ) → Res (List ℕ × State)
+unfoldable pub step : Zone → (count : ℕ) → State → (conditions : List ℕ) → Result (List ℕ × State)
 step z k s i =
     bind (hour z s i) λ r.
     ok (entryOf z i (r .demand) (r .state), r .state)

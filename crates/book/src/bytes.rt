@@ -3,8 +3,8 @@ ghost use mathlib.Core.Path.{_≡_};
 ghost use Prim.Native.Nat.{_+_, _*_, _≤_};
 ghost use lib.ListN.{length, take};
 ghost use lib.Ieee.{binary64, toBits};
-ghost use Rattle.zone_head.specs.Bytes.{bytesOf};
-ghost use Rattle.plain_book.specs.Bytes.{equalBytes};
+ghost use Rattle.zone.specs.Format.Bytes.{bytesOf};
+ghost use Rattle.book.specs.Model.Bytes.{equalBytes};
 ghost use Rattle.book.specs.Bytes.{replaceAt, floatBytes, floatsBytes};
 
 // The 64-bit pattern of a float; all NaNs have the same one.
@@ -19,7 +19,7 @@ fn bits_of(x: f64) -> u64
 }
 
 // A number into the `count` bytes from `at` on, the highest byte first.
-pub fn put_num(b: &mut [u8], at: usize, count: usize, n: u64)
+pub fn write_be(b: &mut [u8], at: usize, count: usize, n: u64)
     requires { ⌜ at + count ≤ length (now b) ⌝ }
     ensures { λ _. ⌜ now (b .exit) ≡ replaceAt at (bytesOf count n) (now (b .entry)) ⌝ }
 {
@@ -32,22 +32,22 @@ pub fn put_num(b: &mut [u8], at: usize, count: usize, n: u64)
     }
 }
 
-pub fn put_float(b: &mut [u8], at: usize, x: f64)
+pub fn write_f64_be(b: &mut [u8], at: usize, x: f64)
     requires { ⌜ at + 8 ≤ length (now b) ⌝ }
     ensures { λ _. ⌜ now (b .exit) ≡ replaceAt at (floatBytes x) (now (b .entry)) ⌝ }
 {
-    put_num(b, at, 8, bits_of(x));
+    write_be(b, at, 8, bits_of(x));
 }
 
 // The first `count` floats of `xs`, one behind the other from `at` on.
-pub fn put_floats(b: &mut [u8], at: usize, xs: &[f64], count: usize)
+pub fn write_f64s_be(b: &mut [u8], at: usize, xs: &[f64], count: usize)
     requires { ⌜ (count ≤ length (now xs)) × (at + 8 * count ≤ length (now b)) ⌝ }
     ensures { λ _. ⌜ now (b .exit) ≡ replaceAt at (floatsBytes (take count (now (xs .entry)))) (now (b .entry)) ⌝ }
 {
     let mut i = 0;
     let mut p = at;
     while i < count {
-        put_float(b, p, xs[i]);
+        write_f64_be(b, p, xs[i]);
         p += 8;
         i += 1;
     }

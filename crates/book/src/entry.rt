@@ -1,19 +1,19 @@
 // The bytes of an entry.
 use crate::bytes::begins_with;
 use crate::bytes::copy;
-use crate::bytes::put_float;
-use crate::bytes::put_floats;
-use crate::bytes::put_num;
+use crate::bytes::write_be;
+use crate::bytes::write_f64_be;
+use crate::bytes::write_f64s_be;
 use zone::AchToTriggerHeating;
 use zone::Demand;
 use zone::State;
-use zone_head::Zone;
-use zone_head::node_count;
+use zone::Zone;
+use zone::node_count;
 ghost use mathlib.Core.Path.{_≡_};
 ghost use Prim.Native.Nat.{_+_, _*_, _≤_};
 ghost use lib.ListN.{length, take};
-ghost use Rattle.zone_head.specs.BuildingElement.{nodeCount};
-ghost use Rattle.plain_book.specs.Bytes.{equalBytes};
+ghost use Rattle.zone.specs.Record.BuildingElement.{nodeCount};
+ghost use Rattle.book.specs.Model.Bytes.{equalBytes};
 ghost use Rattle.book.specs.Bytes.{replaceAt, floatsBytes};
 ghost use Rattle.book.specs.Entry.{
   conditionsLength,
@@ -58,8 +58,8 @@ fn put_front(z: Zone, b: &mut [u8], at: usize)
     ensures { λ _. ⌜ now (b .exit) ≡ replaceAt at (frontBytes z) (now (b .entry)) ⌝ }
 {
     let length = length_field(z);
-    put_num(b, at, 4, length as u64);
-    put_num(b, at + 4, 1, VERSION);
+    write_be(b, at, 4, length as u64);
+    write_be(b, at + 4, 1, VERSION);
 }
 
 fn put_trigger(trigger: AchToTriggerHeating, b: &mut [u8], at: usize)
@@ -68,12 +68,12 @@ fn put_trigger(trigger: AchToTriggerHeating, b: &mut [u8], at: usize)
 {
     match trigger {
         AchToTriggerHeating::Absent => {
-            put_num(b, at, 1, 0);
-            put_num(b, at + 1, 8, 0);
+            write_be(b, at, 1, 0);
+            write_be(b, at + 1, 8, 0);
         }
         AchToTriggerHeating::At(rate) => {
-            put_num(b, at, 1, 1);
-            put_float(b, at + 1, rate);
+            write_be(b, at, 1, 1);
+            write_f64_be(b, at + 1, rate);
         }
     }
 }
@@ -83,7 +83,7 @@ fn put_demand(d: Demand, b: &mut [u8], at: usize)
     ensures { λ _. ⌜ now (b .exit) ≡ replaceAt at (demandBytes d) (now (b .entry)) ⌝ }
 {
     let row = [d.space_heat_demand, d.space_cool_demand, d.ach_cooling];
-    put_floats(b, at, &row, 3);
+    write_f64s_be(b, at, &row, 3);
     let trigger = d.ach_to_trigger_heating;
     put_trigger(trigger, b, at + 24);
 }
@@ -94,7 +94,7 @@ fn put_temperatures(s: State, nodes: usize, b: &mut [u8], at: usize)
     ensures { λ _. ⌜ now (b .exit) ≡ replaceAt at (floatsBytes (take nodes (s .temps))) (now (b .entry)) ⌝ }
 {
     let temps = s.temps;
-    put_floats(b, at, &temps, nodes);
+    write_f64s_be(b, at, &temps, nodes);
 }
 
 // An entry from `at` on: length and version, the conditions as they were given, the demand and the temperatures after the hour.

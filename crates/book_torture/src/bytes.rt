@@ -35,7 +35,7 @@ pub fn bits_of(x: f64) -> u64 {
     }
 }
 
-pub fn put_float(b: &mut [u8], at: usize, x: f64) {
+pub fn write_f64_be(b: &mut [u8], at: usize, x: f64) {
     put_eight(b, at, bits_of(x));
 }
 
@@ -44,10 +44,10 @@ fn float_in(xs: &[f64], at: usize) -> f64 {
 }
 
 // The first `count` floats of `xs`, one behind the other.
-pub fn put_floats(b: &mut [u8], at: usize, xs: &[f64], count: usize) {
+pub fn write_f64s_be(b: &mut [u8], at: usize, xs: &[f64], count: usize) {
     let mut p = at;
     for i in 0..count {
-        put_float(b, p, float_in(xs, i));
+        write_f64_be(b, p, float_in(xs, i));
         p = wrapping_add_usize(p, 8);
     }
 }
@@ -64,36 +64,36 @@ pub fn u64_of(x: u8) -> u64 {
     x as u64
 }
 
-fn two_at(s: &[u8], at: usize) -> usize {
+fn read_u16_be(s: &[u8], at: usize) -> usize {
     let high = usize_of(byte_at(s, at));
     let low = usize_of(byte_at(s, wrapping_add_usize(at, 1)));
     high << 8 | low
 }
 
-fn four_at(s: &[u8], at: usize) -> usize {
-    let high = two_at(s, at);
-    let low = two_at(s, wrapping_add_usize(at, 2));
+fn read_u32_be(s: &[u8], at: usize) -> usize {
+    let high = read_u16_be(s, at);
+    let low = read_u16_be(s, wrapping_add_usize(at, 2));
     high << 16 | low
 }
 
-fn eight_at(s: &[u8], at: usize) -> u64 {
-    let high = four_at(s, at);
-    let low = four_at(s, wrapping_add_usize(at, 4));
+fn read_u64_be(s: &[u8], at: usize) -> u64 {
+    let high = read_u32_be(s, at);
+    let low = read_u32_be(s, wrapping_add_usize(at, 4));
     (high << 32 | low) as u64
 }
 
 // The float of a pattern; of a NaN's, 0 / 0.
 fn float_of(bits: u64) -> f64 {
-    let magnitude = bits % 9223372036854775808;
-    if magnitude <= 9218868437227405312 {
+    let abs = bits % 9223372036854775808;
+    if abs <= 9218868437227405312 {
         f64::from_bits(bits)
     } else {
         0.0 / 0.0
     }
 }
 
-pub fn float_at(s: &[u8], at: usize) -> f64 {
-    float_of(eight_at(s, at))
+pub fn read_f64_be(s: &[u8], at: usize) -> f64 {
+    float_of(read_u64_be(s, at))
 }
 
 // The `count` bytes from `from` on, or none where they are not all there.

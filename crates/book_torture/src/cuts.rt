@@ -14,7 +14,7 @@ use book::Values;
 use std::num::wrapping_add_u64;
 use std::num::wrapping_add_usize;
 use std::num::wrapping_sub_usize;
-use zone_head::Zone;
+use zone::Zone;
 
 // Hours and bytes of the small book.
 pub const HOURS: usize = 40;

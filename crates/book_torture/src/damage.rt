@@ -2,12 +2,12 @@
 // step, by the place of the byte.
 use crate::bytes::byte_at;
 use crate::bytes::copy;
-use crate::bytes::float_at;
 use crate::bytes::part;
 use crate::bytes::put_byte;
-use crate::bytes::put_float;
-use crate::bytes::put_floats;
+use crate::bytes::read_f64_be;
 use crate::bytes::same_bytes;
+use crate::bytes::write_f64_be;
+use crate::bytes::write_f64s_be;
 use crate::cuts::HOURS;
 use crate::cuts::SMALL;
 use crate::house::CONDITIONS;
@@ -24,8 +24,8 @@ use zone::AchToTriggerHeating;
 use zone::Demand;
 use zone::HourAnswer;
 use zone::State;
-use zone_head::Verdict;
-use zone_head::Zone;
+use zone::Verdict;
+use zone::Zone;
 
 const NODES: usize = 8;
 // Heating, cooling, rate, trigger and the temperatures of an entry.
@@ -52,7 +52,7 @@ fn put_trigger(b: &mut [u8; RESULTS], trigger: AchToTriggerHeating) {
         AchToTriggerHeating::Absent => {}
         AchToTriggerHeating::At(rate) => {
             put_byte(b, 24, 1);
-            put_float(b, 25, rate);
+            write_f64_be(b, 25, rate);
         }
     }
 }
@@ -61,9 +61,9 @@ fn put_results(b: &mut [u8; RESULTS], d: Demand, s: State) {
     let row = [d.space_heat_demand, d.space_cool_demand, d.ach_cooling];
     let trigger = d.ach_to_trigger_heating;
     let temps = s.temps;
-    put_floats(b, 0, &row, 3);
+    write_f64s_be(b, 0, &row, 3);
     put_trigger(b, trigger);
-    put_floats(b, 33, &temps, NODES);
+    write_f64s_be(b, 33, &temps, NODES);
 }
 
 // The results of an hour as an entry holds them.
@@ -89,7 +89,7 @@ fn state_in(entry: &[u8]) -> State {
     let mut temps = [0.0; 121];
     let mut p = ENTRY - 8 * NODES;
     for i in 0..NODES {
-        set_float(&mut temps, i, float_at(entry, p));
+        set_float(&mut temps, i, read_f64_be(entry, p));
         p = wrapping_add_usize(p, 8);
     }
     State {
@@ -189,7 +189,7 @@ fn expected_with_zone(z: Zone, b: &[u8]) -> Expected {
 
 // A byte of the head changed: its refusal, or what the other zone makes of the entries.
 fn expected_in_head(b: &[u8]) -> Expected {
-    let h = zone_head::zone_of_head(b);
+    let h = zone::zone_of_head(b);
     let verdict = h.verdict;
     match verdict {
         Verdict::Refused { number, index } => Expected {

@@ -1,10 +1,10 @@
 // A whole year: 8,784 hours, the 8,785th refused, cuts and damage.
 use crate::bytes::byte_at;
 use crate::bytes::fill_from;
-use crate::bytes::float_at;
 use crate::bytes::hash;
 use crate::bytes::part;
 use crate::bytes::put_byte;
+use crate::bytes::read_f64_be;
 use crate::cuts::Cuts;
 use crate::house::ENTRY;
 use crate::house::HEAD;
@@ -21,7 +21,7 @@ use crate::year::same_values;
 use book::Values;
 use std::num::wrapping_add_u64;
 use std::num::wrapping_add_usize;
-use zone_head::Zone;
+use zone::Zone;
 
 pub const YEAR: usize = 8784;
 // Head and 8,784 entries, and with one more.
@@ -162,13 +162,13 @@ struct Hours {
 
 // An entry's heating, cooling and rate stand behind its 200 bytes of front and conditions.
 fn with_entry(mut t: Hours, b: &[u8], at: usize) -> Hours {
-    if 0.0 < float_at(b, wrapping_add_usize(at, 200)) {
+    if 0.0 < read_f64_be(b, wrapping_add_usize(at, 200)) {
         t.heating = wrapping_add_u64(t.heating, 1);
     }
-    if float_at(b, wrapping_add_usize(at, 208)) < 0.0 {
+    if read_f64_be(b, wrapping_add_usize(at, 208)) < 0.0 {
         t.cooling = wrapping_add_u64(t.cooling, 1);
     }
-    if 0.75 < float_at(b, wrapping_add_usize(at, 216)) {
+    if 0.75 < read_f64_be(b, wrapping_add_usize(at, 216)) {
         t.windows = wrapping_add_u64(t.windows, 1);
     }
     t
@@ -209,7 +209,7 @@ fn fill_year(z: Zone, h: &[u8], b: &mut [u8; ROOM]) -> Values {
 pub fn print_year() {
     let mut b = [0u8; ROOM];
     let h = head();
-    let zone = zone_head::zone_of_head(&h);
+    let zone = zone::zone_of_head(&h);
     let z = zone.zone;
     let end = fill_year(z, &h, &mut b);
     print_hours(&b);

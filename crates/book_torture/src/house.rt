@@ -1,6 +1,6 @@
 // A house of two elements, a wall and a window with two treatments, and its hours.
 use crate::bytes::put_byte;
-use crate::bytes::put_floats;
+use crate::bytes::write_f64s_be;
 use std::num::nearest_u64_to_f64;
 
 // Bytes of its head, of an hour's conditions and of an entry.
@@ -14,9 +14,9 @@ fn put_wall(b: &mut [u8; HEAD]) {
     let values = [20.0, 90.0, 20.0, 4.14, 5.13, 0.6, 15.0];
     let chain = [0.0, 0.0, 0.0, 0.0, 90000.0, 6.0, 3.0, 3.0, 6.0];
     let part = [5.0, 0.0, 0.0, 1.0, 1.0];
-    put_floats(b, 59, &values, 7);
-    put_floats(b, 115, &chain, 9);
-    put_floats(b, 187, &part, 5);
+    write_f64s_be(b, 59, &values, 7);
+    write_f64s_be(b, 115, &chain, 9);
+    write_f64s_be(b, 187, &part, 5);
 }
 
 fn put_window(b: &mut [u8; HEAD]) {
@@ -25,9 +25,9 @@ fn put_window(b: &mut [u8; HEAD]) {
     let part = [5.0, 0.0, 0.0, 1.0, 1.0];
     put_byte(b, 228, 4);
     put_byte(b, 229, 2);
-    put_floats(b, 230, &values, 7);
-    put_floats(b, 286, &chain, 5);
-    put_floats(b, 326, &part, 5);
+    write_f64s_be(b, 230, &values, 7);
+    write_f64s_be(b, 286, &chain, 5);
+    write_f64s_be(b, 326, &part, 5);
     put_byte(b, 366, 1);
 }
 
@@ -42,7 +42,7 @@ pub fn head() -> [u8; HEAD] {
     put_byte(&mut b, 6, 2);
     put_byte(&mut b, 7, 3);
     put_byte(&mut b, 8, 232);
-    put_floats(&mut b, 9, &values, 6);
+    write_f64s_be(&mut b, 9, &values, 6);
     put_wall(&mut b);
     put_window(&mut b);
     b
@@ -82,19 +82,19 @@ fn ventilation(hour: usize) -> f64 {
 fn put_rate(b: &mut [u8; CONDITIONS], hour: usize) {
     if hour % 5 == 0 {
         let fixed = [0.75, 0.0];
-        put_floats(b, 97, &fixed, 2);
+        write_f64s_be(b, 97, &fixed, 2);
     } else {
         let rates = [0.5, 4.0];
         put_byte(b, 96, 1);
-        put_floats(b, 97, &rates, 2);
+        write_f64s_be(b, 97, &rates, 2);
     }
 }
 
 fn put_parts(b: &mut [u8; CONDITIONS], outside: f64, light: f64, open: u8) {
     let wall = [outside, light, 0.5 * light, 1.0, 0.5];
     let window = [outside, 0.5 * light, 0.25 * light, 0.0, 1.0];
-    put_floats(b, 113, &wall, 5);
-    put_floats(b, 154, &window, 5);
+    write_f64s_be(b, 113, &wall, 5);
+    write_f64s_be(b, 154, &window, 5);
     put_byte(b, 194, open);
 }
 
@@ -129,7 +129,7 @@ pub fn conditions(hour: usize) -> [u8; CONDITIONS] {
         0.0,
         30.0,
     ];
-    put_floats(&mut b, 0, &values, 12);
+    write_f64s_be(&mut b, 0, &values, 12);
     put_rate(&mut b, hour);
     put_parts(&mut b, outside, light, open_at(hour));
     b

@@ -9,7 +9,7 @@ mod print;
 mod year;
 
 use book::Values;
-use zone_head::Zone;
+use zone::Zone;
 
 fn print_cuts(z: Zone, whole: &[u8; cuts::SMALL], end: Values) {
     let head = cuts::check_cuts(z, whole, end, 0, 1, 367);
@@ -65,7 +65,7 @@ fn fill_small(z: Zone, h: &[u8], whole: &mut [u8; cuts::SMALL]) -> Values {
 fn print_small() {
     let mut whole = [0u8; cuts::SMALL];
     let h = house::head();
-    let head = zone_head::zone_of_head(&h);
+    let head = zone::zone_of_head(&h);
     let z = head.zone;
     let end = fill_small(z, &h, &mut whole);
     print_cuts(z, &whole, end);

@@ -5,8 +5,8 @@ use book::Reply;
 use book::Values;
 use std::num::wrapping_add_u64;
 use zone::State;
-use zone_head::Verdict;
-use zone_head::Zone;
+use zone::Verdict;
+use zone::Zone;
 
 // The values after some appends, and how many of them were refused.
 pub struct Filled {

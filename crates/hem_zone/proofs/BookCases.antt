@@ -2,12 +2,12 @@
 use Prim.Native.Nat.{ℕ}
 use mathlib.Core.Path.{_≡_, ap, _∙_}
 use mathlib.Core.List.{List}
-use Rattle.solver.specs.Res.{Res, refused}
-use Rattle.zone_head.specs.declared.zone_record.Zone.{Zone}
-use Rattle.zone_head.specs.declared.zone_record.Verdict.the-variants.{Accepted, Refused}
-use Rattle.zone.specs.declared.state.State.{State}
-use Rattle.plain_book.specs.Calls as Book
-use Rattle.plain_book.specs.Session.{Meets}
+use Rattle.zone.specs.Promise.{Result, refused}
+use Rattle.zone.specs.declared.record.zone_record.Zone.{Zone}
+use Rattle.zone.specs.declared.record.zone_record.Verdict.the-variants.{Accepted, Refused}
+use Rattle.zone.specs.declared.calls.state.State.{State}
+use Rattle.book.specs.Model.Calls as Book
+use Rattle.book.specs.Model.Session.{Meets}
 use Rattle.book.specs.Year.{year}
 use Rattle.book.specs.Answers.{givenOf, replyIn, code}
 use Rattle.book.specs.declared.book.Values.{Values}
@@ -19,10 +19,10 @@ use Rattle.hem_zone.proofs.Laws.Answers.{reply-no, reply-yes, outcome-n
 
 -- ---- with a buffer: a refusal leaves it as it was
 
-module _ (g : Book.Values State) (buf : List ℕ) (held : Held) (d : Res (Book.Values State × List ℕ)) (x : Reply) (out : List ℕ)
+module _ (g : Book.Values State) (buf : List ℕ) (held : Held) (d : Result (Book.Values State × List ℕ)) (x : Reply) (out : List ℕ)
     (m : Meets year code x out (Book.outcomeOf g buf d)) where
   same-buffer : (n j : ℕ) → d ≡ refused n j → out ≡ buf
-  same-buffer n j e = m .bytes ∙ ap (λ (r : Res (Book.Values State × List ℕ)). Book.outcomeOf g buf r .buffer) e
+  same-buffer n j e = m .bytes ∙ ap (λ (r : Result (Book.Values State × List ℕ)). Book.outcomeOf g buf r .buffer) e
 
   book-refused : (n j c : ℕ) → x .verdict ≡ Refused n j → c ≡ refusalCode n j → (c, (out, held)) ≡ answered bookOut (buf, held) d
   book-refused n j c v q =

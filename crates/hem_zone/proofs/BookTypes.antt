@@ -3,11 +3,10 @@ use Prim.Native.Nat.{ℕ, zero, suc, _%_, _/_, _≤_}
 use mathlib.Core.Path.{_≡_, refl}
 use mathlib.Core.List.{List}
 use native.Mathlib.Omega.{arith}
-use Rattle.solver.specs.Res.{Res}
-use Rattle.solver.specs.Refusals.{RefusesBy, accepts, refuses}
-use Rattle.zone.specs.declared.state.State.{State}
-use Rattle.plain_book.specs.Calls as Book
-use Rattle.plain_book.specs.Session.{AnswerOfCall, ofBegin, ofAppend, ofTakeUp, CodeLaws}
+use Rattle.zone.specs.Promise.{Result, RefusesOnly, accepts, refuses}
+use Rattle.zone.specs.declared.calls.state.State.{State}
+use Rattle.book.specs.Model.Calls as Book
+use Rattle.book.specs.Model.Session.{AnswerOfCall, ofBegin, ofAppend, ofTakeUp, CodeLaws}
 use Rattle.book.specs.Year.{year}
 use Rattle.book.proofs.Refusals.{begin-refusals, append-refusals, take-up-refusals}
 use Rattle.hem_zone.specs.Code.{refusalCode}
@@ -27,11 +26,11 @@ refusal-back number index p v =
     read-back (refusalCode number index) number index v (omega (arith, e, p .from-1)) (code-number number index p) (code-index number index p)
 
 module _ {P : ℕ → ℕ → Type 0} (numbered : (number index : ℕ) → P number index → Numbered number index) (g : Book.Values State) where
-  taken-back : {d : Res (Book.Values State)} → RefusesBy P d → answerOf (replyIn (Book.answerOf g d)) ≡ Book.answerOf g d
+  taken-back : {d : Result (Book.Values State)} → RefusesOnly P d → answerOf (replyIn (Book.answerOf g d)) ≡ Book.answerOf g d
   taken-back (accepts a) = refl
   taken-back (refuses {number = n} {index = i} p) = refusal-back n i (numbered n i p) g
 
-  outcome-back : (buf : List ℕ) {d : Res (Book.Values State × List ℕ)} → RefusesBy P d
+  outcome-back : (buf : List ℕ) {d : Result (Book.Values State × List ℕ)} → RefusesOnly P d
       → answerOf (replyIn (Book.outcomeOf g buf d .answer)) ≡ Book.outcomeOf g buf d .answer
   outcome-back buf (accepts a) = refl
   outcome-back buf (refuses {number = n} {index = i} p) = refusal-back n i (numbered n i p) g

@@ -3,38 +3,36 @@ use Prim.Native.Nat.{ℕ}
 use mathlib.Core.Path.{_≡_, refl, ap, _∙_}
 use mathlib.Core.List.{List, [], _∷_}
 use lib.Ieee.{Float}
-use Rattle.solver.specs.F64.{zero64, one64}
-use Rattle.zone.specs.declared.state.AchToTriggerHeating.the-variants.{Absent, At}
-use Rattle.solver.specs.Res.{Res}
-use Rattle.zone_head.specs.declared.zone_record.Zone.{Zone}
-use Rattle.zone_head.specs.declared.zone_record.Verdict.the-variants.{Accepted, Refused}
-use Rattle.zone_head.specs.declared.head.Head.{Head}
-use Rattle.zone_head.specs.BuildingElement.{standardCoefficients}
-use Rattle.zone_head.specs.Head.{headOf, headAnswer}
-use Rattle.zone_temps.specs.declared.balance.HeatBalance.{HeatBalance}
-use Rattle.zone.specs.declared.state.State.{State}
-use Rattle.zone.specs.declared.state.Demand.{Demand}
-use Rattle.zone.specs.declared.state.DemandAnswer.the-variants as DemandAnswer
-use Rattle.zone.specs.declared.state.UpdateAnswer.the-variants as UpdateAnswer
-use Rattle.zone.specs.declared.state.HourAnswer.the-variants as HourAnswer
-use Rattle.zone.specs.declared.state.Demanded.{Demanded}
-use Rattle.zone.specs.declared.state.Updated.{Updated}
-use Rattle.zone.specs.declared.state.HourStep.{HourStep}
-use Rattle.zone.specs.declared.state.StartUp.{StartUp}
-use Rattle.zone.specs.Hour.{demand, updateTemperatures, hourStep}
-use Rattle.zone.specs.StartUp.{initNodeTemps}
-use Rattle.zone.specs.Answers.{demanded, updated, hourStepped, startedUp}
+use Rattle.zone.specs.Promise.{zero64, one64, Result}
+use Rattle.zone.specs.declared.calls.state.AchToTriggerHeating.the-variants.{Absent, At}
+use Rattle.zone.specs.declared.record.zone_record.Zone.{Zone}
+use Rattle.zone.specs.declared.record.zone_record.Verdict.the-variants.{Accepted, Refused}
+use Rattle.zone.specs.declared.format.head.Head.{Head}
+use Rattle.zone.specs.Record.BuildingElement.{standardCoefficients}
+use Rattle.zone.specs.Format.Head.{headOf, headAnswer}
+use Rattle.zone.specs.declared.physics.balance.HeatBalance.{HeatBalance}
+use Rattle.zone.specs.declared.calls.state.State.{State}
+use Rattle.zone.specs.declared.calls.state.Demand.{Demand}
+use Rattle.zone.specs.declared.calls.state.DemandAnswer.the-variants as DemandAnswer
+use Rattle.zone.specs.declared.calls.state.UpdateAnswer.the-variants as UpdateAnswer
+use Rattle.zone.specs.declared.calls.state.HourAnswer.the-variants as HourAnswer
+use Rattle.zone.specs.declared.calls.state.DemandReply.{DemandReply}
+use Rattle.zone.specs.declared.calls.state.UpdateReply.{UpdateReply}
+use Rattle.zone.specs.declared.calls.state.HourStepReply.{HourStepReply}
+use Rattle.zone.specs.declared.calls.state.StartUp.{StartUp}
+use Rattle.zone.specs.Calls.Hour.{demand, updateTemperatures, hourStep}
+use Rattle.zone.specs.Calls.StartUp.{initNodeTemps}
+use Rattle.zone.specs.Calls.Answers.{demandReply, updateReply, hourStepReply, startUpReply}
 use Rattle.hem_zone.specs.Code.{refusalCode, answerCode, answered}
 use Rattle.hem_zone.specs.Arrays.{stateIn, demandOut, balanceOut}
 use Rattle.hem_zone.specs.Zone.{withZone, startUpOut, updateOut, hourOut, hemHead}
 use Rattle.hem_zone.proofs.Laws.Code.{answered-refused, answered-ok}
-use Rattle.zone_head.proofs.Laws.Answers.{head-no, head-yes}
-use Rattle.zone.proofs.Laws.Answers.{start-no, start-yes, demand-no, demand-yes, update-no, update-yes, hour-no, hour-yes}
+use Rattle.zone.proofs.Promise.{head-no, head-yes, start-no, start-yes, demand-no, demand-yes, update-no, update-yes, hour-no, hour-yes}
 
 -- ---- the head's refusal, or what the call makes of its zone
 
 module _ (head : List ℕ) (h : Head) (e : h ≡ headAnswer (headOf head)) where
-  module _ {A B : Type 0} (w : A → B) (before : B) (f : Zone → Res A) where
+  module _ {A B : Type 0} (w : A → B) (before : B) (f : Zone → Result A) where
     pub zone-refused : (n j code : ℕ) → h .verdict ≡ Refused n j → code ≡ refusalCode n j → (code, before) ≡ answered w before (withZone head f)
     unfolding withZone
     zone-refused n j code v q = answered-refused w before (withZone head f) n j code q (rw (head-no (headOf head) h e n j v))
@@ -57,7 +55,7 @@ pub ruleset head-cases = (head-refused, head-accepted)
 
 -- ---- start-up
 
-module _ (z : Zone) (before : List Float × ℕ) (s : StartUp) (e : s ≡ startedUp (initNodeTemps standardCoefficients z)) where
+module _ (z : Zone) (before : List Float × ℕ) (s : StartUp) (e : s ≡ startUpReply (initNodeTemps standardCoefficients z)) where
   pub start-refused : (n j code : ℕ) → s .verdict ≡ Refused n j → code ≡ refusalCode n j → (code, before) ≡ answered startUpOut before (initNodeTemps standardCoefficients z)
   start-refused n j code v q = answered-refused startUpOut before _ n j code q (start-no _ s e n j v)
 
@@ -69,7 +67,7 @@ pub ruleset start-cases = (start-refused, start-accepted)
 -- ---- demand, update, hour step: from the state that stands in the arrays
 
 module _ (z : Zone) (s : State) (temps : List Float) (nodes : ℕ) (p : s ≡ stateIn temps nodes) (conditions : List ℕ) where
-  module _ (before : List Float) (x : Demanded) (e : x ≡ demanded s (demand standardCoefficients z s conditions)) where
+  module _ (before : List Float) (x : DemandReply) (e : x ≡ demandReply s (demand standardCoefficients z s conditions)) where
     abbrev Demands : ℕ × List Float → Type 0
     Demands y = y ≡ answered demandOut before (demand standardCoefficients z (stateIn temps nodes) conditions)
 
@@ -79,8 +77,8 @@ module _ (z : Zone) (s : State) (temps : List Float) (nodes : ℕ) (p : s ≡ st
     pub demand-accepted : (d : Demand) (out : List Float) → x .answer ≡ DemandAnswer.Accepted d → out ≡ demandOut d → Demands (0, out)
     demand-accepted d out v q = rw (← p) (answered-ok demandOut before _ d out (demand-yes s _ x e d v) q)
 
-  module _ (gains fraction rate : Float) (before : List Float × List Float) (x : Updated)
-      (e : x ≡ updated s (updateTemperatures standardCoefficients z s conditions gains fraction rate)) where
+  module _ (gains fraction rate : Float) (before : List Float × List Float) (x : UpdateReply)
+      (e : x ≡ updateReply s (updateTemperatures standardCoefficients z s conditions gains fraction rate)) where
     abbrev Updates : ℕ × (List Float × List Float) → Type 0
     Updates y = y ≡ answered updateOut before (updateTemperatures standardCoefficients z (stateIn temps nodes) conditions gains fraction rate)
 
@@ -92,7 +90,7 @@ module _ (z : Zone) (s : State) (temps : List Float) (nodes : ℕ) (p : s ≡ st
     update-accepted b balance v q =
         rw (← p) (answered-ok updateOut before _ (x .state, b) (x .state .temps, balance) (update-yes s _ x e b v) (rw q))
 
-  module _ (before : List Float × List Float × List Float) (x : HourStep) (e : x ≡ hourStepped s (hourStep standardCoefficients z s conditions)) where
+  module _ (before : List Float × List Float × List Float) (x : HourStepReply) (e : x ≡ hourStepReply s (hourStep standardCoefficients z s conditions)) where
     abbrev Steps : ℕ × (List Float × List Float × List Float) → Type 0
     Steps y = y ≡ answered hourOut before (hourStep standardCoefficients z (stateIn temps nodes) conditions)
 

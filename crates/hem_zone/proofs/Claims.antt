@@ -3,12 +3,11 @@ use Prim.Native.Nat.{ℕ, _+_, _*_, _%_, _/_}
 use mathlib.Core.Path.{_≡_, refl, ap}
 use mathlib.Core.List.{List}
 use native.Mathlib.Omega.{arith}
-use Rattle.solver.specs.Res.{Res}
-use Rattle.solver.specs.Refusals.{RefusesBy, accepts, refuses}
-use Rattle.solver.proofs.Laws.Refusals.{bind-refuses, refuses-also}
-use Rattle.zone_head.specs.declared.zone_record.Zone.{Zone}
-use Rattle.zone_head.specs.BuildingElement.{standardCoefficients}
-use Rattle.zone_head.proofs.Claims.Refusals.{head-refusals}
+use Rattle.zone.specs.Promise.{Result, RefusesOnly, accepts, refuses}
+use Rattle.zone.proofs.Promise.{bind-refuses, refuses-also}
+use Rattle.zone.specs.declared.record.zone_record.Zone.{Zone}
+use Rattle.zone.specs.Record.BuildingElement.{standardCoefficients}
+use Rattle.zone.proofs.Claims.HeadRefusals.{head-refusals}
 use Rattle.zone.proofs.Claims.Refusals.{demand-refusals, update-refusals, hour-step-refusals, start-up-refusals}
 use Rattle.book.proofs.Refusals.{begin-refusals, append-refusals, take-up-refusals}
 use Rattle.hem_zone.specs.Code.{refusalCode, answerCode, lentAfter, answered}
@@ -34,7 +33,7 @@ module _ (number index : ℕ) (p : Numbered number index) where
 
 module _ {P : ℕ → ℕ → Type 0} (numbered : (number index : ℕ) → P number index → Numbered number index) where
   -- 0 is returned exactly where it is accepted
-  pub returned : {A : Type 0} {r : Res A} → RefusesBy P r → Returned P r (answerCode r)
+  pub returned : {A : Type 0} {r : Result A} → RefusesOnly P r → Returned P r (answerCode r)
   unfolding answerCode
   returned (accepts a) = record { accepted = (λ _. (a, refl), λ _. refl); not-accepted = λ h. absurd (h refl) }
   returned (refuses {number = n} {index = i} p) =
@@ -54,13 +53,13 @@ module _ {P : ℕ → ℕ → Type 0} (numbered : (number index : ℕ) → P num
       }
 
   -- and the lent arrays are written where it is
-  pub answers : {A B : Type 0} (written : A → B) (before : B) {r : Res A} → RefusesBy P r → Answered P written before r (answered written before r)
+  pub answers : {A B : Type 0} (written : A → B) (before : B) {r : Result A} → RefusesOnly P r → Answered P written before r (answered written before r)
   unfolding answered answerCode lentAfter
   answers written before (accepts a) = record { returned = returned (accepts a); writes = λ b e. ap (lentAfter written before) e; keeps = λ h. absurd (h refl) }
   answers written before (refuses p) = record { returned = returned (refuses p); writes = λ b e. ap (lentAfter written before) e; keeps = λ h. refl }
 
 -- a call on the zone of a head
-with-zone-refuses : {P : ℕ → ℕ → Type 0} {A : Type 0} (head : List ℕ) (f : Zone → Res A) → ((z : Zone) → RefusesBy P (f z)) → RefusesBy (AfterHead P) (withZone head f)
+with-zone-refuses : {P : ℕ → ℕ → Type 0} {A : Type 0} (head : List ℕ) (f : Zone → Result A) → ((z : Zone) → RefusesOnly P (f z)) → RefusesOnly (AfterHead P) (withZone head f)
 unfolding withZone
 with-zone-refuses head f p =
     bind-refuses _ (refuses-also (λ n i q. ofHead q) (head-refusals head)) λ h _.

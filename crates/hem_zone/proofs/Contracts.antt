@@ -7,12 +7,12 @@ use contract.Lifetimes.{Lfts}
 use denote.Ref.{now}
 use denote.Triple.Clauses.{AtExit}
 use borrow.Fn.Kinds.{Dens, endedOf}
-use Rattle.solver.specs.Res.{Res, ok, refused, bind}
-use Rattle.zone_head.specs.Head.{headOf}
-use Rattle.zone_head.specs.declared.zone_record.Zone.{Zone}
-use Rattle.zone.specs.declared.state.State.{State}
-use Rattle.plain_book.specs.Calls as Book
-use Rattle.plain_book.specs.Session.{Meets}
+use Rattle.zone.specs.Promise.{Result, ok, refused, bind}
+use Rattle.zone.specs.Format.Head.{headOf}
+use Rattle.zone.specs.declared.record.zone_record.Zone.{Zone}
+use Rattle.zone.specs.declared.calls.state.State.{State}
+use Rattle.book.specs.Model.Calls as Book
+use Rattle.book.specs.Model.Session.{Meets}
 use Rattle.book.specs.Year.{year}
 use Rattle.hem_zone.specs.Code.{answerCode, lentAfter, answered}
 use Rattle.hem_zone.specs.Zone.{withZone}
@@ -28,13 +28,13 @@ use Rattle.hem_zone.proofs.book_calls.hem_take_up.Reads as take-up-read
 -- ---- the definitions that the contracts are equal to
 
 module _ (held : Held) where
-  answered-meets : (buf : List ℕ) (d : Res (Book.Values State × List ℕ)) (c : ℕ) (out : List ℕ) (after : Held)
+  answered-meets : (buf : List ℕ) (d : Result (Book.Values State × List ℕ)) (c : ℕ) (out : List ℕ) (after : Held)
       → (c, (out, after)) ≡ answered bookOut (buf, held) d → Meets year cTypes (c, after) out (Book.outcomeOf (valuesOf held) buf d)
   unfolding answered answerCode lentAfter
   answered-meets buf (ok r) c out after e = record { reply = ap (λ x. (x .0, x .1 .1)) e; bytes = ap (λ x. x .1 .0) e }
   answered-meets buf (refused n j) c out after e = record { reply = ap (λ x. (x .0, x .1 .1)) e; bytes = ap (λ x. x .1 .0) e }
 
-  answered-is : (d : Res (Book.Values State)) → answered heldOf held d ≡ replyIn (Book.answerOf (valuesOf held) d)
+  answered-is : (d : Result (Book.Values State)) → answered heldOf held d ≡ replyIn (Book.answerOf (valuesOf held) d)
   unfolding answered answerCode lentAfter
   answered-is (ok v) = refl
   answered-is (refused n j) = refl
@@ -71,7 +71,7 @@ module _ (κs : Lfts 6) (a : Dens κs begin-kinds.ps) (r : ℕ) (e : AtExit (end
   begin-ensures p = begin-meets _ _ _ _ _ _ p
 
 -- fn hem_append(head, buf, temps, nodes, count, used, conditions). The head is the book's own: with any bytes behind it, it is read as the zone of the
--- book's used bytes (`head-then` of zone_head).
+-- book's used bytes (`head-then` of zone).
 module _ (κs : Lfts 7) (a : Dens κs append-kinds.ps) (r : ℕ) (e : AtExit (endedOf 7 append-kinds.ps append-kinds.r) κs) where
   abbrev append-given : Held
   append-given = (now (a .1 .1 .0), now (a .1 .1 .1 .0), now (a .1 .1 .1 .1 .0), now (a .1 .1 .1 .1 .1 .0))

@@ -3,10 +3,10 @@ use mathlib.Core.Path.{_≡_}
 use mathlib.Core.Logic.{_↔_}
 use mathlib.Core.List.{List, map}
 use mathlib.Core.Option.{none}
-use Rattle.plain_book.specs.Plain.{empty}
-use Rattle.plain_book.specs.Run.{Calls, run, plainRun}
-use Rattle.plain_book.specs.Session.{Returned, Session, returnedOf}
-use Rattle.plain_book.specs.Claims.{AllMade}
+use Rattle.book.specs.Model.Plain.{empty}
+use Rattle.book.specs.Model.Run.{Calls, run, plainRun}
+use Rattle.book.specs.Model.Session.{Returned, Session, returnedOf}
+use Rattle.book.specs.Model.Claims.{AllMade}
 use Rattle.book.specs.Year.{year}
 use Rattle.book.proofs.Demand3.{year-claims}
 use Rattle.hem_zone.specs.BookTypes.{cTypes}

@@ -2,15 +2,15 @@
 use Prim.Native.Nat.{ℕ}
 use mathlib.Core.List.{List, [], _∷_, _++_}
 use lib.Ieee.{Float}
-use Rattle.solver.specs.F64.{zero64, one64}
-use Rattle.zone_temps.specs.declared.balance.HeatBalance.{HeatBalance}
-use Rattle.zone_temps.specs.declared.balance.HeatBalanceAirNode.{HeatBalanceAirNode}
-use Rattle.zone_temps.specs.declared.balance.HeatBalanceInternalBoundary.{HeatBalanceInternalBoundary}
-use Rattle.zone_temps.specs.declared.balance.HeatBalanceExternalBoundary.{HeatBalanceExternalBoundary}
-use Rattle.zone.specs.declared.state.State.{State}
-use Rattle.zone.specs.declared.state.Demand.{Demand}
-use Rattle.zone.specs.declared.state.AchToTriggerHeating.{AchToTriggerHeating}
-use Rattle.zone.specs.declared.state.AchToTriggerHeating.the-variants.{Absent, At}
+use Rattle.zone.specs.Promise.{zero64, one64}
+use Rattle.zone.specs.declared.physics.balance.HeatBalance.{HeatBalance}
+use Rattle.zone.specs.declared.physics.balance.HeatBalanceAirNode.{HeatBalanceAirNode}
+use Rattle.zone.specs.declared.physics.balance.HeatBalanceInternalBoundary.{HeatBalanceInternalBoundary}
+use Rattle.zone.specs.declared.physics.balance.HeatBalanceExternalBoundary.{HeatBalanceExternalBoundary}
+use Rattle.zone.specs.declared.calls.state.State.{State}
+use Rattle.zone.specs.declared.calls.state.Demand.{Demand}
+use Rattle.zone.specs.declared.calls.state.AchToTriggerHeating.{AchToTriggerHeating}
+use Rattle.zone.specs.declared.calls.state.AchToTriggerHeating.the-variants.{Absent, At}
 
 -- `temps[121]`, of which `nodes` count
 abbrev pub stateIn : (temps : List Float) → (nodes : ℕ) → State

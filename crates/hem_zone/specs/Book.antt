@@ -3,8 +3,8 @@
 use Prim.Native.Nat.{ℕ}
 use mathlib.Core.List.{List}
 use lib.Ieee.{Float}
-use Rattle.plain_book.specs.Calls as Book
-use Rattle.zone.specs.declared.state.State.{State}
+use Rattle.book.specs.Model.Calls as Book
+use Rattle.zone.specs.declared.calls.state.State.{State}
 use Rattle.book.specs.Year.{year}
 use Rattle.hem_zone.specs.Code.{answered}
 use Rattle.hem_zone.specs.Arrays.{stateIn}

@@ -1,8 +1,8 @@
 -- Lists of calls of hem_begin, hem_append and hem_take_up: the types of what these functions are given and leave, and what it stands for.
 use Prim.Native.Nat.{ℕ, zero, suc, _%_, _/_}
-use Rattle.plain_book.specs.Calls as Book
-use Rattle.plain_book.specs.Session.{CodeTypes}
-use Rattle.zone.specs.declared.state.State.{State}
+use Rattle.book.specs.Model.Calls as Book
+use Rattle.book.specs.Model.Session.{CodeTypes}
+use Rattle.zone.specs.declared.calls.state.State.{State}
 use Rattle.book.specs.Year.{year}
 use Rattle.hem_zone.specs.Code.{refusalCode}
 use Rattle.hem_zone.specs.Book.{Held, valuesOf, heldOf}

@@ -5,14 +5,14 @@ use mathlib.Core.Path.{_≡_}
 use mathlib.Core.Logic.{_↔_}
 use mathlib.Core.List.{List}
 use lib.Ieee.{Float}
-use Rattle.solver.specs.Res.{Res, ok, refused}
-use Rattle.zone_head.specs.BuildingElement.{standardCoefficients}
-use Rattle.zone_head.specs.Head.{headOf}
-use Rattle.zone_head.specs.Refusals.{HeadRefusal}
-use Rattle.zone.specs.Hour.{demand, updateTemperatures, hourStep}
-use Rattle.zone.specs.StartUp.{initNodeTemps}
-use Rattle.zone.specs.Refusals.{HourRefusal, UpdateRefusal, StartUpRefusal}
-use Rattle.plain_book.specs.Calls as Book
+use Rattle.zone.specs.Promise.{Result, ok, refused}
+use Rattle.zone.specs.Record.BuildingElement.{standardCoefficients}
+use Rattle.zone.specs.Format.Head.{headOf}
+use Rattle.zone.specs.Claims.HeadRefusals.{HeadRefusal}
+use Rattle.zone.specs.Calls.Hour.{demand, updateTemperatures, hourStep}
+use Rattle.zone.specs.Calls.StartUp.{initNodeTemps}
+use Rattle.zone.specs.Claims.Refusals.{HourRefusal, UpdateRefusal, StartUpRefusal}
+use Rattle.book.specs.Model.Calls as Book
 use Rattle.book.specs.Year.{year}
 use Rattle.book.specs.Refusals.{BeginRefusal, AppendRefusal, TakeUpRefusal}
 use Rattle.hem_zone.specs.Arrays.{stateIn, demandOut}
@@ -25,7 +25,7 @@ pub data AfterHead (P : (number index : ℕ) → Type 0) : (number index : ℕ) 
   ofCall : {number index : ℕ} → P number index → AfterHead P number index
 
 -- a returned number that stands for a refusal, which is one that P allows: HEM_NUMBER and HEM_INDEX of the C header read number and index back
-pub record Refusal (P : (number index : ℕ) → Type 0) {A : Type 0} (r : Res A) (code : ℕ) : Type 0 where
+pub record Refusal (P : (number index : ℕ) → Type 0) {A : Type 0} (r : Result A) (code : ℕ) : Type 0 where
   pub number : ℕ
   pub index : ℕ
   pub is-refused : r ≡ refused number index
@@ -35,12 +35,12 @@ pub record Refusal (P : (number index : ℕ) → Type 0) {A : Type 0} (r : Res A
   pub «HEM_INDEX» : code / 256 ≡ index
 
 -- what the number that a call returned tells of its result r
-pub record Returned (P : (number index : ℕ) → Type 0) {A : Type 0} (r : Res A) (code : ℕ) : Type 0 where
+pub record Returned (P : (number index : ℕ) → Type 0) {A : Type 0} (r : Result A) (code : ℕ) : Type 0 where
   pub accepted : (code ≡ 0) ↔ ((a : A) × (r ≡ ok a))
   pub not-accepted : (code ≡ 0 → ⊥) → Refusal P r code
 
 -- and what it tells of the lent arrays, which stand behind it
-pub record Answered (P : (number index : ℕ) → Type 0) {A B : Type 0} (written : A → B) (before : B) (r : Res A) (answer : ℕ × B) : Type 0 where
+pub record Answered (P : (number index : ℕ) → Type 0) {A B : Type 0} (written : A → B) (before : B) (r : Result A) (answer : ℕ × B) : Type 0 where
   pub returned : Returned P r (answer .0)
   pub writes : (a : A) → r ≡ ok a → answer .1 ≡ written a
   pub keeps : (answer .0 ≡ 0 → ⊥) → answer .1 ≡ before

@@ -3,20 +3,19 @@
 use Prim.Native.Nat.{ℕ}
 use mathlib.Core.List.{List}
 use lib.Ieee.{Float}
-use Rattle.solver.specs.Res.{Res, ok, bind}
-use Rattle.zone_head.specs.declared.zone_record.Zone.{Zone}
-use Rattle.zone_head.specs.BuildingElement.{standardCoefficients}
-use Rattle.zone_head.specs.Head.{headOf}
-use Rattle.zone_temps.specs.declared.balance.HeatBalance.{HeatBalance}
-use Rattle.zone.specs.declared.state.State.{State}
-use Rattle.zone.specs.declared.state.Demand.{Demand}
-use Rattle.zone.specs.Hour.{HourResult, demand, updateTemperatures, hourStep}
-use Rattle.zone.specs.StartUp.{initNodeTemps}
+use Rattle.zone.specs.Promise.{Result, bind}
+use Rattle.zone.specs.declared.record.zone_record.Zone.{Zone}
+use Rattle.zone.specs.Record.BuildingElement.{standardCoefficients}
+use Rattle.zone.specs.Format.Head.{headOf}
+use Rattle.zone.specs.declared.physics.balance.HeatBalance.{HeatBalance}
+use Rattle.zone.specs.declared.calls.state.State.{State}
+use Rattle.zone.specs.Calls.Hour.{HourResult, demand, updateTemperatures, hourStep}
+use Rattle.zone.specs.Calls.StartUp.{initNodeTemps}
 use Rattle.hem_zone.specs.Code.{answerCode, answered}
 use Rattle.hem_zone.specs.Arrays.{stateIn, demandOut, balanceOut}
 
 -- a call on the zone of a head
-unfoldable pub withZone : {A : Type 0} → (head : List ℕ) → (Zone → Res A) → Res A
+unfoldable pub withZone : {A : Type 0} → (head : List ℕ) → (Zone → Result A) → Result A
 withZone head f = bind (headOf head) λ h. f (h .0)
 
 unfoldable pub hemHead : (head : List ℕ) → ℕ

@@ -1,8 +1,8 @@
 // States, demands and heat balances in the arrays of C.
 use zone::AchToTriggerHeating;
 use zone::Demand;
+use zone::HeatBalance;
 use zone::State;
-use zone_temps::HeatBalance;
 ghost use mathlib.Core.Path.{_≡_};
 ghost use Rattle.hem_zone.specs.Arrays.{stateIn, demandOut, balanceOut};
 

@@ -1,7 +1,7 @@
 // A head by itself.
 use crate::code::refusal_code;
-use zone_head::Verdict;
-use zone_head::zone_of_head;
+use zone::Verdict;
+use zone::zone_of_head;
 ghost use mathlib.Core.Path.{_≡_};
 ghost use Rattle.hem_zone.specs.Zone.{hemHead};
 

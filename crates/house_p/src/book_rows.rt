@@ -7,7 +7,7 @@ use crate::table::text;
 use book::Reply;
 use book::Values;
 use zone::State;
-use zone_head::Verdict;
+use zone::Verdict;
 
 fn nothing() -> Values {
     let state = State {
@@ -39,7 +39,7 @@ fn print_used(r: Reply, count: u64, used: u64) {
 // Begun, and one hour appended.
 fn book_of_one(b: &mut [u8; 396]) {
     let p = head_of(house_p());
-    let h = zone_head::zone_of_head(&p);
+    let h = zone::zone_of_head(&p);
     let c = conditions_of(21.0, 24.0);
     text(b"begin\n");
     let begun = book::begin(nothing(), &p, b);

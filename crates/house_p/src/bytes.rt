@@ -35,7 +35,7 @@ pub fn bits_of(x: f64) -> u64 {
     }
 }
 
-pub fn put_float(b: &mut [u8], at: usize, x: f64) {
+pub fn write_f64_be(b: &mut [u8], at: usize, x: f64) {
     put_eight(b, at, bits_of(x));
 }
 
@@ -44,10 +44,10 @@ fn float_in(xs: &[f64], at: usize) -> f64 {
 }
 
 // The first `count` floats of `xs`, one behind the other.
-pub fn put_floats(b: &mut [u8], at: usize, xs: &[f64], count: usize) {
+pub fn write_f64s_be(b: &mut [u8], at: usize, xs: &[f64], count: usize) {
     let mut p = at;
     for i in 0..count {
-        put_float(b, p, float_in(xs, i));
+        write_f64_be(b, p, float_in(xs, i));
         p = wrapping_add_usize(p, 8);
     }
 }

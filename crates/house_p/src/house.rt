@@ -1,6 +1,6 @@
 // House P and its hours, in bytes.
 use crate::bytes::put_byte;
-use crate::bytes::put_floats;
+use crate::bytes::write_f64s_be;
 
 // What the rows change of House P.
 pub struct House {
@@ -32,15 +32,15 @@ pub fn singular() -> House {
 // An element's part of an hour: external temperature 20, no sun, shading 1.
 fn put_part(b: &mut [u8], at: usize) {
     let part = [20.0, 0.0, 0.0, 1.0, 1.0];
-    put_floats(b, at, &part, 5);
+    write_f64s_be(b, at, &part, 5);
 }
 
 fn put_element(b: &mut [u8; 180], p: House) {
     put_byte(b, 57, 4);
     let values = [1.0, 90.0, p.h_ce, 0.0, 0.0, 0.0, 0.0];
     let chain = [0.0, p.k_inner, 1.0];
-    put_floats(b, 59, &values, 7);
-    put_floats(b, 115, &chain, 3);
+    write_f64s_be(b, 59, &values, 7);
+    write_f64s_be(b, 115, &chain, 3);
     put_part(b, 139);
 }
 
@@ -52,7 +52,7 @@ pub fn head_of(p: House) -> [u8; 180] {
     put_byte(&mut b, 4, 1);
     put_byte(&mut b, 6, 1);
     put_byte(&mut b, 8, 10);
-    put_floats(&mut b, 9, &values, 6);
+    write_f64s_be(&mut b, 9, &values, 6);
     put_element(&mut b, p);
     b
 }
@@ -74,7 +74,7 @@ pub fn conditions_of(heat: f64, cool: f64) -> [u8; 154] {
         0.0,
         0.0,
     ];
-    put_floats(&mut b, 0, &values, 12);
+    write_f64s_be(&mut b, 0, &values, 12);
     put_part(&mut b, 113);
     b
 }

@@ -8,8 +8,8 @@ use crate::table::value;
 use zone::DemandAnswer;
 use zone::State;
 use zone::UpdateAnswer;
-use zone_head::Verdict;
-use zone_head::Zone;
+use zone::Verdict;
+use zone::Zone;
 
 // Every temperature 20.
 fn start() -> State {
@@ -169,7 +169,7 @@ fn print_refused(z: Zone) {
 
 fn print_singular() {
     let p = head_of(singular());
-    let h = zone_head::zone_of_head(&p);
+    let h = zone::zone_of_head(&p);
     let c = conditions_of(20.0, 24.0);
     let x = start().space_heat_cool_demand(h.zone, &c);
     let answer = x.answer;
@@ -178,7 +178,7 @@ fn print_singular() {
 
 pub fn print_zone() {
     let p = head_of(house_p());
-    let h = zone_head::zone_of_head(&p);
+    let h = zone::zone_of_head(&p);
     let z = h.zone;
     let verdict = h.verdict;
     number(b"head, refusal                ", verdict_number(verdict), 0);
@@ -194,8 +194,8 @@ pub fn print_zone() {
 
 // Air and surface both at 20.
 fn h_ci(pitch: f64) -> f64 {
-    let c = zone_head::standard_coefficients();
-    zone_head::h_ci(c, pitch, 20.0, 20.0)
+    let c = zone::standard_coefficients();
+    zone::h_ci(c, pitch, 20.0, 20.0)
 }
 
 pub fn print_h_ci() {
@@ -227,7 +227,7 @@ pub fn print_h_ci() {
 
 // Operative and air temperature both 24 at the lower rate and 16 at the upper, supply 8.
 fn rate(target: f64, ach_min: f64, ach_max: f64) -> f64 {
-    zone_head::ach_req_to_reach_temperature(target, ach_min, ach_max, 24.0, 16.0, 24.0, 16.0, 8.0)
+    zone::ach_req_to_reach_temperature(target, ach_min, ach_max, 24.0, 16.0, 24.0, 16.0, 8.0)
 }
 
 pub fn print_rates() {

@@ -1,6 +1,6 @@
 // What a call answered: acceptance with its values as 64-bit patterns, or number and index.
 use crate::bytes::bits_of;
-use crate::bytes::eight_at;
+use crate::bytes::read_u64_be;
 use crate::bytes::same_value;
 use std::num::wrapping_add_usize;
 use zone::AchToTriggerHeating;
@@ -150,7 +150,7 @@ pub fn first_difference(a: Answer, s: &[u8], at: usize, count: usize) -> usize {
     let mut found = 0;
     let mut p = at;
     for i in 0..count {
-        let same = same_value(bits_in(&bits, i), eight_at(s, p));
+        let same = same_value(bits_in(&bits, i), read_u64_be(s, p));
         if !same && found == 0 {
             found = wrapping_add_usize(i, 1);
         }

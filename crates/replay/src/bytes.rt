@@ -18,36 +18,36 @@ pub fn one_at(s: &[u8], at: usize) -> usize {
     usize_of(byte_at(s, at))
 }
 
-pub fn two_at(s: &[u8], at: usize) -> usize {
+pub fn read_u16_be(s: &[u8], at: usize) -> usize {
     let high = one_at(s, at);
     let low = one_at(s, wrapping_add_usize(at, 1));
     high << 8 | low
 }
 
-pub fn four_at(s: &[u8], at: usize) -> usize {
-    let high = two_at(s, at);
-    let low = two_at(s, wrapping_add_usize(at, 2));
+pub fn read_u32_be(s: &[u8], at: usize) -> usize {
+    let high = read_u16_be(s, at);
+    let low = read_u16_be(s, wrapping_add_usize(at, 2));
     high << 16 | low
 }
 
-pub fn eight_at(s: &[u8], at: usize) -> u64 {
-    let high = four_at(s, at);
-    let low = four_at(s, wrapping_add_usize(at, 4));
+pub fn read_u64_be(s: &[u8], at: usize) -> u64 {
+    let high = read_u32_be(s, at);
+    let low = read_u32_be(s, wrapping_add_usize(at, 4));
     (high << 32 | low) as u64
 }
 
 // The float of a pattern; of a NaN's, 0 / 0.
 pub fn float_of(bits: u64) -> f64 {
-    let magnitude = bits % 9223372036854775808;
-    if magnitude <= 9218868437227405312 {
+    let abs = bits % 9223372036854775808;
+    if abs <= 9218868437227405312 {
         f64::from_bits(bits)
     } else {
         0.0 / 0.0
     }
 }
 
-pub fn float_at(s: &[u8], at: usize) -> f64 {
-    float_of(eight_at(s, at))
+pub fn read_f64_be(s: &[u8], at: usize) -> f64 {
+    float_of(read_u64_be(s, at))
 }
 
 // The pattern of a float; each NaN has one.
@@ -92,7 +92,7 @@ pub fn state_at(s: &[u8], at: usize, nodes: usize, count: usize) -> State {
     let mut temps = [0.0; 121];
     let mut p = at;
     for i in 0..count {
-        set_float(&mut temps, i, float_at(s, p));
+        set_float(&mut temps, i, read_f64_be(s, p));
         p = wrapping_add_usize(p, 8);
     }
     State { nodes, temps }

@@ -7,15 +7,15 @@ use crate::answer::push_demand;
 use crate::answer::push_temps;
 use crate::answer::refused;
 use crate::answer::refused_if;
-use crate::bytes::float_at;
+use crate::bytes::read_f64_be;
 use crate::bytes::same_state;
 use std::num::wrapping_add_usize;
 use zone::DemandAnswer;
 use zone::HourAnswer;
 use zone::State;
 use zone::UpdateAnswer;
-use zone_head::Verdict;
-use zone_head::Zone;
+use zone::Verdict;
+use zone::Zone;
 
 // A demand leaves the state as it is.
 pub fn demand(z: Zone, s: State, conditions: &[u8]) -> Answer {
@@ -36,9 +36,9 @@ pub fn demand(z: Zone, s: State, conditions: &[u8]) -> Answer {
 
 // `own` is the place of the gains, the fraction and the rate.
 pub fn update(z: Zone, s: State, conditions: &[u8], b: &[u8], own: usize) -> Answer {
-    let gains = float_at(b, own);
-    let fraction = float_at(b, wrapping_add_usize(own, 8));
-    let rate = float_at(b, wrapping_add_usize(own, 16));
+    let gains = read_f64_be(b, own);
+    let fraction = read_f64_be(b, wrapping_add_usize(own, 8));
+    let rate = read_f64_be(b, wrapping_add_usize(own, 16));
     let x = s.update_temperatures(z, conditions, gains, fraction, rate);
     let after = x.state;
     let answer = x.answer;

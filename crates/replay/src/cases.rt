@@ -4,8 +4,8 @@ use crate::answer::first_difference;
 use crate::answer::refused;
 use crate::bytes::one_at;
 use crate::bytes::part;
+use crate::bytes::read_u16_be;
 use crate::bytes::state_at;
-use crate::bytes::two_at;
 use crate::calls;
 use crate::records;
 use crate::records::next_record;
@@ -13,8 +13,8 @@ use crate::records::record;
 use crate::tally::CaseTally;
 use crate::tally::no_cases;
 use std::num::wrapping_add_usize;
-use zone_head::Verdict;
-use zone_head::Zone;
+use zone::Verdict;
+use zone::Zone;
 
 // Where the parts of a record lie.
 struct Case {
@@ -34,12 +34,12 @@ struct Case {
 const HEAD: usize = 5;
 
 fn case_at(b: &[u8]) -> Case {
-    let head_length = two_at(b, 3);
+    let head_length = read_u16_be(b, 3);
     let after_head = wrapping_add_usize(HEAD, head_length);
-    let nodes = two_at(b, after_head);
+    let nodes = read_u16_be(b, after_head);
     let temps = wrapping_add_usize(after_head, 2);
     let after_temps = wrapping_add_usize(temps, nodes << 3);
-    let conditions_length = two_at(b, after_temps);
+    let conditions_length = read_u16_be(b, after_temps);
     let conditions = wrapping_add_usize(after_temps, 2);
     let own = wrapping_add_usize(conditions, conditions_length);
     let after_own = wrapping_add_usize(own, 24);
@@ -54,7 +54,7 @@ fn case_at(b: &[u8]) -> Case {
         conditions_length,
         own,
         values: wrapping_add_usize(after_own, 2),
-        count: two_at(b, after_own),
+        count: read_u16_be(b, after_own),
     }
 }
 
@@ -71,7 +71,7 @@ fn run_zone(z: Zone, c: Case, b: &[u8]) -> Answer {
 }
 
 fn run_case(c: Case, b: &[u8]) -> Answer {
-    let h = zone_head::zone_of_head(part(b, HEAD, c.head_length));
+    let h = zone::zone_of_head(part(b, HEAD, c.head_length));
     let verdict = h.verdict;
     match verdict {
         Verdict::Refused { number, index } => refused(number, index),

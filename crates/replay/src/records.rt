@@ -1,6 +1,6 @@
 // Records of a file, each behind its length in four bytes.
-use crate::bytes::four_at;
 use crate::bytes::part;
+use crate::bytes::read_u32_be;
 use std::num::wrapping_sub_usize;
 
 // Room for the longest record.
@@ -12,7 +12,7 @@ fn length_of_next(fd: i32) -> usize {
     if n < 4 {
         return 0;
     }
-    four_at(&four, 0)
+    read_u32_be(&four, 0)
 }
 
 fn read_from(fd: i32, buf: &mut [u8], from: usize) -> usize {

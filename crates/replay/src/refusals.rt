@@ -4,12 +4,12 @@ use crate::answer::accepted;
 use crate::answer::refused;
 use crate::answer::refused_if;
 use crate::bytes::byte_at;
-use crate::bytes::four_at;
 use crate::bytes::one_at;
 use crate::bytes::part;
+use crate::bytes::read_u16_be;
+use crate::bytes::read_u32_be;
 use crate::bytes::same_state;
 use crate::bytes::state_at;
-use crate::bytes::two_at;
 use crate::calls;
 use crate::records;
 use crate::records::next_record;
@@ -21,8 +21,8 @@ use book::Values;
 use std::num::wrapping_add_usize;
 use std::num::wrapping_sub_usize;
 use zone::State;
-use zone_head::Verdict;
-use zone_head::Zone;
+use zone::Verdict;
+use zone::Zone;
 
 const HEAD: usize = 8;
 
@@ -48,32 +48,32 @@ struct Row {
 }
 
 fn row_at(b: &[u8]) -> Row {
-    let head_length = four_at(b, 4);
+    let head_length = read_u32_be(b, 4);
     let after_head = wrapping_add_usize(HEAD, head_length);
     let state = wrapping_add_usize(after_head, 3);
-    let temp_count = two_at(b, wrapping_add_usize(state, 2));
+    let temp_count = read_u16_be(b, wrapping_add_usize(state, 2));
     let temps = wrapping_add_usize(state, 4);
     let after_temps = wrapping_add_usize(temps, temp_count << 3);
-    let conditions_length = two_at(b, after_temps);
+    let conditions_length = read_u16_be(b, after_temps);
     let conditions = wrapping_add_usize(after_temps, 2);
     let own = wrapping_add_usize(conditions, conditions_length);
     let given = wrapping_add_usize(own, 24);
     Row {
         call: one_at(b, 0),
         number: one_at(b, 1),
-        index: two_at(b, 2),
+        index: read_u16_be(b, 2),
         head_length,
         change: one_at(b, after_head),
-        changed: two_at(b, wrapping_add_usize(after_head, 1)),
-        nodes: two_at(b, state),
+        changed: read_u16_be(b, wrapping_add_usize(after_head, 1)),
+        nodes: read_u16_be(b, state),
         temps,
         temp_count,
         conditions,
         conditions_length,
         own,
-        count: four_at(b, given),
-        used: four_at(b, wrapping_add_usize(given, 4)),
-        room: four_at(b, wrapping_add_usize(given, 8)),
+        count: read_u32_be(b, given),
+        used: read_u32_be(b, wrapping_add_usize(given, 4)),
+        room: read_u32_be(b, wrapping_add_usize(given, 8)),
     }
 }
 
@@ -206,12 +206,12 @@ fn run_zone(zone: Zone, r: Row, b: &[u8]) -> Answer {
         4 => calls::hour_step(z, s, conditions),
         6 => append(z, given_of(r, s), conditions, r.room),
         8 => accepted(),
-        _ => verdict_answer(zone_head::zone_test(z)),
+        _ => verdict_answer(zone::zone_test(z)),
     }
 }
 
 fn run_head(r: Row, b: &[u8]) -> Answer {
-    let h = zone_head::zone_of_head(part(b, HEAD, r.head_length));
+    let h = zone::zone_of_head(part(b, HEAD, r.head_length));
     let verdict = h.verdict;
     match verdict {
         Verdict::Refused { number, index } => refused(number, index),

@@ -1,7 +1,7 @@
 pub mod F64
 pub mod Each
-pub mod Res
-pub mod Near
+pub mod Result
+pub mod Closeness
 pub mod Sums
 pub mod Rows
 pub mod Lu

@@ -6,7 +6,7 @@ use mathlib.Core.Bool.{cond}
 use lib.ListN.{getD, set, replicate}
 use lib.Ieee.{Float, nan, lt, neg}
 use Rattle.solver.specs.F64.{_+ᶠ_, _*ᶠ_, zero64}
-use Rattle.solver.specs.Near.{magnitude}
+use Rattle.solver.specs.Closeness.{abs}
 use Rattle.solver.specs.Each.{each}
 
 -- the entry of row i and column j, and the matrix with another one there
@@ -32,7 +32,7 @@ setRow i r m = each 0 25 (setRowEntry i r) m
 
 -- row i where its magnitude in column k is strictly greater than that of the row found so far, which a nan never is; else that row
 unfoldable pub largerInColumn : ℕ → List Float → ℕ → ℕ → ℕ
-largerInColumn k part i found = cond (lt (magnitude (entry found k part)) (magnitude (entry i k part))) i found
+largerInColumn k part i found = cond (lt (abs (entry found k part)) (abs (entry i k part))) i found
 
 -- of the n rows of a part of the matrix, from its top, the first of largest magnitude in column k
 abbrev pub pivotRow : ℕ → ℕ → List Float → ℕ

@@ -1,7 +1,7 @@
 // The chains of nodes. A slot is the place of a node: element e has slots 5e to 5e + 4 from its outer to its inner surface, a two-node
 // element only the last two of them, so that the inner surface is always 5e + 4; the air is slot 120.
-use crate::near::valid_divisor;
-use crate::near::within_million;
+use crate::closeness::valid_divisor;
+use crate::closeness::within_state_bound;
 ghost use mathlib.Core.Path.{_≡_};
 ghost use Prim.Native.Nat.{_+_, _*_, _<_, _≤_};
 ghost use Rattle.solver.specs.Chain.{outerSlot, eliminateChain, eliminateChains, chainDivisorsValid, divisorsValid, reduceRightSide, reduceRightSides, backSubstituteChain, backSubstituteChains, elementWithin, nodesWithin};
@@ -163,7 +163,7 @@ pub fn element_within(two_nodes: &[bool; 24], t: &[f64; 121], e: usize, given: b
     let mut within = given;
     let mut s = outer_slot(two_nodes, e);
     while s < 5 * e + 5 {
-        within = within & within_million(t[s]);
+        within = within & within_state_bound(t[s]);
         s += 1;
     }
     within
@@ -174,7 +174,7 @@ pub fn nodes_within(two_nodes: &[bool; 24], t: &[f64; 121], n: usize) -> bool
     requires { ⌜ n ≤ 24 ⌝ }
     ensures { λ r. ⌜ r ≡ nodesWithin n (now («two_nodes» .entry)) (now (t .entry)) ⌝ }
 {
-    let mut within = within_million(t[120]);
+    let mut within = within_state_bound(t[120]);
     let mut e = 0;
     while e < n {
         within = element_within(two_nodes, t, e, within);

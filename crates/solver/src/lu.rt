@@ -1,5 +1,5 @@
 // The dense solve of w unknowns: elimination with partial pivoting, and substitution.
-use crate::near::valid_divisor;
+use crate::closeness::valid_divisor;
 use crate::rows::eliminate_rows;
 use crate::rows::entry;
 use crate::rows::pivot_row;
@@ -10,7 +10,7 @@ ghost use Prim.Native.Nat.{_+_, _-_, _*_, _<_, _≤_};
 ghost use lib.ListN.{length, drop};
 ghost use Rattle.solver.specs.Each.{each};
 ghost use Rattle.solver.specs.Rows.{pivotRow};
-ghost use Rattle.solver.specs.Lu.{luWith, eliminateColumn, luFactor, exchangeRows, pivotsValid, applyExchanges, subtractShare, forwardSubstitution, backSubstitution, luSolve};
+ghost use Rattle.solver.specs.Lu.{luWith, eliminateColumn, luFactor, interchangeRows, pivotsValid, applyInterchanges, subtractMultiple, forwardSubstitution, backSubstitution, luSolve};
 
 // The pivot row of column k: the rows from row k on, one part of the flat matrix, are handed to the pivot search.
 pub fn pivot_row_from(m: &[f64], w: usize, k: usize) -> usize
@@ -22,9 +22,9 @@ pub fn pivot_row_from(m: &[f64], w: usize, k: usize) -> usize
 }
 
 // Row k and row q, of which `pivots` is a copy, change places.
-pub fn exchange_rows(m: &mut [f64; 625], k: usize, q: usize, pivots: &[f64; 25])
+pub fn interchange_rows(m: &mut [f64; 625], k: usize, q: usize, pivots: &[f64; 25])
     requires { ⌜ (k < 25) × (q < 25) ⌝ }
-    ensures { λ _. ⌜ now (m .exit) ≡ exchangeRows k q (now (pivots .entry)) (now (m .entry)) ⌝ }
+    ensures { λ _. ⌜ now (m .exit) ≡ interchangeRows k q (now (pivots .entry)) (now (m .entry)) ⌝ }
 {
     if q == k {
         return;
@@ -35,26 +35,26 @@ pub fn exchange_rows(m: &mut [f64; 625], k: usize, q: usize, pivots: &[f64; 25])
 }
 
 // Column k: the pivot row comes to row k, and the column is eliminated from each row below.
-pub fn eliminate_column(m: &mut [f64; 625], exchanges: &mut [usize; 25], w: usize, k: usize)
+pub fn eliminate_column(m: &mut [f64; 625], interchanges: &mut [usize; 25], w: usize, k: usize)
     requires { ⌜ (w ≤ 25) × (k < w) ⌝ }
-    ensures { λ _. ⌜ luWith (now (m .exit)) (now (exchanges .exit)) ≡ eliminateColumn w k (luWith (now (m .entry)) (now (exchanges .entry))) ⌝ }
+    ensures { λ _. ⌜ luWith (now (m .exit)) (now (interchanges .exit)) ≡ eliminateColumn w k (luWith (now (m .entry)) (now (interchanges .entry))) ⌝ }
 {
     let q = pivot_row_from(m, w, k);
     let pivot = entry(m, q, k);
     let pivots = row(m, q);
-    exchange_rows(m, k, q, &pivots);
-    exchanges[k] = q;
+    interchange_rows(m, k, q, &pivots);
+    interchanges[k] = q;
     eliminate_rows(m, w, k, &pivots, 1.0 / pivot);
 }
 
 // Each column in turn. Whether the pivots are valid is tested afterwards: they stay on the diagonal.
-pub fn lu_factor(m: &mut [f64; 625], exchanges: &mut [usize; 25], w: usize)
+pub fn lu_factor(m: &mut [f64; 625], interchanges: &mut [usize; 25], w: usize)
     requires { ⌜ w ≤ 25 ⌝ }
-    ensures { λ _. ⌜ luWith (now (m .exit)) (now (exchanges .exit)) ≡ luFactor w (now (m .entry)) (now (exchanges .entry)) ⌝ }
+    ensures { λ _. ⌜ luWith (now (m .exit)) (now (interchanges .exit)) ≡ luFactor w (now (m .entry)) (now (interchanges .entry)) ⌝ }
 {
     let mut k = 0;
     while k < w {
-        eliminate_column(m, exchanges, w, k);
+        eliminate_column(m, interchanges, w, k);
         k += 1;
     }
 }
@@ -73,13 +73,13 @@ pub fn pivots_valid(m: &[f64; 625], w: usize) -> bool
 }
 
 // The row exchanges of the factorisation, made on a right side.
-pub fn apply_exchanges(b: &mut [f64; 25], exchanges: &[usize; 25], w: usize)
+pub fn apply_interchanges(b: &mut [f64; 25], interchanges: &[usize; 25], w: usize)
     requires { ⌜ w ≤ 25 ⌝ }
-    ensures { λ _. ⌜ now (b .exit) ≡ applyExchanges w (now (exchanges .entry)) (now (b .entry)) ⌝ }
+    ensures { λ _. ⌜ now (b .exit) ≡ applyInterchanges w (now (interchanges .entry)) (now (b .entry)) ⌝ }
 {
     let mut k = 0;
     while k < w {
-        let q = exchanges[k];
+        let q = interchanges[k];
         if q < 25 {
             let x = b[k];
             b[k] = b[q];
@@ -90,7 +90,7 @@ pub fn apply_exchanges(b: &mut [f64; 25], exchanges: &[usize; 25], w: usize)
 }
 
 // The share of unknown k, which is x, is subtracted from the right sides of the rows from `start` up to `end`.
-pub fn subtract_shares(
+pub fn subtract_multiples(
     m: &[f64; 625],
     b: &mut [f64; 25],
     k: usize,
@@ -99,7 +99,7 @@ pub fn subtract_shares(
     end: usize,
 )
     requires { ⌜ (k < 25) × (end ≤ 25) ⌝ }
-    ensures { λ _. ⌜ now (b .exit) ≡ each start end (subtractShare (now (m .entry)) k x) (now (b .entry)) ⌝ }
+    ensures { λ _. ⌜ now (b .exit) ≡ each start end (subtractMultiple (now (m .entry)) k x) (now (b .entry)) ⌝ }
 {
     let mut i = start;
     while i < end {
@@ -115,7 +115,7 @@ pub fn forward_substitution(m: &[f64; 625], b: &mut [f64; 25], w: usize)
     let mut k = 0;
     while k < w {
         let x = b[k];
-        subtract_shares(m, b, k, x, k + 1, w);
+        subtract_multiples(m, b, k, x, k + 1, w);
         k += 1;
     }
 }
@@ -129,16 +129,16 @@ pub fn back_substitution(m: &[f64; 625], b: &mut [f64; 25], w: usize)
         k -= 1;
         let x = b[k] / entry(m, k, k);
         b[k] = x;
-        subtract_shares(m, b, k, x, 0, k);
+        subtract_multiples(m, b, k, x, 0, k);
     }
 }
 
 // The unknowns stand where the right side stood.
-pub fn lu_solve(m: &[f64; 625], exchanges: &[usize; 25], b: &mut [f64; 25], w: usize)
+pub fn lu_solve(m: &[f64; 625], interchanges: &[usize; 25], b: &mut [f64; 25], w: usize)
     requires { ⌜ w ≤ 25 ⌝ }
-    ensures { λ _. ⌜ now (b .exit) ≡ luSolve w (now (m .entry)) (now (exchanges .entry)) (now (b .entry)) ⌝ }
+    ensures { λ _. ⌜ now (b .exit) ≡ luSolve w (now (m .entry)) (now (interchanges .entry)) (now (b .entry)) ⌝ }
 {
-    apply_exchanges(b, exchanges, w);
+    apply_interchanges(b, interchanges, w);
     forward_substitution(m, b, w);
     back_substitution(m, b, w);
 }

@@ -1,5 +1,5 @@
 // A matrix of at most 25 rows in one flat array, row i from place 25 i on.
-use crate::near::magnitude;
+use crate::closeness::abs;
 ghost use mathlib.Core.Path.{_≡_};
 ghost use Prim.Native.Nat.{_+_, _*_, _<_, _≤_};
 ghost use lib.ListN.{length};
@@ -26,10 +26,10 @@ pub fn pivot_row(part: &[f64], k: usize, n: usize) -> usize
     ensures { λ r. ⌜ (r ≡ pivotRow k n (now (part .entry))) × (r < n) ⌝ }
 {
     let mut found = 0;
-    let mut largest = magnitude(part[25 * found + k]);
+    let mut largest = abs(part[25 * found + k]);
     let mut i = 1;
     while i < n {
-        let x = magnitude(part[25 * i + k]);
+        let x = abs(part[25 * i + k]);
         if largest < x {
             found = i;
             largest = x;

@@ -56,13 +56,13 @@ fn factor_dense(
     two_nodes: &[bool; 24],
     diag: &[f64; 120],
     dense: &mut [f64; 625],
-    exchanges: &mut [usize; 25],
+    interchanges: &mut [usize; 25],
 ) -> u32
     requires { ⌜ n ≤ 24 ⌝ }
-    ensures { λ r. ⌜ factored r (now (diag .entry)) (now (dense .exit)) (now (exchanges .exit)) ≡ factorDense n (now («two_nodes» .entry)) (now (diag .entry)) (now (dense .entry)) (now (exchanges .entry)) ⌝ }
+    ensures { λ r. ⌜ factored r (now (diag .entry)) (now (dense .exit)) (now (interchanges .exit)) ≡ factorDense n (now («two_nodes» .entry)) (now (diag .entry)) (now (dense .entry)) (now (interchanges .entry)) ⌝ }
 {
     set_inner_diagonals(diag, n, dense);
-    lu_factor(dense, exchanges, n + 1);
+    lu_factor(dense, interchanges, n + 1);
     let chains = divisors_valid(two_nodes, diag, n);
     let pivots = pivots_valid(dense, n + 1);
     if chains & pivots { 0 } else { 12 }
@@ -76,14 +76,14 @@ pub fn factor(
     next: &[f64; 120],
     prev: &[f64; 120],
     dense: &mut [f64; 625],
-    exchanges: &mut [usize; 25],
+    interchanges: &mut [usize; 25],
 ) -> u32
-    ensures { λ r. ⌜ factored r (now (diag .exit)) (now (dense .exit)) (now (exchanges .exit))
-        ≡ factor record { n = n; «two_nodes» = now («two_nodes» .entry); diag = now (diag .entry); next = now (next .entry); prev = now (prev .entry); dense = now (dense .entry) } (now (exchanges .entry)) ⌝ }
+    ensures { λ r. ⌜ factored r (now (diag .exit)) (now (dense .exit)) (now (interchanges .exit))
+        ≡ factor record { n = n; «two_nodes» = now («two_nodes» .entry); diag = now (diag .entry); next = now (next .entry); prev = now (prev .entry); dense = now (dense .entry) } (now (interchanges .entry)) ⌝ }
 {
     let k = at_most_24(n);
     eliminate_chains(two_nodes, next, prev, k, diag);
-    factor_dense(k, two_nodes, diag, dense, exchanges)
+    factor_dense(k, two_nodes, diag, dense, interchanges)
 }
 
 // The right side of the dense part.
@@ -129,16 +129,16 @@ fn solve_nodes(
     next: &[f64; 120],
     prev: &[f64; 120],
     dense: &[f64; 625],
-    exchanges: &[usize; 25],
+    interchanges: &[usize; 25],
     b: &mut [f64; 121],
 )
     requires { ⌜ n ≤ 24 ⌝ }
     ensures { λ _. ⌜ now (b .exit)
-        ≡ temperatures n (now («two_nodes» .entry)) (now (diag .entry)) (now (next .entry)) (now (prev .entry)) (now (dense .entry)) (now (exchanges .entry)) (now (b .entry)) ⌝ }
+        ≡ temperatures n (now («two_nodes» .entry)) (now (diag .entry)) (now (next .entry)) (now (prev .entry)) (now (dense .entry)) (now (interchanges .entry)) (now (b .entry)) ⌝ }
 {
     reduce_right_sides(two_nodes, diag, prev, n, b);
     let mut v = gather_dense(b, n);
-    lu_solve(dense, exchanges, &mut v, n + 1);
+    lu_solve(dense, interchanges, &mut v, n + 1);
     scatter_dense(&v, n, b);
     back_substitute_chains(two_nodes, diag, next, n, b);
 }
@@ -151,14 +151,14 @@ pub fn substitute(
     next: &[f64; 120],
     prev: &[f64; 120],
     dense: &[f64; 625],
-    exchanges: &[usize; 25],
+    interchanges: &[usize; 25],
     b: &mut [f64; 121],
 ) -> u32
     ensures { λ r. ⌜ solved r (now (b .exit))
-        ≡ substitute record { n = n; «two_nodes» = now («two_nodes» .entry); diag = now (diag .entry); next = now (next .entry); prev = now (prev .entry); dense = now (dense .entry) } (now (exchanges .entry)) (now (b .entry)) ⌝ }
+        ≡ substitute record { n = n; «two_nodes» = now («two_nodes» .entry); diag = now (diag .entry); next = now (next .entry); prev = now (prev .entry); dense = now (dense .entry) } (now (interchanges .entry)) (now (b .entry)) ⌝ }
 {
     let k = at_most_24(n);
-    solve_nodes(k, two_nodes, diag, next, prev, dense, exchanges, b);
+    solve_nodes(k, two_nodes, diag, next, prev, dense, interchanges, b);
     if nodes_within(two_nodes, b, k) { 0 } else { 13 }
 }
 
@@ -171,7 +171,7 @@ pub fn fast_solver(a: Matrix, b: [f64; 121]) -> Solved
     let next = a.next;
     let prev = a.prev;
     let mut dense = a.dense;
-    let mut exchanges = [0; 25];
+    let mut interchanges = [0; 25];
     let mut temps = b;
     let mut number = factor(
         a.n,
@@ -180,7 +180,7 @@ pub fn fast_solver(a: Matrix, b: [f64; 121]) -> Solved
         &next,
         &prev,
         &mut dense,
-        &mut exchanges,
+        &mut interchanges,
     );
     if number == 0 {
         number = substitute(
@@ -190,7 +190,7 @@ pub fn fast_solver(a: Matrix, b: [f64; 121]) -> Solved
             &next,
             &prev,
             &dense,
-            &exchanges,
+            &interchanges,
             &mut temps,
         );
     }

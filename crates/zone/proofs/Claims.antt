@@ -1,4 +1,10 @@
--- What a reader of document 01 looks for: theorems of the definitions.
+-- What heads and conditions are, as theorems of their definitions.
+pub mod Head
+pub mod Conditions
+pub mod ConditionsBytes
+pub mod HeadBytes
+pub mod HeadRefusals
 pub mod Demand
 pub mod StartUp
 pub mod Refusals
+pub mod HouseP

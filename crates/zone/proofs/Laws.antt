@@ -1,4 +1,25 @@
 -- Laws that several proofs cite.
+pub mod Lists
+pub mod Element
+pub mod Bytes
+pub mod Nan
+pub mod ElementLayout
+pub mod Ranges
+pub mod Structure
+pub mod Head
+pub mod Conditions
+pub mod Same
+pub mod RoundTrip
+pub mod Numbers
+pub mod HeadAnswers
+pub mod Terms
+pub mod Agree
+pub mod Surfaces
+pub mod Steps
+pub mod Blocks
+pub mod Nodes
+pub mod Zones
+pub mod SolveRefusals
 pub mod State
 pub mod Solves
 pub mod Ventilation

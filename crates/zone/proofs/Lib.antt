@@ -1,2 +1,3 @@
-pub mod Laws
 pub mod Claims
+mod Laws
+pub mod Promise

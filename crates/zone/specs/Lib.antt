@@ -1,9 +1,8 @@
-pub mod State
-pub mod Demand
+pub mod Record
+pub mod Format
+pub mod Check
+pub mod Physics
+pub mod Claims
+pub mod Calls
 pub mod Hour
-pub mod StartUp
-pub mod Answers
-pub mod Solves
-pub mod DemandClaims
-pub mod StartUpClaims
-pub mod Refusals
+pub mod Promise

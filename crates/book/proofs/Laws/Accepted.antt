@@ -4,16 +4,15 @@ use mathlib.Core.Path.{_≡_}
 use mathlib.Core.List.{List}
 use native.Mathlib.Omega.{arith}
 use lib.ListN.{length}
-use Rattle.solver.specs.Res.{ok, bind-ok}
-use Rattle.zone_head.specs.BuildingElement.{standardCoefficients, nodeCount}
-use Rattle.zone_head.specs.Head.{headOf}
-use Rattle.zone_head.specs.ZoneTest.{countsTest, zoneTest}
-use Rattle.zone_head.specs.declared.zone_record.Zone.{Zone}
-use Rattle.zone_head.proofs.Laws.Ranges.{counts-few}
-use Rattle.zone_head.proofs.Claims.Head.{head-tested}
-use Rattle.zone.specs.Hour.{HourResult}
-use Rattle.zone.specs.declared.state.State.{State}
-use Rattle.zone.proofs.Laws.Accepted.{conditions-length, count-few, temps-length}
+use Rattle.zone.specs.Promise.{ok, bind-ok}
+use Rattle.zone.specs.Record.BuildingElement.{standardCoefficients, nodeCount}
+use Rattle.zone.specs.Format.Head.{headOf}
+use Rattle.zone.specs.Check.ZoneTest.{countsTest, zoneTest}
+use Rattle.zone.specs.declared.record.zone_record.Zone.{Zone}
+use Rattle.zone.proofs.Promise.{counts-few, conditions-length, count-few, temps-length}
+use Rattle.zone.proofs.Claims.Head.{head-tested}
+use Rattle.zone.specs.Calls.Hour.{HourResult}
+use Rattle.zone.specs.declared.calls.state.State.{State}
 use Rattle.book.specs.Entry.{conditionsLength, wholeLength, entryOf}
 use Rattle.book.specs.Year.{hour}
 use Rattle.book.proofs.Laws.Entry.{node-count-few, length-entry}

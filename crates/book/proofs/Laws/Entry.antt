@@ -6,15 +6,15 @@ use native.Mathlib.Omega.{arith}
 use lib.ListN.{length, take, length-append, length-take}
 use lib.Seq.{take-at, drop-at}
 use lib.Ieee.{Float, binary64, toBits}
-use Rattle.zone_head.specs.BuildingElement.{numberOfNodes, nodesOf, nodeCount}
-use Rattle.zone_head.specs.Bytes.{bytesOf}
-use Rattle.zone_head.proofs.Laws.Element.{nodes-few}
-use Rattle.zone_head.specs.declared.building_element.Element.{Element}
-use Rattle.zone_head.specs.declared.zone_record.Zone.{Zone}
-use Rattle.zone.specs.declared.state.State.{State}
-use Rattle.zone.specs.declared.state.Demand.{Demand}
-use Rattle.zone.specs.declared.state.AchToTriggerHeating.{AchToTriggerHeating}
-use Rattle.zone.specs.declared.state.AchToTriggerHeating.the-variants.{Absent, At}
+use Rattle.zone.specs.Record.BuildingElement.{numberOfNodes, nodesOf, nodeCount}
+use Rattle.zone.specs.Format.Bytes.{bytesOf}
+use Rattle.zone.proofs.Promise.{nodes-few}
+use Rattle.zone.specs.declared.record.building_element.Element.{Element}
+use Rattle.zone.specs.declared.record.zone_record.Zone.{Zone}
+use Rattle.zone.specs.declared.calls.state.State.{State}
+use Rattle.zone.specs.declared.calls.state.Demand.{Demand}
+use Rattle.zone.specs.declared.calls.state.AchToTriggerHeating.{AchToTriggerHeating}
+use Rattle.zone.specs.declared.calls.state.AchToTriggerHeating.the-variants.{Absent, At}
 use Rattle.book.specs.Bytes.{floatBytes, floatsBytes}
 use Rattle.book.specs.Entry.{conditionsLength, lengthField, wholeLength, version, frontBytes, triggerBytes, demandBytes, temperatureBytes, entryOf}
 use Rattle.book.specs.Year.{conditionsIn}

@@ -8,12 +8,12 @@ use native.Mathlib.Omega.{arith}
 use lib.ListN.{length, take, length-append, length-take}
 use lib.Dec.{leb}
 use borrow.Author.Tests.{leb-true, le-leb, lt-leb}
-use Rattle.solver.specs.Res.{ok, bind-ok, ok-inj}
-use Rattle.zone_head.specs.declared.zone_record.Zone.{Zone}
-use Rattle.zone_head.proofs.Claims.Head.{head-within, head-then, head-tested}
-use Rattle.zone.specs.Hour.{HourResult}
-use Rattle.zone.specs.declared.state.State.{State}
-use Rattle.plain_book.specs.Layers.{Laws}
+use Rattle.zone.specs.Promise.{ok, bind-ok, ok-inj}
+use Rattle.zone.specs.declared.record.zone_record.Zone.{Zone}
+use Rattle.zone.proofs.Claims.Head.{head-within, head-then, head-tested}
+use Rattle.zone.specs.Calls.Hour.{HourResult}
+use Rattle.zone.specs.declared.calls.state.State.{State}
+use Rattle.book.specs.Model.Layers.{Laws}
 use Rattle.book.specs.Entry.{wholeLength, entryOf}
 use Rattle.book.specs.Year.{hour, step, entryLength, conditionsIn, year}
 use Rattle.book.proofs.Laws.Entry.{conditions-back}

@@ -9,10 +9,9 @@ use lib.ListN.{length, take, drop, getD, set, drop-of-length-le}
 use lib.Seq.{paste, paste-suc}
 use lib.Ieee.{Float, nan, binary64, toBits}
 use borrow.Author.Tests.{eq-eqb, ne-eqb}
-use Rattle.solver.proofs.Laws.Parts.{drop-next}
-use Rattle.zone_head.specs.Bytes.{bytesOf}
-use Rattle.zone_head.proofs.Laws.Lists.{from, none-left}
-use Rattle.plain_book.specs.Bytes.{equalBytes}
+use Rattle.zone.proofs.Promise.{drop-next, from, none-left}
+use Rattle.zone.specs.Format.Bytes.{bytesOf}
+use Rattle.book.specs.Model.Bytes.{equalBytes}
 use Rattle.book.specs.Bytes.{replaceAt, floatBytes, floatsBytes}
 use Rattle.book.proofs.Laws.Replace.{length-bytesOf, replace-none, replace-byte, replace-then, replace-paste}
 

@@ -3,9 +3,9 @@ use Prim.Native.Nat.{ℕ, suc, zero, _+_, _/_, _≤_, _<_}
 use mathlib.Core.Path.{_≡_, refl, sym, ap, _∙_}
 use mathlib.Core.List.{List, [], _∷_, _++_, append-assoc, append-nil}
 use native.Mathlib.Omega.{arith}
-use lib.ListN.{length, take, drop, set, length-append, length-set, length-take, length-drop, take-append-drop}
+use lib.ListN.{length, take, drop, set, length-append, length-set, length-take, take-append-drop}
 use lib.Seq.{take-set-le, drop-cons, getD-set-same, drop-set-lt, take-at, drop-append-add, drop-drop, length-take-le, paste}
-use Rattle.zone_head.specs.Bytes.{bytesOf}
+use Rattle.zone.specs.Format.Bytes.{bytesOf}
 use Rattle.book.specs.Bytes.{replaceAt}
 
 pub length-bytesOf : (k n : ℕ) → length (bytesOf k n) ≡ k

@@ -7,14 +7,14 @@ use native.Mathlib.Omega.{arith}
 use lib.ListN.{length, take}
 use lib.Seq.{take-length}
 use lib.Ieee.{Float}
-use Rattle.zone_head.specs.BuildingElement.{nodeCount}
-use Rattle.zone_head.specs.Bytes.{bytesOf}
-use Rattle.zone_head.specs.declared.zone_record.Zone.{Zone}
-use Rattle.zone.specs.declared.state.State.{State}
-use Rattle.zone.specs.declared.state.Demand.{Demand}
-use Rattle.zone.specs.declared.state.AchToTriggerHeating.{AchToTriggerHeating}
-use Rattle.zone.specs.declared.state.AchToTriggerHeating.the-variants.{Absent, At}
-use Rattle.plain_book.specs.Bytes.{equalBytes}
+use Rattle.zone.specs.Record.BuildingElement.{nodeCount}
+use Rattle.zone.specs.Format.Bytes.{bytesOf}
+use Rattle.zone.specs.declared.record.zone_record.Zone.{Zone}
+use Rattle.zone.specs.declared.calls.state.State.{State}
+use Rattle.zone.specs.declared.calls.state.Demand.{Demand}
+use Rattle.zone.specs.declared.calls.state.AchToTriggerHeating.{AchToTriggerHeating}
+use Rattle.zone.specs.declared.calls.state.AchToTriggerHeating.the-variants.{Absent, At}
+use Rattle.book.specs.Model.Bytes.{equalBytes}
 use Rattle.book.specs.Bytes.{replaceAt, floatBytes, floatsBytes}
 use Rattle.book.specs.Entry.{lengthField, wholeLength, version, frontBytes, triggerBytes, demandBytes, temperatureBytes, entryOf}
 use Rattle.book.proofs.Laws.Replace.{length-bytesOf, replace-then, replace-four, replace-start}

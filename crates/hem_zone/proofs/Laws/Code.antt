@@ -2,7 +2,7 @@
 use Prim.Native.Nat.{ℕ, _+_, _*_, _%_}
 use mathlib.Core.Path.{_≡_}
 use native.Mathlib.Omega.{arith}
-use Rattle.solver.specs.Res.{Res, ok, refused}
+use Rattle.zone.specs.Promise.{Result, ok, refused}
 use Rattle.hem_zone.specs.Code.{refusalCode, answerCode, lentAfter, answered}
 
 -- of an index only the low 24 bits reach the 32 of an answer
@@ -10,7 +10,7 @@ pub low-bits : (number index : ℕ) → (number + 256 * (index % 16777216)) % 42
 unfolding refusalCode
 low-bits n i = omega arith
 
-module _ {A B : Type 0} (w : A → B) (before : B) (d : Res A) where
+module _ {A B : Type 0} (w : A → B) (before : B) (d : Result A) where
   pub answered-refused : (n j code : ℕ) → code ≡ refusalCode n j → d ≡ refused n j → (code, before) ≡ answered w before d
   unfolding answered answerCode lentAfter
   answered-refused n j code q e = rw (e, q)

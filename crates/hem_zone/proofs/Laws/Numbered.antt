@@ -1,9 +1,9 @@
 -- Every refusal of document 01 has a number from 1 to 18 and an index of at most 8,784: family by family.
 use Prim.Native.Nat.{ℕ, _≤_}
 use borrow.Author.Needs.{needs}
-use Rattle.solver.specs.Refusals.{SolveRefusal, divisor, temperature}
-use Rattle.zone_head.specs.Refusals as Head
-use Rattle.zone.specs.Refusals as Zone
+use Rattle.zone.specs.Promise.{SolveRefusal, divisor, temperature}
+use Rattle.zone.specs.Claims.HeadRefusals as Head
+use Rattle.zone.specs.Claims.Refusals as Zone
 use Rattle.book.specs.Refusals as Book
 use Rattle.hem_zone.specs.Claims.{AfterHead, ofHead, ofCall}
 

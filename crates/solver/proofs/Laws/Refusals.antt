@@ -8,23 +8,23 @@ use lib.ListN.{replicate}
 use lib.Ieee.{Float}
 use Rattle.solver.specs.declared.system.Matrix.{Matrix}
 use Rattle.solver.specs.declared.system.Solved.{Solved}
-use Rattle.solver.specs.Res.{Res, ok, refused, bind, needAt}
-use Rattle.solver.specs.Refusals.{RefusesBy, accepts, refuses, SolveRefusal, divisor, temperature}
+use Rattle.solver.specs.Result.{Result, ok, refused, bind, requireAt}
+use Rattle.solver.specs.Refusals.{RefusesOnly, accepts, refuses, SolveRefusal, divisor, temperature}
 use Rattle.solver.specs.FastSolver.{Factored, factored, factor, substitute, withFactors, fastSolverRes}
 use Rattle.solver.proofs.Laws.Solver.{solver-12, solver-13, solver-ok}
 
 module _ {P : ℕ → ℕ → Type 0} {A : Type 0} where
   -- a sequence refuses as its parts do; the second starts from what the first accepted
-  pub bind-refuses : {B : Type 0} {r : Res A} (f : A → Res B) → RefusesBy P r → ((a : A) → r ≡ ok a → RefusesBy P (f a)) → RefusesBy P (bind r f)
+  pub bind-refuses : {B : Type 0} {r : Result A} (f : A → Result B) → RefusesOnly P r → ((a : A) → r ≡ ok a → RefusesOnly P (f a)) → RefusesOnly P (bind r f)
   bind-refuses f (accepts a) q = q a refl
   bind-refuses f (refuses p) q = refuses p
 
-  pub cond-refuses : (test : Bool) {x y : Res A} → RefusesBy P x → RefusesBy P y → RefusesBy P (cond test x y)
+  pub cond-refuses : (test : Bool) {x y : Result A} → RefusesOnly P x → RefusesOnly P y → RefusesOnly P (cond test x y)
   cond-refuses true p q = p
   cond-refuses false p q = q
 
   -- a refusal that there is is one that P allows
-  pub refusal-by : {r : Res A} {number index : ℕ} → RefusesBy P r → r ≡ refused number index → P number index
+  pub refusal-by : {r : Result A} {number index : ℕ} → RefusesOnly P r → r ≡ refused number index → P number index
   refusal-by (accepts a) e = let w : _≡_ {A = ℕ} 0 1 = cc in absurd (omega arith)
   refusal-by {number = number} {index = index} (refuses {number = n} {index = j} p) e =
       let u : n ≡ number = cc in
@@ -32,32 +32,32 @@ module _ {P : ℕ → ℕ → Type 0} {A : Type 0} where
       rw (← u, ← v) p
 
   -- what P allows Q allows
-  pub refuses-also : {Q : ℕ → ℕ → Type 0} {r : Res A} → ((number index : ℕ) → P number index → Q number index) → RefusesBy P r → RefusesBy Q r
+  pub refuses-also : {Q : ℕ → ℕ → Type 0} {r : Result A} → ((number index : ℕ) → P number index → Q number index) → RefusesOnly P r → RefusesOnly Q r
   refuses-also w (accepts a) = accepts a
   refuses-also w (refuses p) = refuses (w _ _ p)
 
 -- a test refuses with its number and index
-pub need-refuses : {P : ℕ → ℕ → Type 0} (test : Bool) (number index : ℕ) → P number index → RefusesBy P (needAt test number index)
-need-refuses true number index p = accepts tt
-need-refuses false number index p = refuses p
+pub require-refuses : {P : ℕ → ℕ → Type 0} (test : Bool) (number index : ℕ) → P number index → RefusesOnly P (requireAt test number index)
+require-refuses true number index p = accepts tt
+require-refuses false number index p = refuses p
 
 -- and what comes after it starts where it holds
 pub test-refuses :
-    {P : ℕ → ℕ → Type 0} {B : Type 0} (test : Bool) (number index : ℕ) (f : Unit {0} → Res B) → P number index
-    → (test ≡ true → RefusesBy P (f tt)) → RefusesBy P (bind (needAt test number index) f)
+    {P : ℕ → ℕ → Type 0} {B : Type 0} (test : Bool) (number index : ℕ) (f : Unit {0} → Result B) → P number index
+    → (test ≡ true → RefusesOnly P (f tt)) → RefusesOnly P (bind (requireAt test number index) f)
 test-refuses true number index f p q = q refl
 test-refuses false number index f p q = refuses p
 
 -- the solver refuses with 12 or 13
-pub solver-refuses : (a : Matrix) (b : List Float) → RefusesBy SolveRefusal (fastSolverRes a b)
+pub solver-refuses : (a : Matrix) (b : List Float) → RefusesOnly SolveRefusal (fastSolverRes a b)
 solver-refuses a b = by-factors (factor a (replicate 25 0)) refl
   where
     by-number : (diag dense : List Float) (x : List ℕ) → factored 0 diag dense x ≡ factor a (replicate 25 0)
-        → (s : Solved) → s ≡ substitute (withFactors a diag dense) x b → (number : ℕ) → s .number ≡ number → RefusesBy SolveRefusal (fastSolverRes a b)
+        → (s : Solved) → s ≡ substitute (withFactors a diag dense) x b → (number : ℕ) → s .number ≡ number → RefusesOnly SolveRefusal (fastSolverRes a b)
     by-number diag dense x f s u zero e = rw (solver-ok a b diag dense x 0 (s .temps) (s .number) f refl u e) (accepts (s .temps))
     by-number diag dense x f s u (suc k) e = rw (solver-13 a b diag dense x 0 (s .temps) (s .number) f refl u (λ q. omega arith)) (refuses temperature)
 
-    by-factors : (f : Factored) → f ≡ factor a (replicate 25 0) → RefusesBy SolveRefusal (fastSolverRes a b)
+    by-factors : (f : Factored) → f ≡ factor a (replicate 25 0) → RefusesOnly SolveRefusal (fastSolverRes a b)
     by-factors (factored zero diag dense x) f =
         by-number diag dense x f (substitute (withFactors a diag dense) x b) refl (substitute (withFactors a diag dense) x b .number) refl
     by-factors (factored (suc k) diag dense x) f = rw (solver-12 a b diag dense x (suc k) f (λ q. omega arith)) (refuses divisor)

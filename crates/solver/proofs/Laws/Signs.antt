@@ -1,6 +1,6 @@
 -- Magnitudes, by comparisons with zero and with infinity.
 use mathlib.Core.Path.{_≡_, refl, sym, subst, _∙_}
-use mathlib.Core.Bool.{Bool, true, false, _&&_}
+use mathlib.Core.Bool.{Bool, true, false}
 use Prim.Native.Nat.{ℕ, zero, suc, _+_, _*_, _<_, _≤_}
 use native.Mathlib.Nat.{mul-pos}
 use native.Mathlib.Omega.{arith}
@@ -10,7 +10,7 @@ use lib.Ieee.{Float, nan, inf, fin, binary64, up, down, lt, eq, neg, ofBits}
 use lib.Ieee.Fits.{up-pos}
 use borrow.Author.Tests.{ltb-true, ltb-false, eqb-true, eq-eqb}
 use Rattle.solver.specs.F64.{zero64}
-use Rattle.solver.specs.Near.{magnitude, isFinite}
+use Rattle.solver.specs.Closeness.{abs, isFinite}
 use Rattle.solver.proofs.Laws.Tests.{and-true}
 
 -- a test that computes to false is not true
@@ -21,8 +21,8 @@ never h = absurd (subst T (sym h) tt)
 some-up : (m : ℕ) (e : ℤ) → 0 < suc m * up e * 1
 some-up m e = mul-pos (mul-pos (omega arith) (up-pos e)) (omega arith)
 
-pub below-zero : (x : Float) → lt x zero64 ≡ true → neg x ≡ magnitude x
-unfolding lt ofBits neg magnitude
+pub below-zero : (x : Float) → lt x zero64 ≡ true → neg x ≡ abs x
+unfolding lt ofBits neg abs
 below-zero nan h = refl
 below-zero (inf true) h = refl
 below-zero (inf false) h = never h
@@ -34,8 +34,8 @@ below-zero (fin false m e) h =
     let z : m * up e * 1 < 0 * 1 * down e = ltb-true _ _ h in
     absurd (omega arith)
 
-pub level-zero : (x : Float) → eq x zero64 ≡ true → zero64 ≡ magnitude x
-unfolding eq ofBits magnitude
+pub level-zero : (x : Float) → eq x zero64 ≡ true → zero64 ≡ abs x
+unfolding eq ofBits abs
 level-zero nan h = never h
 level-zero (inf s) h = never h
 level-zero (fin s zero e) h = refl
@@ -49,8 +49,8 @@ unfolding eq ofBits
 zero-level true e = rw (eq-eqb (0 * up e * 1) (0 * 1 * down e) (omega arith), eq-eqb (0 * up e * 1) 0 (omega arith))
 zero-level false e = rw (eq-eqb (0 * up e * 1) (0 * 1 * down e) (omega arith))
 
-pub above-zero : (x : Float) → lt x zero64 ≡ false → eq x zero64 ≡ false → x ≡ magnitude x
-unfolding lt eq ofBits magnitude
+pub above-zero : (x : Float) → lt x zero64 ≡ false → eq x zero64 ≡ false → x ≡ abs x
+unfolding lt eq ofBits abs
 above-zero nan h k = refl
 above-zero (inf true) h k = never (sym h)
 above-zero (inf false) h k = refl
@@ -61,8 +61,8 @@ above-zero (fin true (suc m) e) h k =
     absurd (omega arith)
 above-zero (fin false (suc m) e) h k = refl
 
-pub below-inf : (x : Float) → lt (magnitude x) (ofBits binary64 0x7ff0_0000_0000_0000) ≡ isFinite x
-unfolding lt ofBits magnitude isFinite
+pub below-inf : (x : Float) → lt (abs x) (ofBits binary64 0x7ff0_0000_0000_0000) ≡ isFinite x
+unfolding lt ofBits abs isFinite
 below-inf nan = refl
 below-inf (inf s) = refl
 below-inf (fin s zero e) = refl

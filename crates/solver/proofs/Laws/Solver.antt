@@ -10,28 +10,28 @@ use lib.ListN.{replicate}
 use lib.Ieee.{Float}
 use Rattle.solver.specs.declared.system.Matrix.{Matrix}
 use Rattle.solver.specs.declared.system.Solved.{Solved}
-use Rattle.solver.specs.Res.{ok, refused}
+use Rattle.solver.specs.Result.{ok, refused}
 use Rattle.solver.specs.Lu.{Lu, luWith, luFactor, pivotsValid}
 use Rattle.solver.specs.Chain.{eliminateChains, divisorsValid, nodesWithin}
 use Rattle.solver.specs.FastSolver.{Factored, factored, testDivisors, factorDense, factor, atMost24, setInnerDiagonals, temperatures, solved, substitute, withFactors, fastSolver, solvedOrRefused, solvedRes, fastSolverRes}
 
 -- a matrix that is factored: the right side is substituted
-pub solver-factored : (a : Matrix) (b diag dense : List Float) (exchanges : List ℕ) (number : ℕ) →
-    factored number diag dense exchanges ≡ factor a (replicate 25 0) →
+pub solver-factored : (a : Matrix) (b diag dense : List Float) (interchanges : List ℕ) (number : ℕ) →
+    factored number diag dense interchanges ≡ factor a (replicate 25 0) →
     number ≡ 0 →
-    fastSolver a b ≡ substitute (withFactors a diag dense) exchanges b
+    fastSolver a b ≡ substitute (withFactors a diag dense) interchanges b
 unfolding fastSolver
-solver-factored a b diag dense exchanges zero h k = rw (← h) refl
-solver-factored a b diag dense exchanges (suc number) h k = absurd (omega arith)
+solver-factored a b diag dense interchanges zero h k = rw (← h) refl
+solver-factored a b diag dense interchanges (suc number) h k = absurd (omega arith)
 
 -- a matrix that is refused: every right side is refused, and stays as it was
-pub solver-refused : (a : Matrix) (b diag dense : List Float) (exchanges : List ℕ) (number : ℕ) →
-    factored number diag dense exchanges ≡ factor a (replicate 25 0) →
+pub solver-refused : (a : Matrix) (b diag dense : List Float) (interchanges : List ℕ) (number : ℕ) →
+    factored number diag dense interchanges ≡ factor a (replicate 25 0) →
     (number ≡ 0 → ⊥) →
     fastSolver a b ≡ solved number b
 unfolding fastSolver
-solver-refused a b diag dense exchanges zero h k = absurd (k refl)
-solver-refused a b diag dense exchanges (suc number) h k = rw (← h) refl
+solver-refused a b diag dense interchanges zero h k = absurd (k refl)
+solver-refused a b diag dense interchanges (suc number) h k = rw (← h) refl
 
 -- the numbers that can come: 0 or 12 from `factor`, 0 or 13 from `substitute`
 either : (test : Bool) (number : ℕ) → (cond test 0 number ≡ 0) ⊎ (cond test 0 number ≡ number)
@@ -39,31 +39,31 @@ either true number = inl refl
 either false number = inr refl
 
 numberOf : Factored → ℕ
-numberOf (factored number diag dense exchanges) = number
+numberOf (factored number diag dense interchanges) = number
 
 divisors-number : (n : ℕ) (twoNodes : List Bool) (diag : List Float) (x : Lu) → (numberOf (testDivisors n twoNodes diag x) ≡ 0) ⊎ (numberOf (testDivisors n twoNodes diag x) ≡ 12)
 unfolding numberOf
-divisors-number n twoNodes diag (luWith m exchanges) = either (divisorsValid n twoNodes diag && pivotsValid (n + 1) m) 12
+divisors-number n twoNodes diag (luWith m interchanges) = either (divisorsValid n twoNodes diag && pivotsValid (n + 1) m) 12
 
-pub factor-number : (a : Matrix) (before : List ℕ) (diag dense : List Float) (exchanges : List ℕ) (number : ℕ) →
-    factored number diag dense exchanges ≡ factor a before →
+pub factor-number : (a : Matrix) (before : List ℕ) (diag dense : List Float) (interchanges : List ℕ) (number : ℕ) →
+    factored number diag dense interchanges ≡ factor a before →
     (number ≡ 0 → ⊥) →
     number ≡ 12
 unfolding factor factorDense numberOf
-factor-number a before diag dense exchanges number h k =
+factor-number a before diag dense interchanges number h k =
     let n = atMost24 (a .n) in
     let d = eliminateChains n (a .«two_nodes») (a .next) (a .prev) (a .diag) in
     let e = ap numberOf h in
     ⊎-elim (λ z. absurd (k (e ∙ z))) (λ z. e ∙ z) (divisors-number n (a .«two_nodes») d (luFactor (n + 1) (setInnerDiagonals n d (a .dense)) before))
 
-pub substitute-number : (a : Matrix) (exchanges : List ℕ) (b temps : List Float) (number : ℕ) →
-    solved number temps ≡ substitute a exchanges b →
+pub substitute-number : (a : Matrix) (interchanges : List ℕ) (b temps : List Float) (number : ℕ) →
+    solved number temps ≡ substitute a interchanges b →
     (number ≡ 0 → ⊥) →
     number ≡ 13
 unfolding substitute
-substitute-number a exchanges b temps number h k =
+substitute-number a interchanges b temps number h k =
     let n = atMost24 (a .n) in
-    let t = temperatures n (a .«two_nodes») (a .diag) (a .next) (a .prev) (a .dense) exchanges b in
+    let t = temperatures n (a .«two_nodes») (a .diag) (a .next) (a .prev) (a .dense) interchanges b in
     let e = ap (λ (x : Solved). x .number) h in
     ⊎-elim (λ z. absurd (k (e ∙ z))) (λ z. e ∙ z) (either (nodesWithin n (a .«two_nodes») t) 13)
 
@@ -86,29 +86,29 @@ unfolding fastSolverRes
 ok-is a b temps h = ok-solved (fastSolver a b .number) (fastSolver a b .temps) temps h
 
 -- factored once, then substituted: the outcome of each of the three ways through the code
-pub solver-12 : (a : Matrix) (b diag dense : List Float) (exchanges : List ℕ) (number : ℕ) →
-    factored number diag dense exchanges ≡ factor a (replicate 25 0) →
+pub solver-12 : (a : Matrix) (b diag dense : List Float) (interchanges : List ℕ) (number : ℕ) →
+    factored number diag dense interchanges ≡ factor a (replicate 25 0) →
     (number ≡ 0 → ⊥) →
     fastSolverRes a b ≡ refused 12 0
-solver-12 a b diag dense exchanges number h k =
-    res-refused a b b number (solver-refused a b diag dense exchanges number h k) k
-    ∙ ap (λ (x : ℕ). refused x 0) (factor-number a (replicate 25 0) diag dense exchanges number h k)
+solver-12 a b diag dense interchanges number h k =
+    res-refused a b b number (solver-refused a b diag dense interchanges number h k) k
+    ∙ ap (λ (x : ℕ). refused x 0) (factor-number a (replicate 25 0) diag dense interchanges number h k)
 
-pub solver-13 : (a : Matrix) (b diag dense : List Float) (exchanges : List ℕ) (number : ℕ) (temps : List Float) (last : ℕ) →
-    factored number diag dense exchanges ≡ factor a (replicate 25 0) →
+pub solver-13 : (a : Matrix) (b diag dense : List Float) (interchanges : List ℕ) (number : ℕ) (temps : List Float) (last : ℕ) →
+    factored number diag dense interchanges ≡ factor a (replicate 25 0) →
     number ≡ 0 →
-    solved last temps ≡ substitute (withFactors a diag dense) exchanges b →
+    solved last temps ≡ substitute (withFactors a diag dense) interchanges b →
     (last ≡ 0 → ⊥) →
     fastSolverRes a b ≡ refused 13 0
-solver-13 a b diag dense exchanges number temps last h z g k =
-    res-refused a b temps last (solver-factored a b diag dense exchanges number h z ∙ sym g) k
-    ∙ ap (λ (x : ℕ). refused x 0) (substitute-number (withFactors a diag dense) exchanges b temps last g k)
+solver-13 a b diag dense interchanges number temps last h z g k =
+    res-refused a b temps last (solver-factored a b diag dense interchanges number h z ∙ sym g) k
+    ∙ ap (λ (x : ℕ). refused x 0) (substitute-number (withFactors a diag dense) interchanges b temps last g k)
 
-pub solver-ok : (a : Matrix) (b diag dense : List Float) (exchanges : List ℕ) (number : ℕ) (temps : List Float) (last : ℕ) →
-    factored number diag dense exchanges ≡ factor a (replicate 25 0) →
+pub solver-ok : (a : Matrix) (b diag dense : List Float) (interchanges : List ℕ) (number : ℕ) (temps : List Float) (last : ℕ) →
+    factored number diag dense interchanges ≡ factor a (replicate 25 0) →
     number ≡ 0 →
-    solved last temps ≡ substitute (withFactors a diag dense) exchanges b →
+    solved last temps ≡ substitute (withFactors a diag dense) interchanges b →
     last ≡ 0 →
     fastSolverRes a b ≡ ok temps
-solver-ok a b diag dense exchanges number temps zero h z g k = res-ok a b temps (solver-factored a b diag dense exchanges number h z ∙ sym g)
-solver-ok a b diag dense exchanges number temps (suc last) h z g k = absurd (omega arith)
+solver-ok a b diag dense interchanges number temps zero h z g k = res-ok a b temps (solver-factored a b diag dense interchanges number h z ∙ sym g)
+solver-ok a b diag dense interchanges number temps (suc last) h z g k = absurd (omega arith)

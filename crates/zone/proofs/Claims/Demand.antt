@@ -1,23 +1,21 @@
 -- Every accepted demand has heating not below 0, cooling not above it, and at most one of them that is not 0.
-use Prim.Native.Nat.{ℕ, zero, suc, _+_, _<_, _≤_}
-use mathlib.Core.Path.{_≡_, refl, sym, ap, subst, _∙_}
-use mathlib.Core.Bool.{Bool, true, false, cond, not}
-use mathlib.Core.Logic.{_⊎_, inl, inr}
+use mathlib.Core.Path.{_≡_, refl, subst}
+use mathlib.Core.Bool.{Bool, true, false, not}
+use mathlib.Core.Logic.{inl, inr}
 use mathlib.Core.List.{List}
-use native.Mathlib.Omega.{arith}
-use lib.Ieee.{Float, lt, le, eq, ofBits, binary64}
+use lib.Ieee.{Float, lt, le, eq, ofBits}
 use Rattle.solver.specs.F64.{zero64}
-use Rattle.solver.specs.Res.{Res, ok, refused, bind, bind-ok, need, ok-inj}
-use Rattle.zone_head.specs.declared.building_element.Coefficients.{Coefficients}
-use Rattle.zone_head.specs.declared.zone_record.Zone.{Zone}
-use Rattle.zone_head.specs.declared.conditions.Conditions.{Conditions}
-use Rattle.zone.specs.declared.state.Demand.{Demand}
-use Rattle.zone.specs.declared.windows.ZoneTemperatures.{ZoneTemperatures}
-use Rattle.zone.specs.declared.windows.Ventilated.{Ventilated}
-use Rattle.zone.specs.declared.load.Wanted.{Wanted}
-use Rattle.zone.specs.declared.load.Wanted.the-variants.{Neither, Towards}
-use Rattle.zone.specs.DemandClaims.{Signs}
-use Rattle.zone.specs.Demand.{
+use Rattle.solver.specs.Result.{ok, bind-ok, require, ok-inj}
+use Rattle.zone.specs.declared.record.building_element.Coefficients.{Coefficients}
+use Rattle.zone.specs.declared.record.zone_record.Zone.{Zone}
+use Rattle.zone.specs.declared.format.conditions.Conditions.{Conditions}
+use Rattle.zone.specs.declared.calls.state.Demand.{Demand}
+use Rattle.zone.specs.declared.hour.windows.ZoneTemperatures.{ZoneTemperatures}
+use Rattle.zone.specs.declared.hour.windows.Ventilated.{Ventilated}
+use Rattle.zone.specs.declared.hour.load.Wanted.{Wanted}
+use Rattle.zone.specs.declared.hour.load.Wanted.the-variants.{Neither, Towards}
+use Rattle.zone.specs.Claims.DemandClaims.{Signs}
+use Rattle.zone.specs.Hour.Demand.{
   achTarget,
   controlTemperature,
   zoneTemperatures,
@@ -74,7 +72,7 @@ module _ (c : Coefficients) (z : Zone) (t : List Float) (h : Conditions) where
   pub demand-signs : (d : Demand) → spaceHeatCoolDemand c z t h ≡ ok d → Signs d
   unfolding spaceHeatCoolDemand
   demand-signs d e =
-      let ten = bind-ok (need (not (lt (h .«temp_setpnt_cool») (h .«temp_setpnt_heat»))) 10) _ d e in
-      let eleven = bind-ok (need (not (lt (h .«temp_setpnt_cool_vent») (h .«temp_setpnt_heat»))) 11) _ d (ten .2) in
+      let ten = bind-ok (require (not (lt (h .«temp_setpnt_cool») (h .«temp_setpnt_heat»))) 10) _ d e in
+      let eleven = bind-ok (require (not (lt (h .«temp_setpnt_cool_vent») (h .«temp_setpnt_heat»))) 11) _ d (ten .2) in
       let free = bind-ok (freeTemperatures c z t h (achTarget (h .«ach_args»))) _ d (eleven .2) in
       signs-from (zoneTemperatures z (free .0)) d (free .2)

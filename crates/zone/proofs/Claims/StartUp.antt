@@ -1,17 +1,17 @@
 -- What start-up's answers mean: 15, the settled temperatures, and two limits that both suffice.
 use Prim.Native.Nat.{ℕ, zero, suc, _<_}
-use mathlib.Core.Path.{_≡_, refl, sym, ap, subst, _∙_}
+use mathlib.Core.Path.{_≡_, refl, subst, _∙_}
 use mathlib.Core.Bool.{Bool, true, false, cond}
 use mathlib.Core.List.{List}
 use native.Mathlib.Omega.{arith}
 use lib.Ieee.{Float}
-use Rattle.solver.specs.Res.{Res, ok, refused, bind}
-use Rattle.solver.specs.Refusals.{RefusesBy, SolveRefusal, divisor, temperature}
+use Rattle.solver.specs.Result.{Result, ok, refused, bind}
+use Rattle.solver.specs.Refusals.{RefusesOnly, SolveRefusal, divisor, temperature}
 use Rattle.solver.proofs.Laws.Refusals.{refusal-by}
-use Rattle.zone_head.specs.declared.building_element.Coefficients.{Coefficients}
-use Rattle.zone_head.specs.declared.zone_record.Zone.{Zone}
-use Rattle.zone.specs.StartUp.{close, pass, settle}
-use Rattle.zone.specs.StartUpClaims.{Unsettled, start, further, Settles, SettledAt}
+use Rattle.zone.specs.declared.record.building_element.Coefficients.{Coefficients}
+use Rattle.zone.specs.declared.record.zone_record.Zone.{Zone}
+use Rattle.zone.specs.Calls.StartUp.{close, pass, settle}
+use Rattle.zone.specs.Claims.StartUpClaims.{Unsettled, start, further, Settles, SettledAt}
 use Rattle.zone.proofs.Laws.Refusals.{pass-refuses}
 
 -- a refusal's number is below 15
@@ -24,7 +24,7 @@ solve-below number index temperature = omega arith
 
 module _ (c : Coefficients) (z : Zone) where
   -- the answer, by what the pass gave
-  settleBy : (limit : ℕ) → List Float → Res (List Float) → Res (List Float)
+  settleBy : (limit : ℕ) → List Float → Result (List Float) → Result (List Float)
   settleBy n t r = bind r λ t′. cond (close z t t′) (ok t) (settle c z n t′)
 
   pub settled-answer : (limit : ℕ) (t u : List Float) → settle c z limit t ≡ ok u → SettledAt c z limit t u
@@ -41,11 +41,11 @@ module _ (c : Coefficients) (z : Zone) where
           let r = rest f in
           record { passes = suc (r .passes); fewer = omega (arith, r .fewer); unsettled = further p q (r .unsettled); settles = r .settles }
 
-      go : (r : Res (List Float)) → pass c z t ≡ r → settleBy n t r ≡ ok u → ((t′ : List Float) → settle c z n t′ ≡ ok u → SettledAt c z n t′ u) → SettledAt c z (suc n) t u
+      go : (r : Result (List Float)) → pass c z t ≡ r → settleBy n t r ≡ ok u → ((t′ : List Float) → settle c z n t′ ≡ ok u → SettledAt c z n t′ u) → SettledAt c z (suc n) t u
       go (ok t′) p f rest = at t′ p (close z t t′) refl f (rest t′)
       go (refused k j) p f rest = let w : _≡_ {A = ℕ} 0 1 = cc in absurd (omega arith)
 
-  below-pass : (t : List Float) → RefusesBy Below15 (pass c z t)
+  below-pass : (t : List Float) → RefusesOnly Below15 (pass c z t)
   below-pass t = pass-refuses {P = Below15} (omega arith) solve-below (omega arith) c z t
 
   pub no-pass-gives-15 : (t : List Float) (j : ℕ) → pass c z t ≡ refused 15 j → ⊥
@@ -62,7 +62,7 @@ module _ (c : Coefficients) (z : Zone) where
       at t′ p true q f rest = let w : _≡_ {A = ℕ} 0 1 = cc in absurd (omega arith)
       at t′ p false q f rest = let r = rest f in (r .0, further p q (r .1))
 
-      go : (r : Res (List Float)) → pass c z t ≡ r → settleBy n t r ≡ refused 15 j
+      go : (r : Result (List Float)) → pass c z t ≡ r → settleBy n t r ≡ refused 15 j
           → ((t′ : List Float) → settle c z n t′ ≡ refused 15 j → (u : List Float) × Unsettled c z n t′ u) → (u : List Float) × Unsettled c z (suc n) t u
       go (ok t′) p f rest = at t′ p (close z t t′) refl f (rest t′)
       go (refused k i) p f rest = absurd (no-pass-gives-15 t j (p ∙ f))
@@ -92,7 +92,7 @@ module _ (c : Coefficients) (z : Zone) where
       at t′ true q x y rest = cc
       at t′ false q x y rest = rest x y
 
-      go : (r : Res (List Float)) → pass c z t ≡ r → settleBy m t r ≡ ok u → settleBy n t r ≡ ok v
+      go : (r : Result (List Float)) → pass c z t ≡ r → settleBy m t r ≡ ok u → settleBy n t r ≡ ok v
           → ((t′ : List Float) → settle c z m t′ ≡ ok u → settle c z n t′ ≡ ok v → u ≡ v) → u ≡ v
       go (ok t′) p x y rest = at t′ (close z t t′) refl x y (rest t′)
       go (refused k i) p x y rest = let w : _≡_ {A = ℕ} 0 1 = cc in absurd (omega arith)

@@ -3,22 +3,20 @@ use Prim.Native.Nat.{ℕ, _+_, _*_, _≤_}
 use mathlib.Core.Path.{_≡_, sym, ap, _∙_}
 use mathlib.Core.List.{List}
 use lib.ListN.{length}
-use lib.Ieee.{Float}
-use Rattle.solver.specs.Res.{Res, ok, bind, bind-ok, ok-inj}
-use Rattle.zone_head.specs.declared.building_element.Coefficients.{Coefficients}
-use Rattle.zone_head.specs.declared.conditions.Conditions.{Conditions}
-use Rattle.zone_head.specs.declared.zone_record.Zone.{Zone}
-use Rattle.zone_head.specs.Conditions.{conditionsOf}
-use Rattle.zone_head.specs.ZoneTest.{zoneTest}
-use Rattle.zone_head.proofs.Claims.Head.{zone-count}
-use Rattle.zone_head.proofs.Claims.Conditions as Conditions
-use Rattle.zone_temps.specs.System.{zoneTwoNodes}
-use Rattle.zone_temps.specs.CalcTemperatures.{calcTemperatures}
-use Rattle.zone_temps.proofs.Laws.Nodes.{to-nodes-length}
-use Rattle.zone.specs.declared.state.State.{State}
-use Rattle.zone.specs.State.{zoneAndStateTest, slotsOf, stateOf}
-use Rattle.zone.specs.Demand.{deltaT, spaceHeatCoolDemand}
-use Rattle.zone.specs.Hour.{tested, step, delivered, totalGains, convectiveShare, meetDemand, HourResult, hourMet, hourResult, hourStep}
+use Rattle.solver.specs.Result.{ok, bind-ok, ok-inj}
+use Rattle.zone.specs.declared.record.building_element.Coefficients.{Coefficients}
+use Rattle.zone.specs.declared.format.conditions.Conditions.{Conditions}
+use Rattle.zone.specs.declared.record.zone_record.Zone.{Zone}
+use Rattle.zone.specs.Check.ZoneTest.{zoneTest}
+use Rattle.zone.proofs.Claims.Head.{zone-count}
+use Rattle.zone.proofs.Claims.Conditions as Conditions
+use Rattle.zone.specs.Physics.System.{zoneTwoNodes}
+use Rattle.zone.specs.Physics.CalcTemperatures.{calcTemperatures}
+use Rattle.zone.proofs.Laws.Nodes.{to-nodes-length}
+use Rattle.zone.specs.declared.calls.state.State.{State}
+use Rattle.zone.specs.Calls.State.{zoneAndStateTest, slotsOf, stateOf}
+use Rattle.zone.specs.Hour.Demand.{deltaT, spaceHeatCoolDemand}
+use Rattle.zone.specs.Calls.Hour.{tested, step, delivered, totalGains, convectiveShare, meetDemand, HourResult, hourMet, hourResult, hourStep}
 
 module _ (c : Coefficients) (z : Zone) (s : State) (bytes : List ℕ) (r : HourResult) (e : hourStep c z s bytes ≡ ok r) where
   -- the conditions that it was made with

@@ -2,34 +2,34 @@
 use Prim.Native.Nat.{ℕ}
 use mathlib.Core.Path.{_≡_, sym, ap, _∙_}
 use native.Mathlib.Omega.{arith}
-use Rattle.solver.specs.Res.{Res, ok, refused}
-use Rattle.zone_head.specs.declared.zone_record.Verdict.the-variants.{Accepted, Refused}
-use Rattle.zone_head.proofs.Laws.Answers.{apart, same-refusal}
-use Rattle.zone_temps.specs.declared.balance.HeatBalance.{HeatBalance}
-use Rattle.zone.specs.declared.state.State.{State}
-use Rattle.zone.specs.declared.state.Demand.{Demand}
-use Rattle.zone.specs.declared.state.DemandAnswer.the-variants as DemandAnswer
-use Rattle.zone.specs.declared.state.UpdateAnswer.the-variants as UpdateAnswer
-use Rattle.zone.specs.declared.state.HourAnswer.the-variants as HourAnswer
-use Rattle.zone.specs.declared.state.Demanded.{Demanded}
-use Rattle.zone.specs.declared.state.Updated.{Updated}
-use Rattle.zone.specs.declared.state.HourStep.{HourStep}
-use Rattle.zone.specs.declared.state.StartUp.{StartUp}
-use Rattle.zone.specs.Hour.{HourResult}
-use Rattle.zone.specs.Answers.{demanded, updated, hourStepped, startedUp}
+use Rattle.solver.specs.Result.{Result, ok, refused}
+use Rattle.zone.specs.declared.record.zone_record.Verdict.the-variants.{Accepted, Refused}
+use Rattle.zone.proofs.Laws.HeadAnswers.{apart, same-refusal}
+use Rattle.zone.specs.declared.physics.balance.HeatBalance.{HeatBalance}
+use Rattle.zone.specs.declared.calls.state.State.{State}
+use Rattle.zone.specs.declared.calls.state.Demand.{Demand}
+use Rattle.zone.specs.declared.calls.state.DemandAnswer.the-variants as DemandAnswer
+use Rattle.zone.specs.declared.calls.state.UpdateAnswer.the-variants as UpdateAnswer
+use Rattle.zone.specs.declared.calls.state.HourAnswer.the-variants as HourAnswer
+use Rattle.zone.specs.declared.calls.state.DemandReply.{DemandReply}
+use Rattle.zone.specs.declared.calls.state.UpdateReply.{UpdateReply}
+use Rattle.zone.specs.declared.calls.state.HourStepReply.{HourStepReply}
+use Rattle.zone.specs.declared.calls.state.StartUp.{StartUp}
+use Rattle.zone.specs.Calls.Hour.{HourResult}
+use Rattle.zone.specs.Calls.Answers.{demandReply, updateReply, hourStepReply, startUpReply}
 
-pub start-no : (d : Res State) (s : StartUp) → s ≡ startedUp d → (n j : ℕ) → s .verdict ≡ Refused n j → d ≡ refused n j
+pub start-no : (d : Result State) (s : StartUp) → s ≡ startUpReply d → (n j : ℕ) → s .verdict ≡ Refused n j → d ≡ refused n j
 start-no (ok a) s e n j f = apart n j (sym (ap (λ x. x .verdict) e) ∙ f)
 start-no (refused m k) s e n j f = same-refusal m k n j (sym (ap (λ x. x .verdict) e) ∙ f)
 
-pub start-yes : (d : Res State) (s : StartUp) → s ≡ startedUp d → s .verdict ≡ Accepted → d ≡ ok (s .state)
+pub start-yes : (d : Result State) (s : StartUp) → s ≡ startUpReply d → s .verdict ≡ Accepted → d ≡ ok (s .state)
 start-yes (ok a) s e f = λ i. ok (sym e i .state)
 start-yes (refused m k) s e f = apart m k (sym f ∙ ap (λ x. x .verdict) e)
 
 -- an answer with its values
 
 module _ (s : State) where
-  pub demand-no : (d : Res Demand) (x : Demanded) → x ≡ demanded s d → (n j : ℕ) → x .answer ≡ DemandAnswer.Refused n j → d ≡ refused n j
+  pub demand-no : (d : Result Demand) (x : DemandReply) → x ≡ demandReply s d → (n j : ℕ) → x .answer ≡ DemandAnswer.Refused n j → d ≡ refused n j
   demand-no (ok a) x e n j f =
       let q : DemandAnswer.Accepted a ≡ DemandAnswer.Refused n j = sym (ap (λ y. y .answer) e) ∙ f in
       absurd (let z : _≡_ {A = ℕ} 0 1 = cc in omega arith)
@@ -37,7 +37,7 @@ module _ (s : State) where
       let q : DemandAnswer.Refused m k ≡ DemandAnswer.Refused n j = sym (ap (λ y. y .answer) e) ∙ f in
       cc
 
-  pub demand-yes : (d : Res Demand) (x : Demanded) → x ≡ demanded s d → (a : Demand) → x .answer ≡ DemandAnswer.Accepted a → d ≡ ok a
+  pub demand-yes : (d : Result Demand) (x : DemandReply) → x ≡ demandReply s d → (a : Demand) → x .answer ≡ DemandAnswer.Accepted a → d ≡ ok a
   demand-yes (ok b) x e a f =
       let q : DemandAnswer.Accepted b ≡ DemandAnswer.Accepted a = sym (ap (λ y. y .answer) e) ∙ f in
       cc
@@ -45,7 +45,7 @@ module _ (s : State) where
       let q : DemandAnswer.Refused m k ≡ DemandAnswer.Accepted a = sym (ap (λ y. y .answer) e) ∙ f in
       absurd (let z : _≡_ {A = ℕ} 0 1 = cc in omega arith)
 
-  pub update-no : (d : Res (State × HeatBalance)) (x : Updated) → x ≡ updated s d → (n j : ℕ) → x .answer ≡ UpdateAnswer.Refused n j → d ≡ refused n j
+  pub update-no : (d : Result (State × HeatBalance)) (x : UpdateReply) → x ≡ updateReply s d → (n j : ℕ) → x .answer ≡ UpdateAnswer.Refused n j → d ≡ refused n j
   update-no (ok a) x e n j f =
       let q : UpdateAnswer.Accepted (a .1) ≡ UpdateAnswer.Refused n j = sym (ap (λ y. y .answer) e) ∙ f in
       absurd (let z : _≡_ {A = ℕ} 0 1 = cc in omega arith)
@@ -53,7 +53,7 @@ module _ (s : State) where
       let q : UpdateAnswer.Refused m k ≡ UpdateAnswer.Refused n j = sym (ap (λ y. y .answer) e) ∙ f in
       cc
 
-  pub update-yes : (d : Res (State × HeatBalance)) (x : Updated) → x ≡ updated s d → (b : HeatBalance) → x .answer ≡ UpdateAnswer.Accepted b → d ≡ ok (x .state, b)
+  pub update-yes : (d : Result (State × HeatBalance)) (x : UpdateReply) → x ≡ updateReply s d → (b : HeatBalance) → x .answer ≡ UpdateAnswer.Accepted b → d ≡ ok (x .state, b)
   update-yes (ok a) x e b f =
       let q : UpdateAnswer.Accepted (a .1) ≡ UpdateAnswer.Accepted b = sym (ap (λ y. y .answer) e) ∙ f in
       let m : a .1 ≡ b = cc in
@@ -62,7 +62,7 @@ module _ (s : State) where
       let q : UpdateAnswer.Refused m k ≡ UpdateAnswer.Accepted b = sym (ap (λ y. y .answer) e) ∙ f in
       absurd (let z : _≡_ {A = ℕ} 0 1 = cc in omega arith)
 
-  pub hour-no : (d : Res HourResult) (x : HourStep) → x ≡ hourStepped s d → (n j : ℕ) → x .answer ≡ HourAnswer.Refused n j → d ≡ refused n j
+  pub hour-no : (d : Result HourResult) (x : HourStepReply) → x ≡ hourStepReply s d → (n j : ℕ) → x .answer ≡ HourAnswer.Refused n j → d ≡ refused n j
   hour-no (ok a) x e n j f =
       let q : HourAnswer.Accepted (a .demand) (a .balance) ≡ HourAnswer.Refused n j = sym (ap (λ y. y .answer) e) ∙ f in
       absurd (let z : _≡_ {A = ℕ} 0 1 = cc in omega arith)
@@ -70,7 +70,7 @@ module _ (s : State) where
       let q : HourAnswer.Refused m k ≡ HourAnswer.Refused n j = sym (ap (λ y. y .answer) e) ∙ f in
       cc
 
-  pub hour-yes : (d : Res HourResult) (x : HourStep) → x ≡ hourStepped s d → (a : Demand) (b : HeatBalance)
+  pub hour-yes : (d : Result HourResult) (x : HourStepReply) → x ≡ hourStepReply s d → (a : Demand) (b : HeatBalance)
       → x .answer ≡ HourAnswer.Accepted a b → d ≡ ok (record { demand = a; state = x .state; balance = b })
   hour-yes (ok r) x e a b f =
       let q : HourAnswer.Accepted (r .demand) (r .balance) ≡ HourAnswer.Accepted a b = sym (ap (λ y. y .answer) e) ∙ f in

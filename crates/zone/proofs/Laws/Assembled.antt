@@ -6,20 +6,20 @@ use lib.ListN.{replicate}
 use lib.Ieee.{Float}
 use Rattle.solver.specs.F64.{zero64}
 use Rattle.solver.specs.FastSolver.{atMost24}
-use Rattle.zone_head.specs.declared.building_element.Coefficients.{Coefficients}
-use Rattle.zone_head.specs.declared.zone_record.Zone.{Zone}
-use Rattle.zone_head.specs.declared.zone_record.ZoneTemperatureControlBasis.the-variants.{Operative}
-use Rattle.zone_head.specs.declared.conditions.Conditions.{Conditions}
-use Rattle.zone_temps.specs.declared.time_step.ZoneTerms.{ZoneTerms}
-use Rattle.zone_head.specs.BuildingElement.{standardCoefficients}
-use Rattle.zone_temps.specs.Slots.{at, withTerms}
-use Rattle.zone_temps.specs.Assembly.{Chains, chains}
-use Rattle.zone_temps.specs.System.{areaElTotal, twoNodesOf, zoneTwoNodes, elementChains, couplingsOf, elementSides, zoneTermsOf, Assembled, assembled, assembledWith, assemble}
-use Rattle.zone_temps.specs.CalcTemperatures.{assembleStep}
-use Rattle.zone_temps.specs.TempOperative.{tempOperativeOf, areasOf}
-use Rattle.zone_temps.proofs.Laws.Zones.{operative-is}
-use Rattle.zone.specs.Demand.{deltaT, controlTemperature}
-use Rattle.zone.specs.Solves.{hourSystem}
+use Rattle.zone.specs.declared.record.building_element.Coefficients.{Coefficients}
+use Rattle.zone.specs.declared.record.zone_record.Zone.{Zone}
+use Rattle.zone.specs.declared.record.zone_record.ZoneTemperatureControlBasis.the-variants.{Operative}
+use Rattle.zone.specs.declared.format.conditions.Conditions.{Conditions}
+use Rattle.zone.specs.declared.hour.time_step.ZoneTerms.{ZoneTerms}
+use Rattle.zone.specs.Record.BuildingElement.{standardCoefficients}
+use Rattle.zone.specs.Physics.Slots.{at, withTerms}
+use Rattle.zone.specs.Physics.Assembly.{Chains, chains}
+use Rattle.zone.specs.Physics.System.{areaElTotal, twoNodesOf, zoneTwoNodes, elementChains, couplingsOf, elementSides, zoneTermsOf, Assembled, assembled, assembledWith, assemble}
+use Rattle.zone.specs.Physics.CalcTemperatures.{assembleStep}
+use Rattle.zone.specs.Physics.TempOperative.{tempOperativeOf, areasOf}
+use Rattle.zone.proofs.Laws.Zones.{operative-is}
+use Rattle.zone.specs.Hour.Demand.{deltaT, controlTemperature}
+use Rattle.zone.specs.Hour.Solves.{hourSystem}
 use Rattle.zone.proofs.Laws.Ventilation.{control-operative}
 
 abbrev totalIn : Assembled → Float

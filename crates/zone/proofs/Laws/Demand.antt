@@ -6,24 +6,24 @@ use Prim.Native.Nat.{ℕ}
 use native.Mathlib.Omega.{arith}
 use lib.Ieee.{Float, lt}
 use Rattle.solver.specs.F64.{zero64}
-use Rattle.solver.specs.Res.{Res, ok, refused, bind-ok}
+use Rattle.solver.specs.Result.{Result, ok, refused, bind-ok}
 use Rattle.solver.specs.declared.system.Solved.{Solved}
 use Rattle.solver.specs.FastSolver.{solvedRes}
-use Rattle.zone_head.specs.declared.zone_record.Zone.{Zone}
-use Rattle.zone_head.specs.declared.conditions.Conditions.{Conditions}
-use Rattle.zone_head.specs.BuildingElement.{standardCoefficients}
-use Rattle.zone.specs.declared.state.Demand.{Demand}
-use Rattle.zone.specs.declared.state.DemandAnswer.{DemandAnswer}
-use Rattle.zone.specs.declared.state.DemandAnswer.the-variants.{Accepted, Refused}
-use Rattle.zone.specs.declared.windows.ZoneTemperatures.{ZoneTemperatures}
-use Rattle.zone.specs.declared.windows.Ventilated.{Ventilated}
-use Rattle.zone.specs.declared.ventilation.VentilatedAnswer.{VentilatedAnswer}
-use Rattle.zone.specs.declared.ventilation.VentilatedAnswer.the-variants as VentilatedAnswer
-use Rattle.zone.specs.declared.load.Wanted.{Wanted}
-use Rattle.zone.specs.declared.load.Wanted.the-variants.{Neither, Towards}
-use Rattle.zone.specs.declared.load.Interpolated.{Interpolated}
-use Rattle.zone.specs.declared.load.Interpolated.the-variants as Interpolated
-use Rattle.zone.specs.Demand.{
+use Rattle.zone.specs.declared.record.zone_record.Zone.{Zone}
+use Rattle.zone.specs.declared.format.conditions.Conditions.{Conditions}
+use Rattle.zone.specs.Record.BuildingElement.{standardCoefficients}
+use Rattle.zone.specs.declared.calls.state.Demand.{Demand}
+use Rattle.zone.specs.declared.calls.state.DemandAnswer.{DemandAnswer}
+use Rattle.zone.specs.declared.calls.state.DemandAnswer.the-variants.{Accepted, Refused}
+use Rattle.zone.specs.declared.hour.windows.ZoneTemperatures.{ZoneTemperatures}
+use Rattle.zone.specs.declared.hour.windows.Ventilated.{Ventilated}
+use Rattle.zone.specs.declared.hour.cooling_potential.VentilatedAnswer.{VentilatedAnswer}
+use Rattle.zone.specs.declared.hour.cooling_potential.VentilatedAnswer.the-variants as VentilatedAnswer
+use Rattle.zone.specs.declared.hour.load.Wanted.{Wanted}
+use Rattle.zone.specs.declared.hour.load.Wanted.the-variants.{Neither, Towards}
+use Rattle.zone.specs.declared.hour.load.Interpolated.{Interpolated}
+use Rattle.zone.specs.declared.hour.load.Interpolated.the-variants as Interpolated
+use Rattle.zone.specs.Hour.Demand.{
   achTarget,
   controlTemperature,
   zoneTemperatures,
@@ -40,23 +40,23 @@ use Rattle.zone.specs.Demand.{
   demandFrom,
   spaceHeatCoolDemand,
 }
-use Rattle.zone.specs.Solves.{factorsAt, interpolated, demandAnswer, VentilatedAt, DemandedAt}
+use Rattle.zone.specs.Hour.Solves.{factorsAt, interpolated, demandAnswer, VentilatedAt, DemandedAt}
 use Rattle.zone.proofs.Laws.Solves.{solved-refused, solved-ok}
 use Rattle.zone.proofs.Laws.Ventilation.{ventilated-refused, ventilated-accepted}
 
-interpolated-refused : (x : Res Float) (r : Interpolated) (n i : ℕ) → r ≡ interpolated x → r ≡ Interpolated.Refused n i → x ≡ refused n i
+interpolated-refused : (x : Result Float) (r : Interpolated) (n i : ℕ) → r ≡ interpolated x → r ≡ Interpolated.Refused n i → x ≡ refused n i
 interpolated-refused (ok v) r n i e f = let w : _≡_ {A = ℕ} 0 1 = cc in absurd (omega arith)
 interpolated-refused (refused k j) r n i e f = cc
 
-interpolated-accepted : (x : Res Float) (r : Interpolated) (v : Float) → r ≡ interpolated x → r ≡ Interpolated.Accepted v → x ≡ ok v
+interpolated-accepted : (x : Result Float) (r : Interpolated) (v : Float) → r ≡ interpolated x → r ≡ Interpolated.Accepted v → x ≡ ok v
 interpolated-accepted (ok u) r v e f = cc
 interpolated-accepted (refused k j) r v e f = let w : _≡_ {A = ℕ} 0 1 = cc in absurd (omega arith)
 
-pub demand-refused : (x : Res Demand) (r : DemandAnswer) (n i : ℕ) → r ≡ demandAnswer x → r ≡ Refused n i → x ≡ refused n i
+pub demand-refused : (x : Result Demand) (r : DemandAnswer) (n i : ℕ) → r ≡ demandAnswer x → r ≡ Refused n i → x ≡ refused n i
 demand-refused (ok v) r n i e f = let w : _≡_ {A = ℕ} 0 1 = cc in absurd (omega arith)
 demand-refused (refused k j) r n i e f = cc
 
-pub demand-accepted : (x : Res Demand) (r : DemandAnswer) (d : Demand) → r ≡ demandAnswer x → r ≡ Accepted d → x ≡ ok d
+pub demand-accepted : (x : Result Demand) (r : DemandAnswer) (d : Demand) → r ≡ demandAnswer x → r ≡ Accepted d → x ≡ ok d
 demand-accepted (ok u) r v e f = cc
 demand-accepted (refused k j) r v e f = let w : _≡_ {A = ℕ} 0 1 = cc in absurd (omega arith)
 
@@ -107,27 +107,27 @@ module _ (z : Zone) (t : List Float) (h : Conditions) where
   unfolding demandTowards
   towards-loaded v w setpoint load fraction r e p = rw (e, p) refl
 
-  module _ (diag dense : List Float) (exchanges : List ℕ) where
-    refused-at : (x : Res Demand) (n i : ℕ) → x ≡ refused n i → DemandedAt z t h x (Refused n i) diag dense exchanges
+  module _ (diag dense : List Float) (interchanges : List ℕ) where
+    refused-at : (x : Result Demand) (n i : ℕ) → x ≡ refused n i → DemandedAt z t h x (Refused n i) diag dense interchanges
     refused-at x n i e =
         record {
           answered = rw e refl;
           factors = λ v f. absurd (let w : _≡_ {A = ℕ} 0 1 = cc in omega arith);
         }
 
-    same-at : (x y : Res Demand) (r : DemandAnswer) → x ≡ y → DemandedAt z t h x r diag dense exchanges → DemandedAt z t h y r diag dense exchanges
-    same-at x y r e w = subst (λ (a : Res Demand). DemandedAt z t h a r diag dense exchanges) e w
+    same-at : (x y : Result Demand) (r : DemandAnswer) → x ≡ y → DemandedAt z t h x r diag dense interchanges → DemandedAt z t h y r diag dense interchanges
+    same-at x y r e w = subst (λ (a : Result Demand). DemandedAt z t h a r diag dense interchanges) e w
 
     module _ (free : ZoneTemperatures) (a : VentilatedAnswer)
-        (chosen : VentilatedAt z t h (calcCoolingPotentialFromVentilation standardCoefficients z t h free (h .«ach_args»)) a diag dense exchanges) where
-      pub from-refused : (n i : ℕ) → a ≡ VentilatedAnswer.Refused n i → DemandedAt z t h (demandFrom standardCoefficients z t h free) (Refused n i) diag dense exchanges
+        (chosen : VentilatedAt z t h (calcCoolingPotentialFromVentilation standardCoefficients z t h free (h .«ach_args»)) a diag dense interchanges) where
+      pub from-refused : (n i : ℕ) → a ≡ VentilatedAnswer.Refused n i → DemandedAt z t h (demandFrom standardCoefficients z t h free) (Refused n i) diag dense interchanges
       unfolding demandFrom
       from-refused n i e =
           let w : calcCoolingPotentialFromVentilation standardCoefficients z t h free (h .«ach_args») ≡ refused n i = ventilated-refused _ a n i (chosen .answered) e in
           refused-at _ n i (rw w refl)
 
       pub from-towards : (v : Ventilated) (w : Wanted) (r : DemandAnswer) → a ≡ VentilatedAnswer.Accepted v → w ≡ wanted (z .«useful_area») h (v .«temp_free»)
-          → r ≡ demandAnswer (demandTowards standardCoefficients z t h v w) → DemandedAt z t h (demandFrom standardCoefficients z t h free) r diag dense exchanges
+          → r ≡ demandAnswer (demandTowards standardCoefficients z t h v w) → DemandedAt z t h (demandFrom standardCoefficients z t h free) r diag dense interchanges
       unfolding demandFrom
       from-towards v w r e p q =
           let u : calcCoolingPotentialFromVentilation standardCoefficients z t h free (h .«ach_args») ≡ ok v = ventilated-accepted _ a v (chosen .answered) e in
@@ -137,24 +137,24 @@ module _ (z : Zone) (t : List Float) (h : Conditions) where
             factors = λ d f. chosen .factors v e ∙ ap (factorsAt z t h) (sym (towards-rate v w d (demand-accepted _ r d q f)));
           })
 
-    pub setpoints-10 : lt (h .«temp_setpnt_cool») (h .«temp_setpnt_heat») ≡ true → DemandedAt z t h (spaceHeatCoolDemand standardCoefficients z t h) (Refused 10 0) diag dense exchanges
+    pub setpoints-10 : lt (h .«temp_setpnt_cool») (h .«temp_setpnt_heat») ≡ true → DemandedAt z t h (spaceHeatCoolDemand standardCoefficients z t h) (Refused 10 0) diag dense interchanges
     unfolding spaceHeatCoolDemand
     setpoints-10 k = refused-at _ 10 0 (rw k refl)
 
     module _ (ten : lt (h .«temp_setpnt_cool») (h .«temp_setpnt_heat») ≡ false) where
-      pub setpoints-11 : lt (h .«temp_setpnt_cool_vent») (h .«temp_setpnt_heat») ≡ true → DemandedAt z t h (spaceHeatCoolDemand standardCoefficients z t h) (Refused 11 0) diag dense exchanges
+      pub setpoints-11 : lt (h .«temp_setpnt_cool_vent») (h .«temp_setpnt_heat») ≡ true → DemandedAt z t h (spaceHeatCoolDemand standardCoefficients z t h) (Refused 11 0) diag dense interchanges
       unfolding spaceHeatCoolDemand
       setpoints-11 k = refused-at _ 11 0 (rw (ten, k) refl)
 
       module _ (eleven : lt (h .«temp_setpnt_cool_vent») (h .«temp_setpnt_heat») ≡ false)
           (target : Float) (target-is : target ≡ achTarget (h .«ach_args»)) (r : Solved)
           (free-is : solvedRes r ≡ freeTemperatures standardCoefficients z t h target) where
-        pub free-refused : (r .number ≡ 0 → ⊥) → DemandedAt z t h (spaceHeatCoolDemand standardCoefficients z t h) (Refused (r .number) 0) diag dense exchanges
+        pub free-refused : (r .number ≡ 0 → ⊥) → DemandedAt z t h (spaceHeatCoolDemand standardCoefficients z t h) (Refused (r .number) 0) diag dense interchanges
         unfolding spaceHeatCoolDemand
         free-refused k = refused-at _ (r .number) 0 (rw (ten, eleven, ← target-is, solved-refused r _ free-is k) refl)
 
         pub free-demand : (free : ZoneTemperatures) (a : DemandAnswer) → r .number ≡ 0 → free ≡ zoneTemperatures z (r .temps)
-            → DemandedAt z t h (demandFrom standardCoefficients z t h free) a diag dense exchanges
-            → DemandedAt z t h (spaceHeatCoolDemand standardCoefficients z t h) a diag dense exchanges
+            → DemandedAt z t h (demandFrom standardCoefficients z t h free) a diag dense interchanges
+            → DemandedAt z t h (spaceHeatCoolDemand standardCoefficients z t h) a diag dense interchanges
         unfolding spaceHeatCoolDemand
         free-demand free a k p w = same-at _ _ a (rw (ten, eleven, ← target-is, solved-ok r _ free-is k, p) refl) w

@@ -7,35 +7,35 @@ use native.Mathlib.Omega.{arith}
 use lib.ListN.{length, getD, set, take, drop, drop-of-length-le}
 use lib.Ieee.{Float, nan, lt}
 use Rattle.solver.specs.F64.{dec, zero64}
-use Rattle.solver.specs.Near as Near
-use Rattle.solver.specs.Res.{Res, ok, refused, bind-ok, need}
+use Rattle.solver.specs.Closeness as Closeness
+use Rattle.solver.specs.Result.{Result, ok, refused, bind-ok, require}
 use Rattle.solver.proofs.Laws.Fill.{fill-next, fill-done}
 use Rattle.solver.proofs.Laws.Parts.{drop-next}
-use Rattle.zone_head.specs.declared.building_element.Element.{Element}
-use Rattle.zone_head.specs.declared.building_element.ElementHour.{ElementHour}
-use Rattle.zone_head.specs.declared.zone_record.Zone.{Zone}
-use Rattle.zone_head.specs.declared.zone_record.Verdict.{Verdict}
-use Rattle.zone_head.specs.declared.zone_record.Verdict.the-variants as Verdict
-use Rattle.zone_head.specs.declared.conditions.Conditions.{Conditions}
-use Rattle.zone_head.specs.declared.conditions.AirChangesPerHourArgument.{AirChangesPerHourArgument}
-use Rattle.zone_head.specs.declared.conditions.AirChangesPerHourArgument.the-variants.{Cooling}
-use Rattle.zone_head.specs.BuildingElement.{standardCoefficients}
-use Rattle.zone_head.specs.ZoneTest.{zoneTest, verdictOf}
-use Rattle.zone_head.proofs.Laws.Ranges.{verdict-accepted, verdict-refused}
-use Rattle.zone_head.proofs.Laws.Lists.{one-left}
-use Rattle.zone.specs.declared.state.Demand.{Demand}
-use Rattle.zone.specs.declared.state.DemandAnswer.{DemandAnswer}
-use Rattle.zone.specs.declared.state.DemandAnswer.the-variants as DemandAnswer
-use Rattle.zone.specs.declared.state.StartUp.{StartUp}
-use Rattle.zone.specs.declared.state.AchToTriggerHeating.the-variants.{Absent}
-use Rattle.zone.specs.declared.windows.ZoneTemperatures.{ZoneTemperatures}
-use Rattle.zone.specs.declared.windows.Ventilated.{Ventilated}
-use Rattle.zone.specs.State.{slotsOf, stateOf}
-use Rattle.zone.specs.Demand.{achTarget, zoneTemperatures, freeTemperatures, temperaturesWith, ventilated, calcCoolingPotentialFromVentilation, wanted, demandFrom, spaceHeatCoolDemand}
-use Rattle.zone.specs.Hour.{delivered}
-use Rattle.zone.specs.StartUp.{firstHour, startUpConditions, startState, isclose, close, pass, settle, settleFrom, initNodeTemps}
-use Rattle.zone.specs.Answers.{startedUp}
-use Rattle.zone.specs.Solves.{demandAnswer, verdictRes}
+use Rattle.zone.specs.declared.record.building_element.Element.{Element}
+use Rattle.zone.specs.declared.record.building_element.ElementHour.{ElementHour}
+use Rattle.zone.specs.declared.record.zone_record.Zone.{Zone}
+use Rattle.zone.specs.declared.record.zone_record.Verdict.{Verdict}
+use Rattle.zone.specs.declared.record.zone_record.Verdict.the-variants as Verdict
+use Rattle.zone.specs.declared.format.conditions.Conditions.{Conditions}
+use Rattle.zone.specs.declared.format.conditions.AirChangesPerHourArgument.{AirChangesPerHourArgument}
+use Rattle.zone.specs.declared.format.conditions.AirChangesPerHourArgument.the-variants.{Cooling}
+use Rattle.zone.specs.Record.BuildingElement.{standardCoefficients}
+use Rattle.zone.specs.Check.ZoneTest.{zoneTest, verdictOf}
+use Rattle.zone.proofs.Laws.Ranges.{verdict-accepted, verdict-refused}
+use Rattle.zone.proofs.Laws.Lists.{one-left}
+use Rattle.zone.specs.declared.calls.state.Demand.{Demand}
+use Rattle.zone.specs.declared.calls.state.DemandAnswer.{DemandAnswer}
+use Rattle.zone.specs.declared.calls.state.DemandAnswer.the-variants as DemandAnswer
+use Rattle.zone.specs.declared.calls.state.StartUp.{StartUp}
+use Rattle.zone.specs.declared.calls.state.AchToTriggerHeating.the-variants.{Absent}
+use Rattle.zone.specs.declared.hour.windows.ZoneTemperatures.{ZoneTemperatures}
+use Rattle.zone.specs.declared.hour.windows.Ventilated.{Ventilated}
+use Rattle.zone.specs.Calls.State.{slotsOf, stateOf}
+use Rattle.zone.specs.Hour.Demand.{achTarget, zoneTemperatures, freeTemperatures, temperaturesWith, ventilated, calcCoolingPotentialFromVentilation, wanted, demandFrom, spaceHeatCoolDemand}
+use Rattle.zone.specs.Calls.Hour.{delivered}
+use Rattle.zone.specs.Calls.StartUp.{firstHour, startUpConditions, startState, allClose, close, pass, settle, settleFrom, initNodeTemps}
+use Rattle.zone.specs.Calls.Answers.{startUpReply}
+use Rattle.zone.specs.Hour.Solves.{demandAnswer, verdictRes}
 use Rattle.zone.proofs.Laws.Demand.{demand-refused, demand-accepted, towards-rate}
 use Rattle.zone.proofs.Laws.Hour.{res-accepted, res-refused}
 
@@ -51,26 +51,26 @@ first-done es out i h r = rw (drop-of-length-le es h) (sym (fill-done out i r))
 -- ---- the comparison of two vectors
 
 module _ (a b : List Float) (i : ℕ) (p : i < length a) (q : i < length b) where
-  close-step : isclose (drop i a) (drop i b) ≡ (Near.isclose (getD a i nan) (getD b i nan) && isclose (drop (i + 1) a) (drop (i + 1) b))
-  unfolding isclose
+  close-step : allClose (drop i a) (drop i b) ≡ (Closeness.isclose (getD a i nan) (getD b i nan) && allClose (drop (i + 1) a) (drop (i + 1) b))
+  unfolding allClose
   close-step = rw (drop-next a i nan p, drop-next b i nan q) refl
 
-  pub close-next : Near.isclose (getD a i nan) (getD b i nan) ≡ true → isclose (drop i a) (drop i b) ≡ isclose (drop (i + 1) a) (drop (i + 1) b)
+  pub close-next : Closeness.isclose (getD a i nan) (getD b i nan) ≡ true → allClose (drop i a) (drop i b) ≡ allClose (drop (i + 1) a) (drop (i + 1) b)
   close-next e = close-step ∙ rw e refl
 
-  pub close-not : Near.isclose (getD a i nan) (getD b i nan) ≡ false → isclose (drop i a) (drop i b) ≡ false
+  pub close-not : Closeness.isclose (getD a i nan) (getD b i nan) ≡ false → allClose (drop i a) (drop i b) ≡ false
   close-not e = close-step ∙ rw e refl
 
-close-empty : (a : List Float) → isclose a [] ≡ true
-unfolding isclose
+close-empty : (a : List Float) → allClose a [] ≡ true
+unfolding allClose
 close-empty [] = refl
 close-empty (x ∷ xs) = refl
 
-pub close-first : (a b : List Float) (i : ℕ) → length a ≤ i → isclose (drop i a) (drop i b) ≡ true
-unfolding isclose
+pub close-first : (a b : List Float) (i : ℕ) → length a ≤ i → allClose (drop i a) (drop i b) ≡ true
+unfolding allClose
 close-first a b i h = rw (drop-of-length-le a h) refl
 
-pub close-second : (a b : List Float) (i : ℕ) → length b ≤ i → isclose (drop i a) (drop i b) ≡ true
+pub close-second : (a b : List Float) (i : ℕ) → length b ≤ i → allClose (drop i a) (drop i b) ≡ true
 close-second a b i h = rw (drop-of-length-le b h) (close-empty (drop i a))
 
 -- ---- a pass
@@ -94,8 +94,8 @@ module _ (z : Zone) (t : List Float) (h : Conditions) (ach : Float) (fixed : h .
   pub fixed-rate : (d : Demand) → spaceHeatCoolDemand standardCoefficients z t h ≡ ok d → d .«ach_cooling» ≡ ach
   unfolding spaceHeatCoolDemand
   fixed-rate d e =
-      let ten = bind-ok (need (not (lt (h .«temp_setpnt_cool») (h .«temp_setpnt_heat»))) 10) _ d e in
-      let eleven = bind-ok (need (not (lt (h .«temp_setpnt_cool_vent») (h .«temp_setpnt_heat»))) 11) _ d (ten .2) in
+      let ten = bind-ok (require (not (lt (h .«temp_setpnt_cool») (h .«temp_setpnt_heat»))) 10) _ d e in
+      let eleven = bind-ok (require (not (lt (h .«temp_setpnt_cool_vent») (h .«temp_setpnt_heat»))) 11) _ d (ten .2) in
       let free = bind-ok (freeTemperatures standardCoefficients z t h (achTarget (h .«ach_args»))) _ d (eleven .2) in
       from-rate (zoneTemperatures z (free .0)) d (free .2)
 
@@ -114,7 +114,7 @@ module _ (z : Zone) (t : List Float) (h : Conditions) (h-is : h ≡ startUpCondi
       let w : spaceHeatCoolDemand standardCoefficients z t h ≡ refused n i = demand-refused _ a n i asked e in
       rw (← h-is, w) refl
 
-  pub pass-solved : (d : Demand) (w fraction : Float) (x : Res (List Float)) → a ≡ DemandAnswer.Accepted d → w ≡ delivered h d → fraction ≡ h .«frac_convective_heat»
+  pub pass-solved : (d : Demand) (w fraction : Float) (x : Result (List Float)) → a ≡ DemandAnswer.Accepted d → w ≡ delivered h d → fraction ≡ h .«frac_convective_heat»
       → x ≡ temperaturesWith standardCoefficients z t h w fraction (d .«ach_cooling») → x ≡ pass standardCoefficients z t
   unfolding pass
   pass-solved d w fraction x e w-is f-is p =
@@ -130,17 +130,17 @@ settle-start z limit t₀ t p = let e : limit - 0 ≡ limit = omega arith in rw 
 
 module _ (z : Zone) (limit : ℕ) (t₀ t : List Float) (passes : ℕ)
     (left : settle standardCoefficients z limit t₀ ≡ settle standardCoefficients z (limit - passes) t) where
-  pub settle-15 : (r : StartUp) → limit ≤ passes → r ≡ startedUp (refused 15 0) → r ≡ startedUp (settleFrom standardCoefficients z limit t₀)
+  pub settle-15 : (r : StartUp) → limit ≤ passes → r ≡ startUpReply (refused 15 0) → r ≡ startUpReply (settleFrom standardCoefficients z limit t₀)
   unfolding settleFrom settle
   settle-15 r h p = let e : limit - passes ≡ 0 = omega arith in rw (left, e) p
 
   module _ (more : passes < limit) (v : Verdict) (after : List Float) (passed : verdictRes v after ≡ pass standardCoefficients z t) where
-    pub settle-refused : (n i : ℕ) (r : StartUp) → v ≡ Verdict.Refused n i → r ≡ startedUp (refused n i) → r ≡ startedUp (settleFrom standardCoefficients z limit t₀)
+    pub settle-refused : (n i : ℕ) (r : StartUp) → v ≡ Verdict.Refused n i → r ≡ startUpReply (refused n i) → r ≡ startUpReply (settleFrom standardCoefficients z limit t₀)
     unfolding settleFrom settle
     settle-refused n i r e p = rw (left, one-left limit passes more, res-refused v after (pass standardCoefficients z t) passed n i e) p
 
     module _ (good : v ≡ Verdict.Accepted) (test : Bool) (tested : test ≡ close z t after) where
-      pub settle-settled : (r : StartUp) → test ≡ true → r ≡ startedUp (ok (stateOf z t)) → r ≡ startedUp (settleFrom standardCoefficients z limit t₀)
+      pub settle-settled : (r : StartUp) → test ≡ true → r ≡ startUpReply (ok (stateOf z t)) → r ≡ startUpReply (settleFrom standardCoefficients z limit t₀)
       unfolding settleFrom settle
       settle-settled r k p = rw (left, one-left limit passes more, res-accepted v after (pass standardCoefficients z t) passed good, ← tested, k) p
 
@@ -149,11 +149,11 @@ module _ (z : Zone) (limit : ℕ) (t₀ t : List Float) (passes : ℕ)
       settle-next k = left ∙ rw (one-left limit passes more, res-accepted v after (pass standardCoefficients z t) passed good, ← tested, k) refl
 
 module _ (z : Zone) (v : Verdict) (zone : v ≡ verdictOf (zoneTest z)) (r : StartUp) where
-  pub start-refused : (n i : ℕ) → v ≡ Verdict.Refused n i → r ≡ startedUp (refused n i) → r ≡ startedUp (initNodeTemps standardCoefficients z)
+  pub start-refused : (n i : ℕ) → v ≡ Verdict.Refused n i → r ≡ startUpReply (refused n i) → r ≡ startUpReply (initNodeTemps standardCoefficients z)
   unfolding initNodeTemps
   start-refused n i e p = let w : zoneTest z ≡ refused n i = verdict-refused (zoneTest z) n i (sym zone ∙ e) in rw w p
 
-  pub start-settle : v ≡ Verdict.Accepted → r ≡ startedUp (settleFrom standardCoefficients z (z .«start_up_limit») (slotsOf z (startState z)))
-      → r ≡ startedUp (initNodeTemps standardCoefficients z)
+  pub start-settle : v ≡ Verdict.Accepted → r ≡ startUpReply (settleFrom standardCoefficients z (z .«start_up_limit») (slotsOf z (startState z)))
+      → r ≡ startUpReply (initNodeTemps standardCoefficients z)
   unfolding initNodeTemps
   start-settle e p = rw (verdict-accepted (zoneTest z) (sym zone ∙ e)) p

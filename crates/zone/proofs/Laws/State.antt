@@ -4,11 +4,11 @@ use mathlib.Core.Path.{_≡_, refl}
 use mathlib.Core.Bool.{Bool}
 use mathlib.Core.List.{List}
 use lib.Ieee.{Float}
-use Rattle.zone_head.specs.declared.zone_record.Zone.{Zone}
-use Rattle.zone_head.specs.BuildingElement.{nodeCount}
-use Rattle.zone_temps.specs.System.{zoneTwoNodes}
-use Rattle.zone_temps.specs.Packing.{toNodes}
-use Rattle.zone.specs.State.{stateOf}
+use Rattle.zone.specs.declared.record.zone_record.Zone.{Zone}
+use Rattle.zone.specs.Record.BuildingElement.{nodeCount}
+use Rattle.zone.specs.Physics.System.{zoneTwoNodes}
+use Rattle.zone.specs.Physics.Packing.{toNodes}
+use Rattle.zone.specs.Calls.State.{stateOf}
 
 module _ (z : Zone) (twoNodes : List Bool) (two-is : twoNodes ≡ zoneTwoNodes z) where
   pub state-by : (nodes : ℕ) (t temps : List Float) → nodes ≡ nodeCount z → temps ≡ toNodes (z .count) twoNodes t → record { nodes = nodes; temps = temps } ≡ stateOf z t

@@ -7,26 +7,11 @@ use Rattle.book.proofs.book.append_entry.Tie as tie
 entry-length-requires : tie.Need-entry-length-requires
 entry-length-requires c κs = search tested-few
 
-has-room-requires : tie.Need-has-room-requires
-has-room-requires c κs = search needs
-
 put-entry-requires : tie.Need-put-entry-requires
 put-entry-requires c κs = (search tested-few, search step-size, search append-room)
 
-add-accept : tie.Need-add-accept
-add-accept c = search needs
-
 add-accept-2 : tie.Need-add-accept-2
 add-accept-2 c = search (needs, append-sum)
-
-accept-requires : tie.Need-accept-requires
-accept-requires c κs = search needs
-
-refuse-requires : tie.Need-refuse-requires
-refuse-requires c κs = search needs
-
-same-length : tie.Need-same-length
-same-length c = search needs
 
 returns : tie.Need-returns
 returns c = search append-cases
@@ -37,14 +22,5 @@ returns-2 c = search append-cases
 pub append-entry-spec : {M : Type 1} → statement M
 append-entry-spec =
     tie.close
-    (tie.spec
-    entry-length-requires
-    has-room-requires
-    put-entry-requires
-    add-accept
-    add-accept-2
-    accept-requires
-    refuse-requires
-    same-length
-    returns
-    returns-2)
+    (tie.spec entry-length-requires (λ c κs. search needs) put-entry-requires (λ c. search needs) add-accept-2
+    (λ c κs. search needs) (λ c κs. search needs) (λ c. search needs) returns returns-2)

@@ -2,7 +2,7 @@ use Prim.Native.Nat.{_≤_, _-_}
 use mathlib.Core.Path.{_≡_, refl}
 use native.Mathlib.Omega.{arith}
 use lib.ListN.{length, take, drop}
-use Rattle.plain_book.specs.Bytes.{equalBytes}
+use Rattle.book.specs.Model.Bytes.{equalBytes}
 use Rattle.book.proofs.Laws.Loops.{begins-cases, begins-more}
 use borrow.Author.Needs.{needs}
 use Rattle.book.proofs.bytes.begins_with.Statement.{statement}
@@ -17,20 +17,8 @@ abbrev μ-loop : tie.MeasureT-loop
 loop-holds : tie.Need-loop-holds Inv-loop μ-loop
 loop-holds c = (omega arith, refl)
 
-shared-slice-read-if1 : tie.Need-shared-slice-read-if1 Inv-loop μ-loop
-shared-slice-read-if1 c = search needs
-
-shared-slice-read-if1-2 : tie.Need-shared-slice-read-if1-2 Inv-loop μ-loop
-shared-slice-read-if1-2 c = search needs
-
 returns : tie.Need-returns Inv-loop μ-loop
 returns c = search begins-cases
-
-add-i : tie.Need-add-i Inv-loop μ-loop
-add-i c = search needs
-
-loop-less : tie.Need-loop-less Inv-loop μ-loop
-loop-less c = search needs
 
 loop-again : tie.Need-loop-again Inv-loop μ-loop
 loop-again c = (omega arith, search begins-more)
@@ -41,14 +29,5 @@ returns-2 c = search begins-cases
 pub begins-with-spec : {M : Type 1} → statement M
 begins-with-spec =
     tie.close
-    (tie.spec
-    Inv-loop
-    μ-loop
-    loop-holds
-    shared-slice-read-if1
-    shared-slice-read-if1-2
-    returns
-    add-i
-    loop-less
-    loop-again
-    returns-2)
+    (tie.spec Inv-loop μ-loop loop-holds (λ c. search needs) (λ c. search needs) returns (λ c. search needs)
+    (λ c. search needs) loop-again returns-2)

@@ -1,6 +1,6 @@
 use mathlib.Core.Path.{refl}
 use lib.Ieee.{toBits}
-use Rattle.zone_head.proofs.Laws.Nan.{differs-nan, alike-no-nan}
+use Rattle.zone.proofs.Promise.{differs-nan, alike-no-nan}
 use borrow.Author.Needs.{needs}
 use Rattle.book.proofs.bytes.bits_of.Statement.{statement}
 use Rattle.book.proofs.bytes.bits_of.Tie as tie
@@ -12,8 +12,5 @@ returns : tie.Need-returns
 unfolding toBits
 returns c = rw (differs-nan (c .before .args .x) (c .if1 .taken)) refl
 
-returns-2 : tie.Need-returns-2
-returns-2 c = search needs
-
 pub bits-of-spec : {M : Type 1} → statement M
-bits-of-spec = tie.close (tie.spec float-to-bits-result returns returns-2)
+bits-of-spec = tie.close (tie.spec float-to-bits-result returns (λ c. search needs))

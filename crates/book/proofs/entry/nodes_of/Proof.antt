@@ -4,11 +4,8 @@ use borrow.Author.Needs.{needs}
 use Rattle.book.proofs.entry.nodes_of.Statement.{statement}
 use Rattle.book.proofs.entry.nodes_of.Tie as tie
 
-node-count-requires : tie.Need-node-count-requires
-node-count-requires c κs = search needs
-
 returns : tie.Need-returns
 returns c = (c .node-count .ensures, omega (arith, c .node-count .ensures, node-count-few (c .before .args .z) (c .before .pre)))
 
 pub nodes-of-spec : {M : Type 1} → statement M
-nodes-of-spec = tie.close (tie.spec node-count-requires returns)
+nodes-of-spec = tie.close (tie.spec (λ c κs. search needs) returns)

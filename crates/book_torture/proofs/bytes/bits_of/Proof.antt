@@ -1,5 +1,5 @@
 -- Past the test the float is no NaN.
-use Rattle.zone_head.proofs.Laws.Nan.{alike-no-nan}
+use Rattle.zone.proofs.Promise.{alike-no-nan}
 use borrow.Author.Needs.{needs}
 use Rattle.book_torture.proofs.bytes.bits_of.Statement.{statement}
 use Rattle.book_torture.proofs.bytes.bits_of.Tie as tie
@@ -7,11 +7,5 @@ use Rattle.book_torture.proofs.bytes.bits_of.Tie as tie
 float-to-bits-result : tie.Need-float-to-bits-result
 float-to-bits-result c = alike-no-nan (c .before .args .x) (c .if1 .left)
 
-returns : tie.Need-returns
-returns c = search needs
-
-returns-2 : tie.Need-returns-2
-returns-2 c = search needs
-
 pub bits-of-spec : {M : Type 1} → statement M
-bits-of-spec = tie.close (tie.spec float-to-bits-result returns returns-2)
+bits-of-spec = tie.close (tie.spec float-to-bits-result (λ c. search needs) (λ c. search needs))

@@ -11,53 +11,9 @@ Inv-loop z b found₀ before₀ entry₀ found before entry = Unit {0}
 abbrev μ-loop : tie.MeasureT-loop
 μ-loop z b found₀ before₀ entry₀ found before entry = 40 - entry
 
-accepted-requires : tie.Need-accepted-requires Inv-loop μ-loop
-accepted-requires c κs = search needs
-
-loop-holds : tie.Need-loop-holds Inv-loop μ-loop
-loop-holds c = tt
-
-place-of-requires : tie.Need-place-of-requires Inv-loop μ-loop
-place-of-requires c κs = search needs
-
-part-requires : tie.Need-part-requires Inv-loop μ-loop
-part-requires c κs = search needs
-
-results-stand-requires : tie.Need-results-stand-requires Inv-loop μ-loop
-results-stand-requires c κs = search needs
-
-false-at-requires : tie.Need-false-at-requires Inv-loop μ-loop
-false-at-requires c κs = search needs
-
-state-in-requires : tie.Need-state-in-requires Inv-loop μ-loop
-state-in-requires c κs = search needs
-
-add-entry : tie.Need-add-entry Inv-loop μ-loop
-add-entry c = search needs
-
-loop-less : tie.Need-loop-less Inv-loop μ-loop
-loop-less c = omega arith
-
-loop-again : tie.Need-loop-again Inv-loop μ-loop
-loop-again c = search needs
-
-returns : tie.Need-returns Inv-loop μ-loop
-returns c = search needs
-
 pub first-false-spec : {M : Type 1} → statement M
 first-false-spec =
     tie.close
-    (tie.spec
-    Inv-loop
-    μ-loop
-    accepted-requires
-    loop-holds
-    place-of-requires
-    part-requires
-    results-stand-requires
-    false-at-requires
-    state-in-requires
-    add-entry
-    loop-less
-    loop-again
-    returns)
+    (tie.spec Inv-loop μ-loop (λ c κs. search needs) (λ c. tt) (λ c κs. search needs) (λ c κs. search needs)
+    (λ c κs. search needs) (λ c κs. search needs) (λ c κs. search needs) (λ c. search needs)
+    (λ c. omega arith) (λ c. search needs) (λ c. search needs))

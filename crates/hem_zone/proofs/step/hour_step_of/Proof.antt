@@ -3,27 +3,6 @@ use borrow.Author.Needs.{needs}
 use Rattle.hem_zone.proofs.step.hour_step_of.Statement.{statement}
 use Rattle.hem_zone.proofs.step.hour_step_of.Tie as tie
 
-state-in-requires : tie.Need-state-in-requires
-state-in-requires c κs = search needs
-
-hour-step-requires : tie.Need-hour-step-requires
-hour-step-requires c κs = search needs
-
-enum-known-a : tie.Need-enum-known-a
-enum-known-a c = search needs
-
-refusal-code-requires : tie.Need-refusal-code-requires
-refusal-code-requires c κs = search needs
-
-enum-known-a-2 : tie.Need-enum-known-a-2
-enum-known-a-2 c = search needs
-
-demand-out-requires : tie.Need-demand-out-requires
-demand-out-requires c κs = search needs
-
-balance-out-requires : tie.Need-balance-out-requires
-balance-out-requires c κs = search needs
-
 returns : tie.Need-returns
 returns c = search hour-cases
 
@@ -33,13 +12,5 @@ returns-2 c = search hour-cases
 pub hour-step-of-spec : {M : Type 1} → statement M
 hour-step-of-spec =
     tie.close
-    (tie.spec
-    state-in-requires
-    hour-step-requires
-    enum-known-a
-    refusal-code-requires
-    enum-known-a-2
-    demand-out-requires
-    balance-out-requires
-    returns
-    returns-2)
+    (tie.spec (λ c κs. search needs) (λ c κs. search needs) (λ c. search needs) (λ c κs. search needs)
+    (λ c. search needs) (λ c κs. search needs) (λ c κs. search needs) returns returns-2)

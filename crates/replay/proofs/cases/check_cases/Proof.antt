@@ -11,49 +11,9 @@ Inv-loop fd t₀ buf₀ counter₀ t buf counter = Unit {0}
 abbrev μ-loop : tie.MeasureT-loop
 μ-loop fd t₀ buf₀ counter₀ t buf counter = 100000 - counter
 
-no-cases-requires : tie.Need-no-cases-requires Inv-loop μ-loop
-no-cases-requires c κs = search needs
-
-loop-holds : tie.Need-loop-holds Inv-loop μ-loop
-loop-holds c = tt
-
-next-record-requires : tie.Need-next-record-requires Inv-loop μ-loop
-next-record-requires c κs = search needs
-
-record-requires : tie.Need-record-requires Inv-loop μ-loop
-record-requires c κs = search needs
-
-check-case-requires : tie.Need-check-case-requires Inv-loop μ-loop
-check-case-requires c κs = search needs
-
-add-counter : tie.Need-add-counter Inv-loop μ-loop
-add-counter c = search needs
-
-loop-less : tie.Need-loop-less Inv-loop μ-loop
-loop-less c = omega arith
-
-loop-again : tie.Need-loop-again Inv-loop μ-loop
-loop-again c = search needs
-
-returns : tie.Need-returns Inv-loop μ-loop
-returns c = search needs
-
-returns-2 : tie.Need-returns-2 Inv-loop μ-loop
-returns-2 c = search needs
-
 pub check-cases-spec : {M : Type 1} → statement M
 check-cases-spec =
     tie.close
-    (tie.spec
-    Inv-loop
-    μ-loop
-    no-cases-requires
-    loop-holds
-    next-record-requires
-    record-requires
-    check-case-requires
-    add-counter
-    loop-less
-    loop-again
-    returns
-    returns-2)
+    (tie.spec Inv-loop μ-loop (λ c κs. search needs) (λ c. tt) (λ c κs. search needs) (λ c κs. search needs)
+    (λ c κs. search needs) (λ c. search needs) (λ c. omega arith) (λ c. search needs) (λ c. search needs)
+    (λ c. search needs))

@@ -11,25 +11,7 @@ Inv-loop s x same₀ i₀ same i = Unit {0}
 abbrev μ-loop : tie.MeasureT-loop
 μ-loop s x same₀ i₀ same i = 1024 - i
 
-loop-holds : tie.Need-loop-holds Inv-loop μ-loop
-loop-holds c = tt
-
-byte-at-requires : tie.Need-byte-at-requires Inv-loop μ-loop
-byte-at-requires c κs = search needs
-
-add-i : tie.Need-add-i Inv-loop μ-loop
-add-i c = search needs
-
-loop-less : tie.Need-loop-less Inv-loop μ-loop
-loop-less c = omega arith
-
-loop-again : tie.Need-loop-again Inv-loop μ-loop
-loop-again c = search needs
-
-returns : tie.Need-returns Inv-loop μ-loop
-returns c = search needs
-
 pub all-are-spec : {M : Type 1} → statement M
 all-are-spec =
     tie.close
-    (tie.spec Inv-loop μ-loop loop-holds byte-at-requires add-i loop-less loop-again returns)
+    (tie.spec Inv-loop μ-loop (λ c. tt) (λ c κs. search needs) (λ c. search needs) (λ c. omega arith) (λ c. search needs) (λ c. search needs))

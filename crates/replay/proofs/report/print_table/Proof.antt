@@ -11,25 +11,7 @@ Inv-loop t row₀ row = Unit {0}
 abbrev μ-loop : tie.MeasureT-loop
 μ-loop t row₀ row = 17 - row
 
-loop-holds : tie.Need-loop-holds Inv-loop μ-loop
-loop-holds c = tt
-
-print-row-requires : tie.Need-print-row-requires Inv-loop μ-loop
-print-row-requires c κs = search needs
-
-add-row : tie.Need-add-row Inv-loop μ-loop
-add-row c = search needs
-
-loop-less : tie.Need-loop-less Inv-loop μ-loop
-loop-less c = omega arith
-
-loop-again : tie.Need-loop-again Inv-loop μ-loop
-loop-again c = search needs
-
-returns : tie.Need-returns Inv-loop μ-loop
-returns c = search needs
-
 pub print-table-spec : {M : Type 1} → statement M
 print-table-spec =
     tie.close
-    (tie.spec Inv-loop μ-loop loop-holds print-row-requires add-row loop-less loop-again returns)
+    (tie.spec Inv-loop μ-loop (λ c. tt) (λ c κs. search needs) (λ c. search needs) (λ c. omega arith) (λ c. search needs) (λ c. search needs))

@@ -13,18 +13,6 @@ Inv-loop twoNodes diag next n t₀ e₀ t e = each e n (backSubstituteChain twoN
 abbrev μ-loop : tie.MeasureT-loop
 μ-loop twoNodes diag next n t₀ e₀ t e = n - e
 
-loop-holds : tie.Need-loop-holds Inv-loop μ-loop
-loop-holds c = refl
-
-back-substitute-chain-requires : tie.Need-back-substitute-chain-requires Inv-loop μ-loop
-back-substitute-chain-requires c κs = search needs
-
-add-e : tie.Need-add-e Inv-loop μ-loop
-add-e c = search needs
-
-loop-less : tie.Need-loop-less Inv-loop μ-loop
-loop-less c = search needs
-
 loop-again : tie.Need-loop-again Inv-loop μ-loop
 loop-again c =
     let l = c .before .before .before .loop in
@@ -41,4 +29,4 @@ returns c =
 pub back-substitute-chains-spec : {M : Type 1} → statement M
 back-substitute-chains-spec =
     tie.close
-    (tie.spec Inv-loop μ-loop loop-holds back-substitute-chain-requires add-e loop-less loop-again returns)
+    (tie.spec Inv-loop μ-loop (λ c. refl) (λ c κs. search needs) (λ c. search needs) (λ c. search needs) loop-again returns)

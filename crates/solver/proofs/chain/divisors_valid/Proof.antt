@@ -14,18 +14,6 @@ Inv-loop twoNodes diag n ok₀ e₀ valid e = each e n (chainDivisorsValid twoNo
 abbrev μ-loop : tie.MeasureT-loop
 μ-loop twoNodes diag n ok₀ e₀ valid e = n - e
 
-loop-holds : tie.Need-loop-holds Inv-loop μ-loop
-loop-holds c = refl
-
-chain-divisors-valid-requires : tie.Need-chain-divisors-valid-requires Inv-loop μ-loop
-chain-divisors-valid-requires c κs = search needs
-
-add-e : tie.Need-add-e Inv-loop μ-loop
-add-e c = search needs
-
-loop-less : tie.Need-loop-less Inv-loop μ-loop
-loop-less c = search needs
-
 loop-again : tie.Need-loop-again Inv-loop μ-loop
 loop-again c =
     let l = c .before .before .loop in
@@ -42,4 +30,4 @@ returns c =
 pub divisors-valid-spec : {M : Type 1} → statement M
 divisors-valid-spec =
     tie.close
-    (tie.spec Inv-loop μ-loop loop-holds chain-divisors-valid-requires add-e loop-less loop-again returns)
+    (tie.spec Inv-loop μ-loop (λ c. refl) (λ c κs. search needs) (λ c. search needs) (λ c. search needs) loop-again returns)

@@ -13,54 +13,6 @@ Inv-loop twoNodes next prev e d₀ s₀ diag s = each s (5 * e + 4) (adjustDiago
 abbrev μ-loop : tie.MeasureT-loop
 μ-loop twoNodes next prev e d₀ s₀ diag s = 5 * e + 4 - s
 
-outer-slot-requires : tie.Need-outer-slot-requires Inv-loop μ-loop
-outer-slot-requires c κs = search needs
-
-loop-holds : tie.Need-loop-holds Inv-loop μ-loop
-loop-holds c = refl
-
-mul-loop : tie.Need-mul-loop Inv-loop μ-loop
-mul-loop c = search needs
-
-add-loop : tie.Need-add-loop Inv-loop μ-loop
-add-loop c = search needs
-
-add-i : tie.Need-add-i Inv-loop μ-loop
-add-i c = search needs
-
-mul-diag : tie.Need-mul-diag Inv-loop μ-loop
-mul-diag c = search needs
-
-element-copy-out-diag : tie.Need-element-copy-out-diag Inv-loop μ-loop
-element-copy-out-diag c = search needs
-
-mul-diag-2 : tie.Need-mul-diag-2 Inv-loop μ-loop
-mul-diag-2 c = search needs
-
-element-copy-out-diag-2 : tie.Need-element-copy-out-diag-2 Inv-loop μ-loop
-element-copy-out-diag-2 c = search needs
-
-mul-diag-3 : tie.Need-mul-diag-3 Inv-loop μ-loop
-mul-diag-3 c = search needs
-
-element-copy-out-diag-3 : tie.Need-element-copy-out-diag-3 Inv-loop μ-loop
-element-copy-out-diag-3 c = search needs
-
-mul-diag-4 : tie.Need-mul-diag-4 Inv-loop μ-loop
-mul-diag-4 c = search needs
-
-element-copy-out-diag-4 : tie.Need-element-copy-out-diag-4 Inv-loop μ-loop
-element-copy-out-diag-4 c = search needs
-
-mul-diag-5 : tie.Need-mul-diag-5 Inv-loop μ-loop
-mul-diag-5 c = search needs
-
-element-write-diag : tie.Need-element-write-diag Inv-loop μ-loop
-element-write-diag c = search needs
-
-loop-less : tie.Need-loop-less Inv-loop μ-loop
-loop-less c = search needs
-
 loop-again : tie.Need-loop-again Inv-loop μ-loop
 loop-again c =
     let l = c .before .before .before .before .before .loop in
@@ -78,24 +30,7 @@ returns c =
 pub eliminate-chain-spec : {M : Type 1} → statement M
 eliminate-chain-spec =
     tie.close
-    (tie.spec
-    Inv-loop
-    μ-loop
-    outer-slot-requires
-    loop-holds
-    mul-loop
-    add-loop
-    add-i
-    mul-diag
-    element-copy-out-diag
-    mul-diag-2
-    element-copy-out-diag-2
-    mul-diag-3
-    element-copy-out-diag-3
-    mul-diag-4
-    element-copy-out-diag-4
-    mul-diag-5
-    element-write-diag
-    loop-less
-    loop-again
-    returns)
+    (tie.spec Inv-loop μ-loop (λ c κs. search needs) (λ c. refl) (λ c. search needs) (λ c. search needs)
+    (λ c. search needs) (λ c. search needs) (λ c. search needs) (λ c. search needs) (λ c. search needs)
+    (λ c. search needs) (λ c. search needs) (λ c. search needs) (λ c. search needs) (λ c. search needs)
+    (λ c. search needs) (λ c. search needs) loop-again returns)

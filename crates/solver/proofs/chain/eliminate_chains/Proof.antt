@@ -13,18 +13,6 @@ Inv-loop twoNodes next prev n d₀ e₀ diag e = each e n (eliminateChain twoNod
 abbrev μ-loop : tie.MeasureT-loop
 μ-loop twoNodes next prev n d₀ e₀ diag e = n - e
 
-loop-holds : tie.Need-loop-holds Inv-loop μ-loop
-loop-holds c = refl
-
-eliminate-chain-requires : tie.Need-eliminate-chain-requires Inv-loop μ-loop
-eliminate-chain-requires c κs = search needs
-
-add-e : tie.Need-add-e Inv-loop μ-loop
-add-e c = search needs
-
-loop-less : tie.Need-loop-less Inv-loop μ-loop
-loop-less c = search needs
-
 loop-again : tie.Need-loop-again Inv-loop μ-loop
 loop-again c =
     let l = c .before .before .before .loop in
@@ -41,12 +29,5 @@ returns c =
 pub eliminate-chains-spec : {M : Type 1} → statement M
 eliminate-chains-spec =
     tie.close
-    (tie.spec
-    Inv-loop
-    μ-loop
-    loop-holds
-    eliminate-chain-requires
-    add-e
-    loop-less
-    loop-again
-    returns)
+    (tie.spec Inv-loop μ-loop (λ c. refl) (λ c κs. search needs) (λ c. search needs) (λ c. search needs)
+    loop-again returns)

@@ -13,24 +13,6 @@ Inv-loop twoNodes t n ok₀ e₀ within e = each e n (elementWithin twoNodes t) 
 abbrev μ-loop : tie.MeasureT-loop
 μ-loop twoNodes t n ok₀ e₀ within e = n - e
 
-element-copy-out-within-million : tie.Need-element-copy-out-within-million Inv-loop μ-loop
-element-copy-out-within-million c = search needs
-
-within-million-requires : tie.Need-within-million-requires Inv-loop μ-loop
-within-million-requires c κs = search needs
-
-loop-holds : tie.Need-loop-holds Inv-loop μ-loop
-loop-holds c = refl
-
-element-within-requires : tie.Need-element-within-requires Inv-loop μ-loop
-element-within-requires c κs = search needs
-
-add-e : tie.Need-add-e Inv-loop μ-loop
-add-e c = search needs
-
-loop-less : tie.Need-loop-less Inv-loop μ-loop
-loop-less c = search needs
-
 loop-again : tie.Need-loop-again Inv-loop μ-loop
 loop-again c =
     let l = c .before .before .loop in
@@ -42,19 +24,10 @@ unfolding nodesWithin
 returns c =
     let l = c .before .loop in
     let s = c .before .before .before .before in
-    rw (← c .before .before .within-million .ensures) (sym (each-done (elementWithin (s .args .two-nodes .now) (s .args .t .now)) (l .e) (s .args .n) (l .within) (c .loop-test .left)) ∙ l .inv)
+    rw (← c .before .before .within-state-bound .ensures) (sym (each-done (elementWithin (s .args .two-nodes .now) (s .args .t .now)) (l .e) (s .args .n) (l .within) (c .loop-test .left)) ∙ l .inv)
 
 pub nodes-within-spec : {M : Type 1} → statement M
 nodes-within-spec =
     tie.close
-    (tie.spec
-    Inv-loop
-    μ-loop
-    element-copy-out-within-million
-    within-million-requires
-    loop-holds
-    element-within-requires
-    add-e
-    loop-less
-    loop-again
-    returns)
+    (tie.spec Inv-loop μ-loop (λ c. search needs) (λ c κs. search needs) (λ c. refl) (λ c κs. search needs)
+    (λ c. search needs) (λ c. search needs) loop-again returns)

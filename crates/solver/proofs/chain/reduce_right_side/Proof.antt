@@ -13,54 +13,6 @@ Inv-loop twoNodes diag prev e b₀ s₀ b s = each s (5 * e + 4) (adjustRightSid
 abbrev μ-loop : tie.MeasureT-loop
 μ-loop twoNodes diag prev e b₀ s₀ b s = 5 * e + 4 - s
 
-outer-slot-requires : tie.Need-outer-slot-requires Inv-loop μ-loop
-outer-slot-requires c κs = search needs
-
-loop-holds : tie.Need-loop-holds Inv-loop μ-loop
-loop-holds c = refl
-
-mul-loop : tie.Need-mul-loop Inv-loop μ-loop
-mul-loop c = search needs
-
-add-loop : tie.Need-add-loop Inv-loop μ-loop
-add-loop c = search needs
-
-add-i : tie.Need-add-i Inv-loop μ-loop
-add-i c = search needs
-
-mul-b : tie.Need-mul-b Inv-loop μ-loop
-mul-b c = search needs
-
-element-copy-out-b : tie.Need-element-copy-out-b Inv-loop μ-loop
-element-copy-out-b c = search needs
-
-mul-b-2 : tie.Need-mul-b-2 Inv-loop μ-loop
-mul-b-2 c = search needs
-
-element-copy-out-b-2 : tie.Need-element-copy-out-b-2 Inv-loop μ-loop
-element-copy-out-b-2 c = search needs
-
-mul-b-3 : tie.Need-mul-b-3 Inv-loop μ-loop
-mul-b-3 c = search needs
-
-element-copy-out-b-3 : tie.Need-element-copy-out-b-3 Inv-loop μ-loop
-element-copy-out-b-3 c = search needs
-
-mul-b-4 : tie.Need-mul-b-4 Inv-loop μ-loop
-mul-b-4 c = search needs
-
-element-copy-out-b-4 : tie.Need-element-copy-out-b-4 Inv-loop μ-loop
-element-copy-out-b-4 c = search needs
-
-mul-b-5 : tie.Need-mul-b-5 Inv-loop μ-loop
-mul-b-5 c = search needs
-
-element-write-b : tie.Need-element-write-b Inv-loop μ-loop
-element-write-b c = search needs
-
-loop-less : tie.Need-loop-less Inv-loop μ-loop
-loop-less c = search needs
-
 loop-again : tie.Need-loop-again Inv-loop μ-loop
 loop-again c =
     let l = c .before .before .before .before .before .loop in
@@ -78,24 +30,7 @@ returns c =
 pub reduce-right-side-spec : {M : Type 1} → statement M
 reduce-right-side-spec =
     tie.close
-    (tie.spec
-    Inv-loop
-    μ-loop
-    outer-slot-requires
-    loop-holds
-    mul-loop
-    add-loop
-    add-i
-    mul-b
-    element-copy-out-b
-    mul-b-2
-    element-copy-out-b-2
-    mul-b-3
-    element-copy-out-b-3
-    mul-b-4
-    element-copy-out-b-4
-    mul-b-5
-    element-write-b
-    loop-less
-    loop-again
-    returns)
+    (tie.spec Inv-loop μ-loop (λ c κs. search needs) (λ c. refl) (λ c. search needs) (λ c. search needs)
+    (λ c. search needs) (λ c. search needs) (λ c. search needs) (λ c. search needs) (λ c. search needs)
+    (λ c. search needs) (λ c. search needs) (λ c. search needs) (λ c. search needs) (λ c. search needs)
+    (λ c. search needs) (λ c. search needs) loop-again returns)

@@ -17,37 +17,13 @@ abbrev μ-loop : tie.MeasureT-loop
 loop-holds : tie.Need-loop-holds Inv-loop μ-loop
 loop-holds c = (omega arith, refl)
 
-sub-k : tie.Need-sub-k Inv-loop μ-loop
-sub-k c = search needs
-
-mul-x : tie.Need-mul-x Inv-loop μ-loop
-mul-x c = search needs
-
-element-copy-out-x : tie.Need-element-copy-out-x Inv-loop μ-loop
-element-copy-out-x c = search needs
-
-entry-requires : tie.Need-entry-requires Inv-loop μ-loop
-entry-requires c κs = search needs
-
-mul-b : tie.Need-mul-b Inv-loop μ-loop
-mul-b c = search needs
-
-element-write-b : tie.Need-element-write-b Inv-loop μ-loop
-element-write-b c = search needs
-
-subtract-shares-requires : tie.Need-subtract-shares-requires Inv-loop μ-loop
-subtract-shares-requires c κs = search needs
-
-loop-less : tie.Need-loop-less Inv-loop μ-loop
-loop-less c = search needs
-
 loop-again : tie.Need-loop-again Inv-loop μ-loop
 unfolding backStep
 loop-again c =
     let l = c .before .before .before .before .before .loop in
     let s = c .before .before .before .before .before .before in (
       omega (arith, l .inv .0),
-      ap (eachDown (l .k - 1) (backStep (s .args .m .now))) (rw (c .before .before .entry .ensures) at (c .subtract-shares .ensures))
+      ap (eachDown (l .k - 1) (backStep (s .args .m .now))) (rw (c .before .before .entry .ensures) at (c .subtract-multiples .ensures))
           ∙ sym (down-next (backStep (s .args .m .now)) (l .k) (l .b) (c .before .before .before .before .loop-test .taken)) ∙ l .inv .1,
     )
 
@@ -61,17 +37,6 @@ returns c =
 pub back-substitution-spec : {M : Type 1} → statement M
 back-substitution-spec =
     tie.close
-    (tie.spec
-    Inv-loop
-    μ-loop
-    loop-holds
-    sub-k
-    mul-x
-    element-copy-out-x
-    entry-requires
-    mul-b
-    element-write-b
-    subtract-shares-requires
-    loop-less
-    loop-again
-    returns)
+    (tie.spec Inv-loop μ-loop loop-holds (λ c. search needs) (λ c. search needs) (λ c. search needs)
+    (λ c κs. search needs) (λ c. search needs) (λ c. search needs) (λ c κs. search needs)
+    (λ c. search needs) loop-again returns)

@@ -13,33 +13,12 @@ Inv-loop m b₀ w k₀ b k = each k w (forwardStep w m) b ≡ each 0 w (forwardS
 abbrev μ-loop : tie.MeasureT-loop
 μ-loop m b₀ w k₀ b k = w - k
 
-loop-holds : tie.Need-loop-holds Inv-loop μ-loop
-loop-holds c = refl
-
-mul-x : tie.Need-mul-x Inv-loop μ-loop
-mul-x c = search needs
-
-element-copy-out-x : tie.Need-element-copy-out-x Inv-loop μ-loop
-element-copy-out-x c = search needs
-
-add-subtract-shares : tie.Need-add-subtract-shares Inv-loop μ-loop
-add-subtract-shares c = search needs
-
-subtract-shares-requires : tie.Need-subtract-shares-requires Inv-loop μ-loop
-subtract-shares-requires c κs = search needs
-
-add-k : tie.Need-add-k Inv-loop μ-loop
-add-k c = search needs
-
-loop-less : tie.Need-loop-less Inv-loop μ-loop
-loop-less c = search needs
-
 loop-again : tie.Need-loop-again Inv-loop μ-loop
 unfolding forwardStep
 loop-again c =
     let l = c .before .before .before .before .loop in
     let s = c .before .before .before .before .before in
-    rw (c .subtract-shares .ensures) (sym (each-next (forwardStep (s .args .w) (s .args .m .now)) (l .k) (s .args .w) (l .b) (c .before .before .before .loop-test .taken)) ∙ l .inv)
+    rw (c .subtract-multiples .ensures) (sym (each-next (forwardStep (s .args .w) (s .args .m .now)) (l .k) (s .args .w) (l .b) (c .before .before .before .loop-test .taken)) ∙ l .inv)
 
 returns : tie.Need-returns Inv-loop μ-loop
 unfolding forwardSubstitution
@@ -51,15 +30,5 @@ returns c =
 pub forward-substitution-spec : {M : Type 1} → statement M
 forward-substitution-spec =
     tie.close
-    (tie.spec
-    Inv-loop
-    μ-loop
-    loop-holds
-    mul-x
-    element-copy-out-x
-    add-subtract-shares
-    subtract-shares-requires
-    add-k
-    loop-less
-    loop-again
-    returns)
+    (tie.spec Inv-loop μ-loop (λ c. refl) (λ c. search needs) (λ c. search needs) (λ c. search needs)
+    (λ c κs. search needs) (λ c. search needs) (λ c. search needs) loop-again returns)

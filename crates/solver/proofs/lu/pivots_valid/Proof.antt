@@ -14,21 +14,6 @@ Inv-loop m w ok₀ k₀ valid k = each k w (pivotValid m) valid ≡ each 0 w (pi
 abbrev μ-loop : tie.MeasureT-loop
 μ-loop m w ok₀ k₀ valid k = w - k
 
-loop-holds : tie.Need-loop-holds Inv-loop μ-loop
-loop-holds c = refl
-
-entry-requires : tie.Need-entry-requires Inv-loop μ-loop
-entry-requires c κs = search needs
-
-valid-divisor-requires : tie.Need-valid-divisor-requires Inv-loop μ-loop
-valid-divisor-requires c κs = search needs
-
-add-k : tie.Need-add-k Inv-loop μ-loop
-add-k c = search needs
-
-loop-less : tie.Need-loop-less Inv-loop μ-loop
-loop-less c = search needs
-
 loop-again : tie.Need-loop-again Inv-loop μ-loop
 loop-again c =
     let l = c .before .before .before .loop in
@@ -45,13 +30,5 @@ returns c =
 pub pivots-valid-spec : {M : Type 1} → statement M
 pivots-valid-spec =
     tie.close
-    (tie.spec
-    Inv-loop
-    μ-loop
-    loop-holds
-    entry-requires
-    valid-divisor-requires
-    add-k
-    loop-less
-    loop-again
-    returns)
+    (tie.spec Inv-loop μ-loop (λ c. refl) (λ c κs. search needs) (λ c κs. search needs) (λ c. search needs)
+    (λ c. search needs) loop-again returns)

@@ -14,36 +14,6 @@ Inv-loop m₀ w k pivots reciprocal i factor j₀ m j = each j w (eliminateEntry
 abbrev μ-loop : tie.MeasureT-loop
 μ-loop m₀ w k pivots reciprocal i factor j₀ m j = w - j
 
-entry-requires : tie.Need-entry-requires Inv-loop μ-loop
-entry-requires c κs = search needs
-
-set-entry-requires : tie.Need-set-entry-requires Inv-loop μ-loop
-set-entry-requires c κs = search needs
-
-add-j : tie.Need-add-j Inv-loop μ-loop
-add-j c = search needs
-
-loop-holds : tie.Need-loop-holds Inv-loop μ-loop
-loop-holds c = refl
-
-entry-requires-2 : tie.Need-entry-requires-2 Inv-loop μ-loop
-entry-requires-2 c κs = search needs
-
-mul-x : tie.Need-mul-x Inv-loop μ-loop
-mul-x c = search needs
-
-element-copy-out-x : tie.Need-element-copy-out-x Inv-loop μ-loop
-element-copy-out-x c = search needs
-
-set-entry-requires-2 : tie.Need-set-entry-requires-2 Inv-loop μ-loop
-set-entry-requires-2 c κs = search needs
-
-add-j-2 : tie.Need-add-j-2 Inv-loop μ-loop
-add-j-2 c = search needs
-
-loop-less : tie.Need-loop-less Inv-loop μ-loop
-loop-less c = search needs
-
 loop-again : tie.Need-loop-again Inv-loop μ-loop
 loop-again c =
     let l = c .before .before .before .before .before .before .loop in
@@ -63,18 +33,6 @@ returns c =
 pub eliminate-row-spec : {M : Type 1} → statement M
 eliminate-row-spec =
     tie.close
-    (tie.spec
-    Inv-loop
-    μ-loop
-    entry-requires
-    set-entry-requires
-    add-j
-    loop-holds
-    entry-requires-2
-    mul-x
-    element-copy-out-x
-    set-entry-requires-2
-    add-j-2
-    loop-less
-    loop-again
-    returns)
+    (tie.spec Inv-loop μ-loop (λ c κs. search needs) (λ c κs. search needs) (λ c. search needs) (λ c. refl)
+    (λ c κs. search needs) (λ c. search needs) (λ c. search needs) (λ c κs. search needs)
+    (λ c. search needs) (λ c. search needs) loop-again returns)

@@ -13,21 +13,6 @@ Inv-loop m₀ w k pivots reciprocal i₀ m i = each i w (eliminateRow w k pivots
 abbrev μ-loop : tie.MeasureT-loop
 μ-loop m₀ w k pivots reciprocal i₀ m i = w - i
 
-add-i : tie.Need-add-i Inv-loop μ-loop
-add-i c = search needs
-
-loop-holds : tie.Need-loop-holds Inv-loop μ-loop
-loop-holds c = refl
-
-eliminate-row-requires : tie.Need-eliminate-row-requires Inv-loop μ-loop
-eliminate-row-requires c κs = search needs
-
-add-i-2 : tie.Need-add-i-2 Inv-loop μ-loop
-add-i-2 c = search needs
-
-loop-less : tie.Need-loop-less Inv-loop μ-loop
-loop-less c = search needs
-
 loop-again : tie.Need-loop-again Inv-loop μ-loop
 loop-again c =
     let l = c .before .before .before .loop in
@@ -43,13 +28,5 @@ returns c =
 pub eliminate-rows-spec : {M : Type 1} → statement M
 eliminate-rows-spec =
     tie.close
-    (tie.spec
-    Inv-loop
-    μ-loop
-    add-i
-    loop-holds
-    eliminate-row-requires
-    add-i-2
-    loop-less
-    loop-again
-    returns)
+    (tie.spec Inv-loop μ-loop (λ c. search needs) (λ c. refl) (λ c κs. search needs) (λ c. search needs)
+    (λ c. search needs) loop-again returns)

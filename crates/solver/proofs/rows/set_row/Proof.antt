@@ -13,24 +13,6 @@ Inv-loop m₀ i r j₀ m j = each j 25 (setRowEntry i r) m ≡ each 0 25 (setRow
 abbrev μ-loop : tie.MeasureT-loop
 μ-loop m₀ i r j₀ m j = 25 - j
 
-loop-holds : tie.Need-loop-holds Inv-loop μ-loop
-loop-holds c = refl
-
-mul-set-entry : tie.Need-mul-set-entry Inv-loop μ-loop
-mul-set-entry c = search needs
-
-element-copy-out-set-entry : tie.Need-element-copy-out-set-entry Inv-loop μ-loop
-element-copy-out-set-entry c = search needs
-
-set-entry-requires : tie.Need-set-entry-requires Inv-loop μ-loop
-set-entry-requires c κs = search needs
-
-add-j : tie.Need-add-j Inv-loop μ-loop
-add-j c = search needs
-
-loop-less : tie.Need-loop-less Inv-loop μ-loop
-loop-less c = search needs
-
 loop-again : tie.Need-loop-again Inv-loop μ-loop
 loop-again c =
     let l = c .before .before .before .before .loop in
@@ -47,14 +29,5 @@ returns c =
 pub set-row-spec : {M : Type 1} → statement M
 set-row-spec =
     tie.close
-    (tie.spec
-    Inv-loop
-    μ-loop
-    loop-holds
-    mul-set-entry
-    element-copy-out-set-entry
-    set-entry-requires
-    add-j
-    loop-less
-    loop-again
-    returns)
+    (tie.spec Inv-loop μ-loop (λ c. refl) (λ c. search needs) (λ c. search needs) (λ c κs. search needs)
+    (λ c. search needs) (λ c. search needs) loop-again returns)

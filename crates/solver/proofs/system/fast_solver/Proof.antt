@@ -4,12 +4,6 @@ use borrow.Author.Needs.{needs}
 use Rattle.solver.proofs.system.fast_solver.Statement.{statement}
 use Rattle.solver.proofs.system.fast_solver.Tie as tie
 
-factor-requires : tie.Need-factor-requires
-factor-requires c κs = search needs
-
-substitute-requires : tie.Need-substitute-requires
-substitute-requires c κs = search needs
-
 returns : tie.Need-returns
 returns c =
     let s = c .before .before .before .before .before .before .before .before .before .before .before .before .before .before .before .before .before .before .before .before .before in
@@ -22,4 +16,4 @@ returns-2 c =
     sym (solver-refused (s .args .a) (s .args .b) _ _ _ _ (c .before .factor .ensures) (c .if1 .left))
 
 pub fast-solver-spec : {M : Type 1} → statement M
-fast-solver-spec = tie.close (tie.spec factor-requires substitute-requires returns returns-2)
+fast-solver-spec = tie.close (tie.spec (λ c κs. search needs) (λ c κs. search needs) returns returns-2)

@@ -16,47 +16,11 @@ Inv-loop b n v₀ e₀ v e = each e n (gatherInner b) v ≡ each 0 n (gatherInne
 abbrev μ-loop : tie.MeasureT-loop
 μ-loop b n v₀ e₀ v e = n - e
 
-loop-holds : tie.Need-loop-holds Inv-loop μ-loop
-loop-holds c = refl
-
-mul-v : tie.Need-mul-v Inv-loop μ-loop
-mul-v c = search needs
-
-add-v : tie.Need-add-v Inv-loop μ-loop
-add-v c = search needs
-
-mul-v-2 : tie.Need-mul-v-2 Inv-loop μ-loop
-mul-v-2 c = search needs
-
-element-copy-out-v : tie.Need-element-copy-out-v Inv-loop μ-loop
-element-copy-out-v c = search needs
-
-mul-v-3 : tie.Need-mul-v-3 Inv-loop μ-loop
-mul-v-3 c = search needs
-
-array-write-v : tie.Need-array-write-v Inv-loop μ-loop
-array-write-v c = search needs
-
-add-e : tie.Need-add-e Inv-loop μ-loop
-add-e c = search needs
-
-loop-less : tie.Need-loop-less Inv-loop μ-loop
-loop-less c = search needs
-
 loop-again : tie.Need-loop-again Inv-loop μ-loop
 loop-again c =
     let l = c .before .before .loop in
     let s = c .before .before .before in
     sym (each-next (gatherInner (s .args .b .now)) (l .e) (s .args .n) (l .v) (c .before .loop-test .taken)) ∙ l .inv
-
-element-copy-out-v-2 : tie.Need-element-copy-out-v-2 Inv-loop μ-loop
-element-copy-out-v-2 c = search needs
-
-mul-v-4 : tie.Need-mul-v-4 Inv-loop μ-loop
-mul-v-4 c = search needs
-
-array-write-v-2 : tie.Need-array-write-v-2 Inv-loop μ-loop
-array-write-v-2 c = search needs
 
 returns : tie.Need-returns Inv-loop μ-loop
 unfolding gatherDense
@@ -68,20 +32,6 @@ returns c =
 pub gather-dense-spec : {M : Type 1} → statement M
 gather-dense-spec =
     tie.close
-    (tie.spec
-    Inv-loop
-    μ-loop
-    loop-holds
-    mul-v
-    add-v
-    mul-v-2
-    element-copy-out-v
-    mul-v-3
-    array-write-v
-    add-e
-    loop-less
-    loop-again
-    element-copy-out-v-2
-    mul-v-4
-    array-write-v-2
-    returns)
+    (tie.spec Inv-loop μ-loop (λ c. refl) (λ c. search needs) (λ c. search needs) (λ c. search needs)
+    (λ c. search needs) (λ c. search needs) (λ c. search needs) (λ c. search needs) (λ c. search needs)
+    loop-again (λ c. search needs) (λ c. search needs) (λ c. search needs) returns)

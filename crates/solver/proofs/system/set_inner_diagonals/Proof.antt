@@ -13,30 +13,6 @@ Inv-loop diag n m₀ e₀ dense e = each e n (setInnerDiagonal diag) dense ≡ e
 abbrev μ-loop : tie.MeasureT-loop
 μ-loop diag n m₀ e₀ dense e = n - e
 
-loop-holds : tie.Need-loop-holds Inv-loop μ-loop
-loop-holds c = refl
-
-mul-set-entry : tie.Need-mul-set-entry Inv-loop μ-loop
-mul-set-entry c = search needs
-
-add-set-entry : tie.Need-add-set-entry Inv-loop μ-loop
-add-set-entry c = search needs
-
-mul-set-entry-2 : tie.Need-mul-set-entry-2 Inv-loop μ-loop
-mul-set-entry-2 c = search needs
-
-element-copy-out-set-entry : tie.Need-element-copy-out-set-entry Inv-loop μ-loop
-element-copy-out-set-entry c = search needs
-
-set-entry-requires : tie.Need-set-entry-requires Inv-loop μ-loop
-set-entry-requires c κs = search needs
-
-add-e : tie.Need-add-e Inv-loop μ-loop
-add-e c = search needs
-
-loop-less : tie.Need-loop-less Inv-loop μ-loop
-loop-less c = search needs
-
 loop-again : tie.Need-loop-again Inv-loop μ-loop
 loop-again c =
     let l = c .before .before .before .before .loop in
@@ -53,16 +29,5 @@ returns c =
 pub set-inner-diagonals-spec : {M : Type 1} → statement M
 set-inner-diagonals-spec =
     tie.close
-    (tie.spec
-    Inv-loop
-    μ-loop
-    loop-holds
-    mul-set-entry
-    add-set-entry
-    mul-set-entry-2
-    element-copy-out-set-entry
-    set-entry-requires
-    add-e
-    loop-less
-    loop-again
-    returns)
+    (tie.spec Inv-loop μ-loop (λ c. refl) (λ c. search needs) (λ c. search needs) (λ c. search needs)
+    (λ c. search needs) (λ c κs. search needs) (λ c. search needs) (λ c. search needs) loop-again returns)

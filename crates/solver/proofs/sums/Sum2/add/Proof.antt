@@ -3,8 +3,5 @@ use mathlib.Core.Path.{refl}
 use Rattle.solver.proofs.sums.Sum2.add.Statement.{statement}
 use Rattle.solver.proofs.sums.Sum2.add.Tie as tie
 
-returns : tie.Need-returns
-returns c = refl
-
 pub add-spec : {M : Type 1} → statement M
-add-spec = tie.close (tie.spec returns)
+add-spec = tie.close (tie.spec (λ c. refl))

@@ -1,0 +1,118 @@
+-- The plain book of document 01: a head's bytes and the items that it holds, and nothing else. Whatever else it has is worked out from these.
+use mathlib.Core.Bool.{cond}
+use mathlib.Core.Path.{_≡_}
+use mathlib.Core.List.{List, [], _∷_, _++_, map}
+use mathlib.Core.Option.{Option, none, some}
+use Prim.Native.Nat.{ℕ, _+_, _≤_}
+use lib.ListN.{length, take}
+use lib.Dec.{leb, ltb}
+use Rattle.zone.specs.Promise.{Result, ok, refused, bind, require}
+use Rattle.book.specs.Model.Bytes.{concat}
+use Rattle.book.specs.Model.Layers.{Layers}
+use Rattle.book.specs.Model.Calls.{Values}
+
+-- "It holds a head's bytes and hours"
+pub data Plain (Item : Type 0) : Type 0 where
+  empty : Plain Item
+  book : (head : List ℕ) → (items : List Item) → Plain Item
+
+-- what is seen of a book: its used bytes, and the values that belong to it
+pub record View (State : Type 0) : Type 0 where
+  pub bytes : List ℕ
+  pub values : Values State
+
+module _ {State : Type 0} where
+  -- the bytes of entries, one behind the other
+  abbrev pub entryBytes : List (List ℕ × State) → List ℕ
+  entryBytes es = concat (map (λ e. e .0) es)
+
+  -- the state after entries, at first s
+  abbrev pub lastState : (s : State) → List (List ℕ × State) → State
+  lastState s [] = s
+  lastState s (e ∷ es) = lastState (e .1) es
+
+-- what belongs to a head and items: the zone, start-up's state, and per item its entry with the state after it
+pub record Contents (L : Layers) : Type 0 where
+  pub zone : L .Zone
+  pub start : L .State
+  pub entries : List (List ℕ × L .State)
+
+module _ (L : Layers) where
+  -- "per hour the entry that demand 2's hour step gives from the node temperatures before it": from index k and state s on
+  unfoldable pub entries : L .Zone → (k : ℕ) → L .State → List (L .Item) → Result (List (List ℕ × L .State))
+  entries z k s [] = ok []
+  entries z k s (i ∷ is) =
+      bind (L .step z k s i) λ e.
+      bind (entries z (k + 1) (e .1) is) λ es.
+      ok (e ∷ es)
+
+  -- ".. at first start-up's"
+  unfoldable pub contents : (head : List ℕ) → List (L .Item) → Result (Contents L)
+  contents head is =
+      bind (L .headOf head) λ h.
+      bind (L .startUp (h .0)) λ s.
+      bind (entries (h .0) 0 s is) λ es.
+      ok (record { zone = h .0; start = s; entries = es })
+
+  -- "Its used bytes are the head, then per hour the entry"
+  abbrev pub usedBytes : (head : List ℕ) → Contents L → List ℕ
+  usedBytes head c = head ++ entryBytes (c .entries)
+
+  -- "its count, used length and temperatures are the number of these entries, the length of these bytes and the last node temperatures"
+  abbrev pub ownValues : (head : List ℕ) → Contents L → Values (L .State)
+  ownValues head c = record { state = lastState (c .start) (c .entries); count = length (c .entries); used = length (usedBytes head c) }
+
+  abbrev pub viewOf : (head : List ℕ) → Result (Contents L) → Option (View (L .State))
+  viewOf head (ok c) = some (record { bytes = usedBytes head c; values = ownValues head c })
+  viewOf head (refused n j) = none
+
+  unfoldable pub view : Plain (L .Item) → Option (View (L .State))
+  view empty = none
+  view (book head is) = viewOf head (contents head is)
+
+  -- ---- what a begin, an append and a cut make of it, or the refusal
+
+  -- "Begin: its head, no hours."
+  unfoldable pub beginPlain : (head buf : List ℕ) → Result (Plain (L .Item))
+  beginPlain head buf =
+      bind (L .headOf head) λ h.
+      bind (L .startUp (h .0)) λ s.
+      bind (require (leb (h .1) (length buf)) 16) λ _.
+      ok (book (take (h .1) head) [])
+
+  -- "Append: its hour added." `spare` are the bytes of the lent buffer behind the used ones.
+  unfoldable pub appendPlain : (head : List ℕ) (is : List (L .Item)) → L .Item → (spare : List ℕ) → Result (Plain (L .Item))
+  appendPlain head is i spare =
+      bind (contents head is) λ c.
+      bind (require (ltb (ownValues head c .count) (L .limit)) 17) λ _.
+      bind (L .appendStep (c .zone) (ownValues head c .count) (ownValues head c .state) i) λ e.
+      bind (require (leb (length (e .0)) (length spare)) 16) λ _.
+      ok (book head (is ++ (i ∷ [])))
+
+  -- the items whose entries end by byte `at`, where the first of the entries begins at byte `b`
+  unfoldable pub itemsEndingBy : (at b : ℕ) → List (L .Item) → List (List ℕ × L .State) → List (L .Item)
+  itemsEndingBy at b [] es = []
+  itemsEndingBy at b (i ∷ is) [] = []
+  itemsEndingBy at b (i ∷ is) (e ∷ es) =
+      cond
+      (leb (b + length (e .0)) at)
+      (i ∷ itemsEndingBy at (b + length (e .0)) is es)
+      (itemsEndingBy at (b + length (e .0)) is es)
+
+  -- "Cut at a byte from the head's end to the used length: .. hours whose entries end by then stay."
+  unfoldable pub cutPlain : (head : List ℕ) (is : List (L .Item)) → (at : ℕ) → Result (Plain (L .Item))
+  cutPlain head is at =
+      bind (contents head is) λ c.
+      ok (book head (itemsEndingBy at (length head) is (c .entries)))
+
+  -- A plain book as lists of calls leave it: its bytes are a head, and head, start-up and items are all accepted, at most 8,784 items
+  pub record WellFormed (head : List ℕ) (is : List (L .Item)) : Type 0 where
+    pub contents : Contents L
+    pub head-is : L .headOf head ≡ ok (contents .zone, length head)
+    pub start-is : L .startUp (contents .zone) ≡ ok (contents .start)
+    pub entries-are : entries (contents .zone) 0 (contents .start) is ≡ ok (contents .entries)
+    pub within-limit : length is ≤ L .limit
+
+  abbrev pub wellFormed : Plain (L .Item) → Type 0
+  wellFormed empty = Unit {0}
+  wellFormed (book head is) = WellFormed head is

@@ -1,7 +1,0 @@
--- Laws of the book's definitions, which its theorems and the functions' proofs cite.
-pub mod Bytes
-pub mod Entries
-pub mod Checking
-pub mod Reading
-pub mod ByIndex
-pub mod Refusals

@@ -1,0 +1,42 @@
+use mathlib.Core.Logic.{⊎-elim}
+use borrow.Author.Tests.{lt-ltb, le-ltb}
+use mathlib.Core.Path.{_≡_, refl, sym, _∙_}
+use Prim.Native.Nat.{_-_}
+use Rattle.solver.specs.Each.{each}
+use Rattle.solver.specs.Lu.{applyInterchange, applyInterchanges}
+use Rattle.solver.proofs.Laws.Counting.{each-next, each-done}
+use borrow.Author.Needs.{needs}
+use Rattle.solver.proofs.lu.apply_interchanges.Statement.{statement}
+use Rattle.solver.proofs.lu.apply_interchanges.Tie as tie
+
+abbrev Inv-loop : tie.InvT-loop
+Inv-loop b₀ interchanges w k₀ b k = each k w (applyInterchange interchanges) b ≡ each 0 w (applyInterchange interchanges) b₀
+
+abbrev μ-loop : tie.MeasureT-loop
+μ-loop b₀ interchanges w k₀ b k = w - k
+
+-- after the `if`
+changed : (c : tie.Joined1 Inv-loop μ-loop) →
+    c .if1 .b ≡ applyInterchange (c .before .before .before .before .args .interchanges .now) (c .before .before .before .loop .k) (c .before .before .before .loop .b)
+changed c =
+    ⊎-elim (λ w. rw (lt-ltb _ _ (w .0 .taken)) (w .3)) (λ w. rw (le-ltb _ _ (w .0 .left)) (w .1)) (c .if1 .came)
+
+loop-again : tie.Need-loop-again Inv-loop μ-loop
+loop-again c =
+    let s = c .before .before .before .before in
+    let l = c .before .before .before .loop in
+    rw (changed c) (sym (each-next (applyInterchange (s .args .interchanges .now)) (l .k) (s .args .w) (l .b) (c .before .before .loop-test .taken)) ∙ l .inv)
+
+returns : tie.Need-returns Inv-loop μ-loop
+unfolding applyInterchanges
+returns c =
+    let l = c .before .loop in
+    let s = c .before .before in
+    sym (each-done (applyInterchange (s .args .interchanges .now)) (l .k) (s .args .w) (l .b) (c .loop-test .left)) ∙ l .inv
+
+pub apply-interchanges-spec : {M : Type 1} → statement M
+apply-interchanges-spec =
+    tie.close
+    (tie.spec Inv-loop μ-loop (λ c. refl) (λ c. search needs) (λ c. search needs) (λ c. search needs)
+    (λ c. search needs) (λ c. search needs) (λ c. search needs) (λ c. search needs) (λ c. search needs)
+    (λ c. search needs) (λ c. search needs) (λ c. search needs) (λ c. search needs) loop-again returns)

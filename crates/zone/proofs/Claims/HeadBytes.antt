@@ -1,0 +1,229 @@
+-- An accepted head's zone determines its bytes.
+use Prim.Native.Nat.{ℕ, suc, zero, _+_, _*_, _-_, _≤_}
+use mathlib.Core.Path.{_≡_, refl, sym, ap, _∙_}
+use mathlib.Core.Bool.{Bool, true, _&&_}
+use mathlib.Core.List.{List, [], _∷_, _++_}
+use native.Mathlib.Omega.{arith}
+use borrow.Author.Tests.{leb-true}
+use lib.Dec.{leb}
+use lib.ListN.{length, take, getD, replicate}
+use lib.Seq.{take-at}
+use lib.Ieee.{Float}
+use Rattle.solver.specs.F64.{zero64}
+use Rattle.solver.specs.Result.{ok, bind-ok, requireAt, require-ok}
+use Rattle.zone.specs.Format.Bytes.{numAt, floatAt, bytesOf}
+use Rattle.zone.specs.Format.ElementLayout.{kCount, hCount, kindOf, kindAt, treatmentsAt, maxTreatments, sizeAt}
+use Rattle.zone.specs.Format.Decode.{floatsAt, elementHourAt, elementAt, elementsAt, basisOf, zoneAt}
+use Rattle.zone.specs.Check.Ranges.{areaRange, pitchRange, coefficientRange, hPliRange, kPliRange, fractionRange, skyRange, deltaRRange, temperatureRange, heatingSetpointRange, setpointRange, limitRange, allIn, openWithin}
+use Rattle.zone.specs.Check.ZoneTest.{elementHourInRange, arraysInRange, tailInRange, elementInRange, frontInRange, elementValuesTest, valuesTest}
+use Rattle.zone.specs.Format.Head.{elementsEnd, headOf}
+use Rattle.zone.specs.Format.Encode.{rowBytes, elementHourBytes, kindNumber, basisNumber, elementBytes, elementsBytes, headBytes}
+use Rattle.zone.specs.declared.record.zone_record.Zone.{Zone}
+use Rattle.solver.proofs.Laws.Tests.{and-true}
+use Rattle.zone.proofs.Laws.ElementLayout.{shaped, treatments-few}
+use Rattle.zone.proofs.Laws.Structure.{Whole, whole-of, Structured, structured}
+use Rattle.zone.proofs.Laws.RoundTrip.{Bytes, Number, Numbers, part, part-add, part-one, number-part, row-part}
+use Rattle.zone.proofs.Laws.Numbers.{area-number, pitch-number, coefficient-number, hPli-number, kPli-number, fraction-number, sky-number, deltaR-number, temperature-number, heatingSetpoint-number, setpoint-number}
+use Rattle.zone.proofs.Claims.Head.{accepted, zone-elements, sizes, end-is}
+use Rattle.zone.proofs.Claims.ConditionsBytes.{six, hour-part}
+
+pub kind-back : (k : ℕ) → k ≤ 5 → kindNumber (kindOf k) ≡ k
+unfolding kindOf
+kind-back zero h = refl
+kind-back (suc zero) h = refl
+kind-back (suc (suc zero)) h = refl
+kind-back (suc (suc (suc zero))) h = refl
+kind-back (suc (suc (suc (suc zero)))) h = refl
+kind-back (suc (suc (suc (suc (suc zero))))) h = refl
+kind-back (suc (suc (suc (suc (suc (suc k)))))) h = absurd (omega arith)
+
+basis-back : (b : ℕ) → b ≤ 1 → basisNumber (basisOf b) ≡ b
+basis-back zero h = refl
+basis-back (suc zero) h = refl
+basis-back (suc (suc b)) h = absurd (omega arith)
+
+all-numbers : (range : Float → Bool) → ((x : Float) → range x ≡ true → Number x) → (xs : List Float) → allIn range xs ≡ true → Numbers xs
+unfolding allIn Numbers
+all-numbers range f [] e = tt
+all-numbers range f (x ∷ xs) e = let r = and-true (range x) (allIn range xs) e in (f x (r .0), all-numbers range f xs (r .1))
+
+length-floats : (s : List ℕ) (p n : ℕ) → length (floatsAt s p n) ≡ n
+unfolding floatsAt
+length-floats s p zero = refl
+length-floats s p (suc n) = ap suc (length-floats s (p + 8) n)
+
+front-floats : (s : List ℕ) (p n m : ℕ) → take n (floatsAt s p n ++ replicate m zero64) ≡ floatsAt s p n
+front-floats s p n m = take-at (floatsAt s p n) (replicate m zero64) n (length-floats s p n)
+
+seven-floats : (s : List ℕ) (p : ℕ)
+    → floatsAt s (p + 2) 7
+    ≡ floatAt s (p + 2) ∷ floatAt s (p + 10) ∷ floatAt s (p + 18) ∷ floatAt s (p + 26) ∷ floatAt s (p + 34) ∷ floatAt s (p + 42) ∷ floatAt s (p + 50) ∷ []
+unfolding floatsAt
+seven-floats s p =
+    let e1 : p + 2 + 8 ≡ p + 10 = omega arith in
+    let e2 : p + 10 + 8 ≡ p + 18 = omega arith in
+    let e3 : p + 18 + 8 ≡ p + 26 = omega arith in
+    let e4 : p + 26 + 8 ≡ p + 34 = omega arith in
+    let e5 : p + 34 + 8 ≡ p + 42 = omega arith in
+    let e6 : p + 42 + 8 ≡ p + 50 = omega arith in
+    rw (e1, e2, e3, e4, e5, e6)
+
+-- what the tests of an element tell of its floats
+record Told (s : List ℕ) (p t kc hc : ℕ) : Type 0 where
+  seven : Numbers (floatsAt s (p + 2) 7)
+  ks : Numbers (floatsAt s (p + 58) kc)
+  hs : Numbers (floatsAt s (p + 58 + 8 * kc) hc)
+  ds : Numbers (floatsAt s (p + 58 + 8 * kc + 8 * hc) t)
+  hour : elementHourInRange (elementHourAt s (p + 58 + 8 * kc + 8 * hc + 8 * t)) ≡ true
+
+arrays-told : (s : List ℕ) (t kc hc at ah ad m1 m2 m3 : ℕ)
+    → arraysInRange kc hc t (floatsAt s at kc ++ replicate m1 zero64) (floatsAt s ah hc ++ replicate m2 zero64) (floatsAt s ad t ++ replicate m3 zero64) ≡ true
+    → Numbers (floatsAt s at kc) × Numbers (floatsAt s ah hc) × Numbers (floatsAt s ad t)
+unfolding arraysInRange
+arrays-told s t kc hc at ah ad m1 m2 m3 e =
+    let f : (allIn kPliRange (floatsAt s at kc) && allIn hPliRange (floatsAt s ah hc) && allIn deltaRRange (floatsAt s ad t)) ≡ true =
+    rw (front-floats s at kc m1, front-floats s ah hc m2, front-floats s ad t m3) at e in
+    let a = and-true (allIn kPliRange (floatsAt s at kc) && allIn hPliRange (floatsAt s ah hc)) (allIn deltaRRange (floatsAt s ad t)) f in
+    let b = and-true (allIn kPliRange (floatsAt s at kc)) (allIn hPliRange (floatsAt s ah hc)) (a .0) in (
+      all-numbers kPliRange kPli-number (floatsAt s at kc) (b .0),
+      all-numbers hPliRange hPli-number (floatsAt s ah hc) (b .1),
+      all-numbers deltaRRange deltaR-number (floatsAt s ad t) (a .1),
+    )
+
+told : (s : List ℕ) (p : ℕ) → elementInRange (elementAt s p) ≡ true → Told s p (treatmentsAt s p) (kCount (kindAt s p)) (hCount (kindAt s p))
+unfolding elementInRange tailInRange Numbers
+told s p e =
+    let k = kindAt s p in
+    let t = treatmentsAt s p in
+    let at = p + 58 in
+    let ah = p + 58 + 8 * kCount k in
+    let ad = p + 58 + 8 * kCount k + 8 * hCount k in
+    let hour = elementHourAt s (p + 58 + 8 * kCount k + 8 * hCount k + 8 * t) in
+    let arrays = arraysInRange (kCount k) (hCount k) t (elementAt s p .«k_pli») (elementAt s p .«h_pli») (elementAt s p .«delta_r») in
+    let open-good = openWithin t (hour .«treatments_open») in
+    let six-good = areaRange (floatAt s (p + 2)) && pitchRange (floatAt s (p + 10)) && coefficientRange (floatAt s (p + 18)) && coefficientRange (floatAt s (p + 26)) && coefficientRange (floatAt s (p + 34)) && fractionRange (floatAt s (p + 42)) in
+    let a = and-true (six-good && skyRange (floatAt s (p + 50))) (arrays && elementHourInRange hour && open-good) e in
+    let b = and-true six-good (skyRange (floatAt s (p + 50))) (a .0) in
+    let r =
+    six (areaRange (floatAt s (p + 2))) (pitchRange (floatAt s (p + 10))) (coefficientRange (floatAt s (p + 18))) (coefficientRange (floatAt s (p + 26))) (coefficientRange (floatAt s (p + 34))) (fractionRange (floatAt s (p + 42))) (b .0) in
+    let d = and-true (arrays && elementHourInRange hour) open-good (a .1) in
+    let f = and-true arrays (elementHourInRange hour) (d .0) in
+    let n = arrays-told s t (kCount k) (hCount k) at ah ad (5 - kCount k) (4 - hCount k) (4 - t) (f .0) in
+    record {
+      seven =
+          rw (seven-floats s p)
+          (area-number (floatAt s (p + 2)) (r .0), (pitch-number (floatAt s (p + 10)) (r .1), (coefficient-number (floatAt s (p + 18)) (r .2), (coefficient-number (floatAt s (p + 26)) (r .3), (coefficient-number (floatAt s (p + 34)) (r .4), (fraction-number (floatAt s (p + 42)) (r .5), (sky-number (floatAt s (p + 50)) (b .1), tt)))))));
+      ks = n .0;
+      hs = n .1;
+      ds = n .2;
+      hour = f .1;
+    }
+
+module _ (s : List ℕ) (b : Bytes s) where
+  -- an element's bytes past the first two
+  rest-part : (p t kc hc : ℕ) → p + (99 + 8 * kc + 8 * hc + 8 * t) ≤ length s → Told s p t kc hc
+      → rowBytes (floatsAt s (p + 2) 7) ++ (rowBytes (floatsAt s (p + 58) kc) ++ (rowBytes (floatsAt s (p + 58 + 8 * kc) hc) ++ (rowBytes (floatsAt s (p + 58 + 8 * kc + 8 * hc) t) ++ elementHourBytes (elementHourAt s (p + 58 + 8 * kc + 8 * hc + 8 * t)))))
+      ≡ part s (p + 2) (56 + (8 * kc + (8 * hc + (8 * t + 41))))
+  rest-part p t kc hc h w =
+      let e : p + 2 + 56 ≡ p + 58 = omega arith in
+      rw (
+        part-add s (p + 2) 56 (8 * kc + (8 * hc + (8 * t + 41))),
+        e,
+        part-add s (p + 58) (8 * kc) (8 * hc + (8 * t + 41)),
+        part-add s (p + 58 + 8 * kc) (8 * hc) (8 * t + 41),
+        part-add s (p + 58 + 8 * kc + 8 * hc) (8 * t) 41,
+        row-part s b (p + 2) 7 (omega arith) (w .seven),
+        row-part s b (p + 58) kc (omega arith) (w .ks),
+        row-part s b (p + 58 + 8 * kc) hc (omega arith) (w .hs),
+        row-part s b (p + 58 + 8 * kc + 8 * hc) t (omega arith) (w .ds),
+        hour-part s b (p + 58 + 8 * kc + 8 * hc + 8 * t) (omega arith) (w .hour),
+      )
+
+  front-part : (p m : ℕ) → p + 2 ≤ length s → part s p (2 + m) ≡ getD s p 0 ∷ getD s (p + 1) 0 ∷ part s (p + 2) m
+  front-part p m h =
+      let e : 2 + m ≡ 1 + (1 + m) = omega arith in
+      let f : p + 1 + 1 ≡ p + 2 = omega arith in
+      rw (e, part-add s p 1 (1 + m), part-add s (p + 1) 1 m, part-one s p (omega arith), part-one s (p + 1) (omega arith), f)
+
+  element-part : (end left i p q : ℕ) → end ≤ length s → Whole s end left i p q → elementInRange (elementAt s p) ≡ true → elementBytes (elementAt s p) ≡ part s p (sizeAt s p)
+  unfolding elementBytes
+  element-part end left i p q h w e =
+      let k = kindAt s p in
+      let t = treatmentsAt s p in
+      let f = shaped k t (treatments-few (getD s p 0) t (w .kind-valid)) in
+      let z : sizeAt s p ≡ 2 + (56 + (8 * kCount k + (8 * hCount k + (8 * t + 41)))) = omega (arith, f .sized) in
+      let five : getD s p 0 ≤ 5 = leb-true (getD s p 0) 5 (and-true (leb (getD s p 0) 5) (leb t (maxTreatments k)) (w .kind-valid) .0) in
+      sym
+      (ap (part s p) z
+      ∙ front-part p (56 + (8 * kCount k + (8 * hCount k + (8 * t + 41)))) (omega (arith, w .front))
+      ∙ ap (λ (l : List ℕ). getD s p 0 ∷ t ∷ l) (sym (rest-part p t (kCount k) (hCount k) (omega (arith, f .sized, w .rest)) (told s p e)))
+      ∙ sym (rw (kind-back (getD s p 0) five, front-floats s (p + 58) (kCount k) (5 - kCount k), front-floats s (p + 58 + 8 * kCount k) (hCount k) (4 - hCount k), front-floats s (p + 58 + 8 * kCount k + 8 * hCount k) t (4 - t), seven-floats s p)))
+
+  elements-part : (end left i p q j : ℕ) → end ≤ length s → elementsEnd s end left i p ≡ ok q → elementValuesTest (elementsAt s p left) j ≡ ok tt
+      → elementsBytes (elementsAt s p left) ≡ part s p (sizes (elementsAt s p left))
+  unfolding elementsAt elementsBytes sizes elementValuesTest
+  elements-part end zero i p q j h e v = refl
+  elements-part end (suc left) i p q j h e v =
+      let w = whole-of s end left i p q e in
+      let x = bind-ok (requireAt (elementInRange (elementAt s p)) 5 j) _ tt v in
+      let good = require-ok (elementInRange (elementAt s p)) 5 j (x .0) (x .1) in
+      ap (λ (l : List ℕ). l ++ elementsBytes (elementsAt s (p + sizeAt s p) left)) (element-part end left i p q h w good)
+      ∙ ap (λ (l : List ℕ). part s p (sizeAt s p) ++ l) (elements-part end left (i + 1) (p + sizeAt s p) q (j + 1) h (w .on) (x .2))
+      ∙ sym (part-add s p (sizeAt s p) (sizes (elementsAt s (p + sizeAt s p) left)))
+
+  front-numbers : frontInRange (zoneAt s) ≡ true → Numbers (floatsAt s 9 6)
+  unfolding frontInRange zoneAt Numbers floatsAt
+  front-numbers e =
+      let r =
+      six (limitRange (numAt s 7 2) && areaRange (floatAt s 9)) (areaRange (floatAt s 17)) (coefficientRange (floatAt s 25)) (temperatureRange (floatAt s 33)) (heatingSetpointRange (floatAt s 41)) (setpointRange (floatAt s 49)) e in
+      let a = and-true (limitRange (numAt s 7 2)) (areaRange (floatAt s 9)) (r .0) in
+      (area-number (floatAt s 9) (a .1), (area-number (floatAt s 17) (r .1), (coefficient-number (floatAt s 25) (r .2), (temperature-number (floatAt s 33) (r .3), (heatingSetpoint-number (floatAt s 41) (r .4), (setpoint-number (floatAt s 49) (r .5), tt))))))
+
+  six-part : 57 ≤ length s → frontInRange (zoneAt s) ≡ true → rowBytes (floatAt s 9 ∷ floatAt s 17 ∷ floatAt s 25 ∷ floatAt s 33 ∷ floatAt s 41 ∷ floatAt s 49 ∷ []) ≡ part s 9 48
+  unfolding floatsAt
+  six-part h e = row-part s b 9 6 (omega arith) (front-numbers e)
+
+  -- the front, with what follows it
+  front-bytes : (n m : ℕ) → Structured s n → frontInRange (zoneAt s) ≡ true → n - 4 ≡ numAt s 0 4 → n ≡ 57 + m
+      → bytesOf 4 (n - 4) ++ (1 ∷ basisNumber (basisOf (getD s 5 0)) ∷ getD s 6 0 ∷ (bytesOf 2 (numAt s 7 2) ++ (rowBytes (floatAt s 9 ∷ floatAt s 17 ∷ floatAt s 25 ∷ floatAt s 33 ∷ floatAt s 41 ∷ floatAt s 49 ∷ []) ++ part s 57 m)))
+      ≡ take n s
+  front-bytes n m q good four ends =
+      let total : n ≡ 4 + (1 + (1 + (1 + (2 + (48 + m))))) = omega (arith, ends) in
+      let room : 57 ≤ length s = omega (arith, q .low, q .there) in
+      rw (four, basis-back (getD s 5 0) (q .basis), number-part s b 0 4 (omega arith), number-part s b 7 2 (omega arith), six-part room good)
+      (sym
+      (ap (part s 0) total
+      ∙ rw (
+        part-add s 0 4 (1 + (1 + (1 + (2 + (48 + m))))),
+        part-add s 4 1 (1 + (1 + (2 + (48 + m)))),
+        part-add s 5 1 (1 + (2 + (48 + m))),
+        part-add s 6 1 (2 + (48 + m)),
+        part-add s 7 2 (48 + m),
+        part-add s 9 48 m,
+        part-one s 4 (omega arith),
+        part-one s 5 (omega arith),
+        part-one s 6 (omega arith),
+        q .version,
+      )))
+
+  head-part : (n : ℕ) → Structured s n → valuesTest (zoneAt s) ≡ ok tt → headBytes n (zoneAt s) ≡ take n s
+  unfolding headBytes valuesTest zoneAt
+  head-part n q v =
+      let x = bind-ok (requireAt (frontInRange (zoneAt s)) 5 0) _ tt v in
+      let good = require-ok (frontInRange (zoneAt s)) 5 0 (x .0) (x .1) in
+      let es = elementsAt s 57 (getD s 6 0) in
+      let values : elementValuesTest es 1 ≡ ok tt = rw (zone-elements s) at (x .2) in
+      let ends : n ≡ 57 + sizes es = end-is s n (getD s 6 0) 0 57 n (q .elements) in
+      let four : n - 4 ≡ numAt s 0 4 = omega (arith, q .ends) in
+      rw (zone-elements s, elements-part n (getD s 6 0) 0 57 n 1 (q .there) (q .elements) values) (front-bytes n (sizes es) q good four ends)
+
+-- an accepted head is the bytes of its zone
+pub head-bytes : (bs : List ℕ) (z : Zone) (n : ℕ) → Bytes bs → headOf bs ≡ ok (z, n) → take n bs ≡ headBytes n z
+head-bytes bs z n b e =
+    let a = accepted bs z n e in
+    let v : valuesTest (zoneAt bs) ≡ ok tt = rw (← a .zone) (a .values) in
+    sym (ap (headBytes n) (a .zone) ∙ head-part bs b n (structured bs n (a .structure)) v)
+
+-- so no two heads of one length hold the same zone
+pub head-injective : (a b : List ℕ) (z : Zone) (n : ℕ) → Bytes a → Bytes b → headOf a ≡ ok (z, n) → headOf b ≡ ok (z, n) → take n a ≡ take n b
+head-injective a b z n ba bb ea eb = head-bytes a z n ba ea ∙ sym (head-bytes b z n bb eb)

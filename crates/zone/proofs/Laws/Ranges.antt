@@ -1,0 +1,75 @@
+-- The tests of lists and elements, one by one.
+use Prim.Native.Nat.{ℕ, _+_, _*_, _%_, _^_, _<_, _≤_}
+use mathlib.Core.Path.{_≡_, refl}
+use mathlib.Core.Bool.{Bool, true, false, _&&_}
+use mathlib.Core.List.{List}
+use native.Mathlib.Omega.{arith}
+use native.Mathlib.Nat.{mod-eq-of-lt, one-mul}
+use borrow.Author.Tests.{le-leb, lt-leb, leb-true}
+use lib.Pow.{pow-mono}
+use lib.Dec.{leb}
+use lib.ListN.{length, take, drop, getD}
+use lib.Ieee.{Float, nan}
+use Rattle.solver.specs.Result.{Result, ok, refused, bind-ok, requireAt, require-ok}
+use Rattle.zone.specs.Format.ElementLayout.{maxTreatments}
+use Rattle.zone.specs.Check.Ranges.{allIn}
+use Rattle.zone.specs.Check.ZoneTest.{elementInRange, elementValuesTest, treatmentsTest, countsTest, verdictOf}
+use Rattle.zone.specs.declared.record.building_element.Element.{Element}
+use Rattle.zone.specs.declared.record.zone_record.Zone.{Zone}
+use Rattle.zone.specs.declared.record.zone_record.Verdict.the-variants.{Accepted, Refused}
+use Rattle.zone.proofs.Laws.Lists.{from}
+use Rattle.solver.proofs.Laws.Tests.{and-true}
+
+module _ (range : Float → Bool) (a : List Float) (i n : ℕ) (h : i < n) (r : n ≤ length a) where
+  pub one-out : range (getD a i nan) ≡ false → allIn range (drop i (take n a)) ≡ false
+  unfolding allIn
+  one-out e = rw (from a i n nan h r, e)
+
+  pub one-in : range (getD a i nan) ≡ true → allIn range (drop i (take n a)) ≡ allIn range (drop (i + 1) (take n a))
+  unfolding allIn
+  one-in e = rw (from a i n nan h r, e)
+
+pub small-power : (t : ℕ) → t < 8 → (1 * 2 ^ t) % 256 ≡ 2 ^ t
+small-power t h =
+    let less : 2 ^ t < 256 = omega (arith, pow-mono {i = t} {j = 7} (omega arith)) in
+    rw one-mul (mod-eq-of-lt less)
+
+-- a byte is below any power from the eighth on
+pub byte-below : (b t : ℕ) → b < 256 → 8 ≤ t → b < 2 ^ t
+byte-below b t h r = omega (arith, pow-mono {i = 8} {j = t} r)
+
+module _ (es : List Element) (d : Element) (i n : ℕ) (h : i < n) (r : n ≤ length es) where
+  pub element-out : elementInRange (getD es i d) ≡ false → elementValuesTest (drop i (take n es)) (i + 1) ≡ refused 5 (i + 1)
+  unfolding elementValuesTest
+  element-out e = rw (from es i n d h r, e)
+
+  pub element-in : elementInRange (getD es i d) ≡ true → elementValuesTest (drop i (take n es)) (i + 1) ≡ elementValuesTest (drop (i + 1) (take n es)) (i + 1 + 1)
+  unfolding elementValuesTest
+  element-in e = rw (from es i n d h r, e)
+
+  pub many : maxTreatments (getD es i d .kind) < getD es i d .treatments → treatmentsTest (drop i (take n es)) (i + 1) ≡ refused 4 (i + 1)
+  unfolding treatmentsTest
+  many e = rw (from es i n d h r, lt-leb (getD es i d .treatments) (maxTreatments (getD es i d .kind)) e)
+
+  pub few : getD es i d .treatments ≤ maxTreatments (getD es i d .kind) → treatmentsTest (drop i (take n es)) (i + 1) ≡ treatmentsTest (drop (i + 1) (take n es)) (i + 1 + 1)
+  unfolding treatmentsTest
+  few e = rw (from es i n d h r, le-leb (getD es i d .treatments) (maxTreatments (getD es i d .kind)) e)
+
+-- what a verdict tells of the test that gave it
+pub verdict-accepted : (r : Result (Unit {0})) → verdictOf r ≡ Accepted → r ≡ ok tt
+verdict-accepted (ok tt) e = refl
+verdict-accepted (refused a b) e = absurd (let z : _≡_ {A = ℕ} 0 1 = cc in omega arith)
+
+pub verdict-refused : (r : Result (Unit {0})) (a b : ℕ) → verdictOf r ≡ Refused a b → r ≡ refused a b
+verdict-refused (ok tt) a b e = absurd (let z : _≡_ {A = ℕ} 0 1 = cc in omega arith)
+verdict-refused (refused x y) a b e = cc
+
+pub count-few : (a : Bool) (n : ℕ) → (a && leb n 24) ≡ true → n ≤ 24
+count-few a n e = leb-true n 24 (and-true a (leb n 24) e .1)
+
+-- a zone whose counts are accepted has at most 24 elements
+pub counts-few : (z : Zone) → countsTest z ≡ ok tt → z .count ≤ 24
+unfolding countsTest
+counts-few z e =
+    let b = bind-ok (requireAt (leb 1 (z .count) && leb (z .count) 24) 4 0) _ tt e in
+    count-few (leb 1 (z .count)) (z .count) (require-ok (leb 1 (z .count) && leb (z .count) 24) 4 0 (b .0) (b .1))

@@ -1,0 +1,13 @@
+use Rattle.zone.specs.Hour.Demand.{interpolation}
+use Rattle.solver.specs.F64.{dec}
+use lib.Ieee.{ofBits}
+use mathlib.Core.Path.{refl}
+use Rattle.zone.proofs.hour.load.kwh_of.Statement.{statement}
+use Rattle.zone.proofs.hour.load.kwh_of.Tie as tie
+
+returns : tie.Need-returns
+unfolding interpolation ofBits dec
+returns c = refl
+
+pub kwh-of-spec : {M : Type 1} → statement M
+kwh-of-spec = tie.close (tie.spec returns)

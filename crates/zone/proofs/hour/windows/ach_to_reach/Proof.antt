@@ -1,0 +1,11 @@
+use Rattle.zone.specs.Hour.Demand.{achToReach}
+use borrow.Author.Needs.{needs}
+use Rattle.zone.proofs.hour.windows.ach_to_reach.Statement.{statement}
+use Rattle.zone.proofs.hour.windows.ach_to_reach.Tie as tie
+
+returns : tie.Need-returns
+unfolding achToReach
+returns c = c .ach-req-to-reach-temperature .ensures
+
+pub ach-to-reach-spec : {M : Type 1} → statement M
+ach-to-reach-spec = tie.close (tie.spec (λ c κs. search needs) returns)

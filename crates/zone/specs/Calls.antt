@@ -1,0 +1,4 @@
+pub mod State
+pub mod Hour
+pub mod StartUp
+pub mod Answers

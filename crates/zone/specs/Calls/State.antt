@@ -1,0 +1,36 @@
+-- The state before an hour: refusal 6, and its node temperatures in the solver's slots.
+use mathlib.Core.Bool.{Bool, _&&_}
+use mathlib.Core.List.{List}
+use lib.ListN.{take}
+use lib.Dec.{eqb}
+use lib.Ieee.{Float}
+use Rattle.solver.specs.Result.{Result, bind, require}
+use Rattle.solver.specs.Closeness.{withinStateBound}
+use Rattle.zone.specs.declared.record.zone_record.Zone.{Zone}
+use Rattle.zone.specs.Record.BuildingElement.{nodeCount}
+use Rattle.zone.specs.Check.Ranges.{allIn}
+use Rattle.zone.specs.Check.ZoneTest.{zoneTest}
+use Rattle.zone.specs.Physics.System.{zoneTwoNodes}
+use Rattle.zone.specs.Physics.Packing.{toSlots, toNodes}
+use Rattle.zone.specs.declared.calls.state.State.{State}
+
+-- every temperature is finite and not beyond ±1e6
+abbrev pub allWithinStateBound : List Float → Bool
+allWithinStateBound ts = allIn withinStateBound ts
+
+-- 6: a wrong node count, or a value not finite or beyond ±1e6
+unfoldable pub stateTest : Zone → State → Result (Unit {0})
+stateTest z s = require (eqb (s .nodes) (nodeCount z) && allWithinStateBound (take (s .nodes) (s .temps))) 6
+
+-- the zone's 4, 5, then 6
+unfoldable pub zoneAndStateTest : Zone → State → Result (Unit {0})
+zoneAndStateTest z s =
+    bind (zoneTest z) λ _.
+    stateTest z s
+
+unfoldable pub slotsOf : Zone → State → List Float
+slotsOf z s = toSlots (z .count) (zoneTwoNodes z) (s .temps)
+
+-- the state of node temperatures that stand in slots
+unfoldable pub stateOf : Zone → List Float → State
+stateOf z t = record { nodes = nodeCount z; temps = toNodes (z .count) (zoneTwoNodes z) t }

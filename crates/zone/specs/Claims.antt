@@ -1,0 +1,5 @@
+pub mod HeadRefusals
+pub mod DemandClaims
+pub mod StartUpClaims
+pub mod Refusals
+pub mod HouseP

@@ -1,0 +1,6 @@
+pub mod Bytes
+pub mod ElementLayout
+pub mod Decode
+pub mod Head
+pub mod Conditions
+pub mod Encode

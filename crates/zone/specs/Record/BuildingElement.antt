@@ -1,0 +1,77 @@
+-- What is worked out from one building element alone.
+use Prim.Native.Nat.{ℕ, _+_, _/_, _%_}
+use mathlib.Core.Bool.{Bool, true, false, cond, not, _&&_, _||_}
+use mathlib.Core.List.{List, [], _∷_}
+use lib.ListN.{take}
+use lib.Dec.{eqb}
+use lib.Ieee.{Float, lt, le}
+use Rattle.solver.specs.F64.{_+ᶠ_, _/ᶠ_, one64, dec}
+use Rattle.zone.specs.declared.record.building_element.Kind.{Kind}
+use Rattle.zone.specs.declared.record.building_element.Kind.the-variants.{Opaque, AdjacentConditionedSpace, AdjacentUnconditionedSpaceSimple, Ground, Transparent, PartyWall}
+use Rattle.zone.specs.declared.record.building_element.Element.{Element}
+use Rattle.zone.specs.declared.record.building_element.Coefficients.{Coefficients}
+use Rattle.zone.specs.declared.record.building_element.HeatFlowDirection.{HeatFlowDirection}
+use Rattle.zone.specs.declared.record.building_element.HeatFlowDirection.the-variants.{Horizontal, Upwards, Downwards}
+use Rattle.zone.specs.declared.record.zone_record.Zone.{Zone}
+
+-- f_int_c, f_sol_c: BS EN ISO 52016-1:2017, Table B.11; k_m_int: Table B.17; the three h_ci: BS EN ISO 13789:2017, Table 8; the pitches that part
+-- ceilings, walls and floors: the Rust's PITCH_LIMIT_HORIZ_CEILING and PITCH_LIMIT_HORIZ_FLOOR
+unfoldable pub standardCoefficients : Coefficients
+standardCoefficients =
+    record {
+      «f_int_c» = dec 4 1;
+      «f_sol_c» = dec 1 1;
+      «k_m_int» = dec 10000 0;
+      «h_ci_horizontal» = dec 25 1;
+      «h_ci_upwards» = dec 50 1;
+      «h_ci_downwards» = dec 7 1;
+      «pitch_limit_horiz_ceiling» = dec 60 0;
+      «pitch_limit_horiz_floor» = dec 120 0;
+    }
+
+-- horizontal between the two pitches, both included; a ceiling (below the first) is upwards unless the air is colder than the
+-- surface; a floor (above the second) is upwards only if it is
+unfoldable pub heatFlowDirection : Coefficients → (pitch air surface : Float) → HeatFlowDirection
+heatFlowDirection c pitch air surface =
+    let inwards = lt air surface in
+    let isFloor = lt (c .«pitch_limit_horiz_floor») pitch in
+    let isCeiling = lt pitch (c .«pitch_limit_horiz_ceiling») in
+    cond (le (c .«pitch_limit_horiz_ceiling») pitch && le pitch (c .«pitch_limit_horiz_floor»)) Horizontal
+    (cond (isFloor && inwards || isCeiling && not inwards) Upwards Downwards)
+
+abbrev pub hCiOf : Coefficients → HeatFlowDirection → Float
+hCiOf c Horizontal = c .«h_ci_horizontal»
+hCiOf c Upwards = c .«h_ci_upwards»
+hCiOf c Downwards = c .«h_ci_downwards»
+
+-- h_ci, in W / (m2.K); air and surface are those from before the step
+unfoldable pub hCi : Coefficients → (pitch air surface : Float) → Float
+hCi c pitch air surface = hCiOf c (heatFlowDirection c pitch air surface)
+
+-- the `delta_r` of the treatments whose bit is 0, added to r in order, bit 0 first
+unfoldable pub addClosed : (bits : ℕ) (r : Float) → List Float → Float
+addClosed bits r [] = r
+addClosed bits r (d ∷ ds) = addClosed (bits / 2) (cond (eqb (bits % 2) 0) (r +ᶠ d) r) ds
+
+-- h_pli of a Transparent: 1 / (1 / h + the closed treatments' `delta_r`), also with none
+unfoldable pub hPliTransparent : Float → List Float → (treatments bits : ℕ) → Float
+hPliTransparent h «delta_r» treatments bits = one64 /ᶠ addClosed bits (one64 /ᶠ h) (take treatments «delta_r»)
+
+abbrev pub isTwoNodes : Kind → Bool
+isTwoNodes Opaque = false
+isTwoNodes AdjacentConditionedSpace = false
+isTwoNodes AdjacentUnconditionedSpaceSimple = false
+isTwoNodes Ground = false
+isTwoNodes Transparent = true
+isTwoNodes PartyWall = false
+
+unfoldable pub numberOfNodes : Kind → ℕ
+numberOfNodes k = cond (isTwoNodes k) 2 5
+
+unfoldable pub nodesOf : List Element → ℕ
+nodesOf [] = 0
+nodesOf (e ∷ es) = numberOfNodes (e .kind) + nodesOf es
+
+-- the nodes of the elements, and the internal air
+unfoldable pub nodeCount : Zone → ℕ
+nodeCount z = nodesOf (take (z .count) (z .«building_elements»)) + 1

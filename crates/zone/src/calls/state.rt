@@ -1,0 +1,106 @@
+// The state that is carried from hour to hour, and what the calls answer.
+use crate::physics::balance::HeatBalance;
+use crate::physics::operative::temp_internal_air;
+use crate::physics::operative::temp_operative;
+use crate::physics::packing::to_nodes;
+use crate::physics::packing::to_slots;
+use crate::physics::packing::two_nodes_of;
+use crate::record::zone_record::Verdict;
+use crate::record::zone_record::Zone;
+use crate::record::zone_record::node_count;
+ghost use mathlib.Core.Path.{_≡_};
+ghost use Rattle.zone.specs.Physics.TempOperative.{tempOperative, tempInternalAir};
+ghost use Rattle.zone.specs.Calls.State.{slotsOf, stateOf};
+
+// Node temperatures: element by element from the outer to the inner surface, then the air. The first `nodes` of `temps` count.
+pub struct State {
+    pub nodes: usize,
+    pub temps: [f64; 121],
+}
+
+// The air change rate at which heating would be triggered, where there is a choice of rates.
+pub enum AchToTriggerHeating {
+    Absent,
+    At(f64),
+}
+
+// Heating and cooling demand in kWh, the chosen air change rate and the one that triggers heating.
+pub struct Demand {
+    pub space_heat_demand: f64,
+    pub space_cool_demand: f64,
+    pub ach_cooling: f64,
+    pub ach_to_trigger_heating: AchToTriggerHeating,
+}
+
+pub enum DemandAnswer {
+    Accepted(Demand),
+    Refused { number: u32, index: usize },
+}
+
+pub enum UpdateAnswer {
+    Accepted(HeatBalance),
+    Refused { number: u32, index: usize },
+}
+
+pub enum HourAnswer {
+    Accepted(Demand, HeatBalance),
+    Refused { number: u32, index: usize },
+}
+
+// The answer of a call, and the state: the new one, or the one that was given.
+pub struct DemandReply {
+    pub answer: DemandAnswer,
+    pub state: State,
+}
+
+pub struct UpdateReply {
+    pub answer: UpdateAnswer,
+    pub state: State,
+}
+
+pub struct HourStepReply {
+    pub answer: HourAnswer,
+    pub state: State,
+}
+
+// Of a refused start-up: no nodes, every temperature 0.0.
+pub struct StartUp {
+    pub verdict: Verdict,
+    pub state: State,
+}
+
+// The temperatures in the solver's slots.
+pub fn slots_of(z: Zone, s: State) -> [f64; 121]
+    ensures { λ r. ⌜ r ≡ slotsOf z s ⌝ }
+{
+    let two_nodes = two_nodes_of(z);
+    let temps = s.temps;
+    to_slots(z.count, &two_nodes, &temps)
+}
+
+// The state of temperatures that stand in slots.
+pub fn state_of(z: Zone, t: &[f64; 121]) -> State
+    ensures { λ r. ⌜ r ≡ stateOf z (now (t .entry)) ⌝ }
+{
+    let two_nodes = two_nodes_of(z);
+    let nodes = node_count(z);
+    let temps = to_nodes(z.count, &two_nodes, t);
+    State { nodes, temps }
+}
+
+impl State {
+    // The operative temperature.
+    pub fn temp_operative(self, z: Zone) -> f64
+        ensures { λ r. ⌜ r ≡ tempOperative z (slotsOf z self) ⌝ }
+    {
+        let t = slots_of(z, self);
+        temp_operative(z, &t)
+    }
+
+    pub fn temp_internal_air(self, z: Zone) -> f64
+        ensures { λ r. ⌜ r ≡ tempInternalAir (slotsOf z self) ⌝ }
+    {
+        let t = slots_of(z, self);
+        temp_internal_air(&t)
+    }
+}

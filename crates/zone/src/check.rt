@@ -1,0 +1,4 @@
+// Ranges, and the tests of a zone, its conditions and its state.
+pub mod conditions_tests;
+pub mod ranges;
+pub mod tests;

@@ -1,0 +1,124 @@
+// Refusals 8 and 9 of an hour's conditions.
+use crate::check::ranges::fraction_in_range;
+use crate::check::ranges::gains_in_range;
+use crate::check::ranges::heating_setpoint_in_range;
+use crate::check::ranges::hour_length_in_range;
+use crate::check::ranges::open_within;
+use crate::check::ranges::rate_in_range;
+use crate::check::ranges::setpoint_in_range;
+use crate::check::ranges::temperature_in_range;
+use crate::format::bytes::read_u64_be;
+use crate::format::conditions::AirChangesPerHourArgument;
+use crate::format::conditions::Conditions;
+use crate::record::zone_record::Verdict;
+use crate::record::zone_record::element_hour_in_range;
+ghost use mathlib.Core.Path.{_≡_};
+ghost use mathlib.Core.Bool.{_&&_};
+ghost use Prim.Native.Nat.{_+_, _*_, _≤_};
+ghost use lib.ListN.{length, take};
+ghost use Rattle.zone.specs.Check.ZoneTest.{verdictOf};
+ghost use Rattle.zone.specs.Format.Conditions.{rateCodeValid, openBitsValid, hourAndGainsInRange, setpointsInRange, achArgsInRange, conditionsTest};
+
+// Code 0 with a second float of all zero bits, or code 1.
+pub fn rate_code_valid(s: &[u8]) -> bool
+    requires { ⌜ 113 ≤ length (now s) ⌝ }
+    ensures { λ r. ⌜ r ≡ rateCodeValid (now (s .entry)) ⌝ }
+{
+    if s[96] == 0 {
+        read_u64_be(s, 105) == 0
+    } else {
+        s[96] == 1
+    }
+}
+
+// No open bit past the treatments, of any element.
+pub fn open_bits_valid(s: &[u8], treatments: [usize; 24], n: usize) -> bool
+    requires { ⌜ (n ≤ 24) × (113 + 41 * n ≤ length (now s)) ⌝ }
+    ensures { λ r. ⌜ r ≡ openBitsValid (now (s .entry)) (take n treatments) 113 ⌝ }
+{
+    let mut i: usize = 0;
+    let mut p: usize = 113;
+    while i < n {
+        if open_within(treatments[i], s[p + 40]) {
+            p = p + 41;
+            i = i + 1;
+        } else {
+            return false;
+        }
+    }
+    true
+}
+
+fn hour_and_gains_in_range(c: Conditions) -> bool
+    ensures { λ r. ⌜ r ≡ hourAndGainsInRange c ⌝ }
+{
+    let length = hour_length_in_range(c.delta_t_h);
+    let external = temperature_in_range(c.temp_ext_air);
+    let internal = gains_in_range(c.gains_internal);
+    let solar = gains_in_range(c.gains_solar);
+    let heating = fraction_in_range(c.frac_convective_heat);
+    let cooling = fraction_in_range(c.frac_convective_cool);
+    length & external & internal & solar & heating & cooling
+}
+
+fn setpoints_in_range(c: Conditions) -> bool
+    ensures { λ r. ⌜ r ≡ setpointsInRange c ⌝ }
+{
+    let heating = heating_setpoint_in_range(c.temp_setpnt_heat);
+    let cooling = setpoint_in_range(c.temp_setpnt_cool);
+    let ventilation = setpoint_in_range(c.temp_setpnt_cool_vent);
+    let supply = temperature_in_range(c.avg_air_supply_temp);
+    let convective = gains_in_range(c.gains_heat_cool_convective);
+    let radiative = gains_in_range(c.gains_heat_cool_radiative);
+    heating & cooling & ventilation & supply & convective & radiative
+}
+
+fn ach_args_in_range(a: AirChangesPerHourArgument) -> bool
+    ensures { λ r. ⌜ r ≡ achArgsInRange a ⌝ }
+{
+    match a {
+        AirChangesPerHourArgument::Cooling(rate) => rate_in_range(rate),
+        AirChangesPerHourArgument::TargetAndWindowsOpen(target, windows) => {
+            let first = rate_in_range(target);
+            let second = rate_in_range(windows);
+            first & second
+        }
+    }
+}
+
+fn front_in_range(c: Conditions) -> bool
+    ensures { λ r. ⌜ r ≡ (hourAndGainsInRange c && setpointsInRange c && achArgsInRange (c .«ach_args»)) ⌝ }
+{
+    let ach_args = c.ach_args;
+    let hour = hour_and_gains_in_range(c);
+    let setpoints = setpoints_in_range(c);
+    let rates = ach_args_in_range(ach_args);
+    hour & setpoints & rates
+}
+
+// The first value out of range.
+pub fn conditions_test(n: usize, c: Conditions) -> Verdict
+    requires { ⌜ n ≤ 24 ⌝ }
+    ensures { λ r. ⌜ r ≡ verdictOf (conditionsTest n c) ⌝ }
+{
+    if front_in_range(c) {
+        let elements = c.elements;
+        let mut i: usize = 0;
+        while i < n {
+            let h = elements[i];
+            if element_hour_in_range(h) {
+                i = i + 1;
+            } else {
+                return Verdict::Refused {
+                    number: 9,
+                    index: i + 1,
+                };
+            }
+        }
+        return Verdict::Accepted;
+    }
+    Verdict::Refused {
+        number: 9,
+        index: 0,
+    }
+}

@@ -1,0 +1,5 @@
+// Heads and conditions as bytes.
+pub mod bytes;
+pub mod conditions;
+pub mod decode;
+pub mod head;

@@ -1,0 +1,85 @@
+// What the choice of an air change rate looks at: temperatures, the rates that reach them, whether windows cool and whether they cool enough; and what it
+// gives.
+use crate::calls::state::AchToTriggerHeating;
+use crate::format::conditions::Conditions;
+use crate::hour::solves::control_temperature;
+use crate::physics::ventilation::ach_req_to_reach_temperature;
+use crate::record::zone_record::Zone;
+use solver::close_in_windows_test;
+ghost use mathlib.Core.Path.{_≡_};
+ghost use mathlib.Core.Bool.{not, _&&_};
+ghost use lib.Ieee.{lt};
+ghost use Rattle.solver.specs.FastSolver.{atMost24};
+ghost use Rattle.solver.specs.Closeness.{closeInWindowsTest};
+ghost use Rattle.zone.specs.Physics.System.{areaElTotal};
+ghost use Rattle.zone.specs.Physics.TempOperative.{areasOf};
+ghost use Rattle.zone.specs.Hour.Demand.{zoneTemperatures, achToReach, windowsCool};
+
+// Of a calculation's temperatures, what the choice of a rate looks at.
+pub struct ZoneTemperatures {
+    pub temp_control: f64,
+    pub temp_int_air: f64,
+}
+
+// The free temperature, the chosen rate and the rate that triggers heating.
+pub struct Ventilated {
+    pub temp_free: f64,
+    pub ach_cooling: f64,
+    pub ach_to_trigger_heating: AchToTriggerHeating,
+}
+
+pub fn zone_temperatures(
+    z: Zone,
+    area: &[f64; 24],
+    area_el_total: f64,
+    t: &[f64; 121],
+) -> ZoneTemperatures
+    requires { ⌜ (now area ≡ areasOf z) × («area_el_total» ≡ areaElTotal (atMost24 (z .count)) (z .«building_elements»)) ⌝ }
+    ensures { λ r. ⌜ r ≡ zoneTemperatures z (now (t .entry)) ⌝ }
+{
+    let temp_control = control_temperature(z, area, area_el_total, t);
+    ZoneTemperatures {
+        temp_control,
+        temp_int_air: t[120],
+    }
+}
+
+// The rate that brings the control temperature to a wanted one.
+pub fn ach_to_reach(
+    h: Conditions,
+    target: f64,
+    windows: f64,
+    free: ZoneTemperatures,
+    vent_max: ZoneTemperatures,
+    temperature: f64,
+) -> f64
+    ensures { λ r. ⌜ r ≡ achToReach h target windows free «vent_max» temperature ⌝ }
+{
+    ach_req_to_reach_temperature(
+        temperature,
+        target,
+        windows,
+        free.temp_control,
+        vent_max.temp_control,
+        free.temp_int_air,
+        vent_max.temp_int_air,
+        h.avg_air_supply_temp,
+    )
+}
+
+pub fn windows_cool(h: Conditions, free: ZoneTemperatures, vent_max: ZoneTemperatures) -> bool
+    ensures { λ r. ⌜ r ≡ windowsCool h free «vent_max» ⌝ }
+{
+    (vent_max.temp_control < free.temp_control)
+        & (h.temp_setpnt_cool_vent < free.temp_control)
+        & (h.avg_air_supply_temp < free.temp_int_air)
+}
+
+// Too warm even with the rate that windows need.
+pub fn above_cooling_setpoint(temp_extra: f64, temp_setpnt_cool: f64) -> bool
+    ensures { λ r. ⌜ r ≡ (lt «temp_setpnt_cool» «temp_extra» && not (closeInWindowsTest «temp_extra» «temp_setpnt_cool»)) ⌝ }
+{
+    let above = temp_setpnt_cool < temp_extra;
+    let close = close_in_windows_test(temp_extra, temp_setpnt_cool);
+    above & !close
+}

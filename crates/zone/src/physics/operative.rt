@@ -1,0 +1,86 @@
+// The operative temperature, and the internal air's.
+use crate::physics::matrix::area_total;
+use crate::physics::slots::at_most_24;
+use crate::record::building_element::Element;
+use crate::record::zone_record::Zone;
+use solver::Sum2;
+ghost use mathlib.Core.Path.{_≡_};
+ghost use Prim.Native.Nat.{_≤_};
+ghost use lib.ListN.{replicate};
+ghost use Rattle.solver.specs.F64.{zero64};
+ghost use Rattle.solver.specs.Sums.{sum2, terms};
+ghost use Rattle.solver.specs.FastSolver.{atMost24};
+ghost use Rattle.zone.specs.Physics.Slots.{at, withTerms};
+ghost use Rattle.zone.specs.Physics.System.{areaOf};
+ghost use Rattle.zone.specs.Physics.TempOperative.{radiantAt, meanOf, tempOperativeOf, tempOperative, tempInternalAir, areasOf};
+
+pub fn temp_internal_air(t: &[f64; 121]) -> f64
+    ensures { λ r. ⌜ r ≡ tempInternalAir (now (t .entry)) ⌝ }
+{
+    t[120]
+}
+
+fn take_areas(n: usize, es: [Element; 24]) -> [f64; 24]
+    requires { ⌜ n ≤ 24 ⌝ }
+    ensures { λ r. ⌜ r ≡ withTerms n (areaOf es) (replicate 24 zero64) ⌝ }
+{
+    let mut area = [0.0; 24];
+    let mut e = 0;
+    while e < n {
+        area[e] = es[e].area;
+        e += 1;
+    }
+    area
+}
+
+// For `temp_operative_by_temp_vector`, which is asked several times in an hour.
+pub fn areas_of(z: Zone) -> [f64; 24]
+    ensures { λ r. ⌜ r ≡ areasOf z ⌝ }
+{
+    let n = at_most_24(z.count);
+    let es = z.building_elements;
+    take_areas(n, es)
+}
+
+fn radiant_sum(n: usize, area: &[f64; 24], t: &[f64; 121]) -> f64
+    requires { ⌜ n ≤ 24 ⌝ }
+    ensures { λ r. ⌜ r ≡ sum2 (terms 0 n (radiantAt (at (now (area .entry))) (now (t .entry)))) ⌝ }
+{
+    let mut total = Sum2::zero();
+    let mut e = 0;
+    while e < n {
+        total = total.add(area[e] * t[5 * e + 4]);
+        e += 1;
+    }
+    total.sum()
+}
+
+fn mean_of(x: f64, y: f64) -> f64
+    ensures { λ r. ⌜ r ≡ meanOf x y ⌝ }
+{
+    (x + y) / 2.0
+}
+
+// From the elements' areas and their total.
+pub fn temp_operative_by_temp_vector(
+    count: usize,
+    area: &[f64; 24],
+    area_el_total: f64,
+    t: &[f64; 121],
+) -> f64
+    ensures { λ r. ⌜ r ≡ tempOperativeOf (atMost24 count) (at (now (area .entry))) «area_el_total» (now (t .entry)) ⌝ }
+{
+    let n = at_most_24(count);
+    let temp_int_air = t[120];
+    let temp_mean_radiant = radiant_sum(n, area, t) / area_el_total;
+    mean_of(temp_int_air, temp_mean_radiant)
+}
+
+pub fn temp_operative(z: Zone, t: &[f64; 121]) -> f64
+    ensures { λ r. ⌜ r ≡ tempOperative z (now (t .entry)) ⌝ }
+{
+    let area = areas_of(z);
+    let n = at_most_24(z.count);
+    let area_el_total = area_total(n, &area);
+    temp_operative_by_temp_vector(z.count, &area, area_el_total, t)
+}

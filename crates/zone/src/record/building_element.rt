@@ -1,0 +1,248 @@
+// A building element: its record, and what is worked out from it alone.
+ghost use mathlib.Core.Path.{_≡_};
+ghost use Prim.Native.Nat.{min, _≤_, _<_};
+ghost use Rattle.zone.specs.Record.BuildingElement.{
+  heatFlowDirection,
+  hCi,
+  standardCoefficients,
+  hPliTransparent,
+  isTwoNodes,
+  numberOfNodes,
+};
+ghost use Rattle.zone.specs.Format.ElementLayout.{kindOf, kCount, hCount, maxTreatments, elementSize};
+ghost use Rattle.zone.specs.Format.Decode.{noElementHour, noElement};
+
+// The Rust's BuildingElement, in the order of its variants.
+pub enum Kind {
+    Opaque,
+    AdjacentConditionedSpace,
+    AdjacentUnconditionedSpaceSimple,
+    Ground,
+    Transparent,
+    PartyWall,
+}
+
+// What an hour says of one element: external temperature, direct and diffuse irradiance and their shading factors,
+// and a byte whose bit j means that window treatment j is open.
+pub struct ElementHour {
+    pub temp_ext: f64,
+    pub i_sol_dir: f64,
+    pub i_sol_dif: f64,
+    pub f_sh_dir: f64,
+    pub f_sh_dif: f64,
+    pub treatments_open: u8,
+}
+
+// The coefficients of an element. A Transparent uses the first two of k_pli, the first of h_pli and the first
+// `treatments` of delta_r; any other kind all of k_pli and h_pli.
+pub struct Element {
+    pub kind: Kind,
+    pub treatments: usize,
+    pub area: f64,
+    pub pitch: f64,
+    pub h_ce: f64,
+    pub h_re: f64,
+    pub h_ri: f64,
+    pub solar_absorption_coeff: f64,
+    pub therm_rad_to_sky: f64,
+    pub k_pli: [f64; 5],
+    pub h_pli: [f64; 4],
+    pub delta_r: [f64; 4],
+    pub first_hour: ElementHour,
+}
+
+// The standards' numbers that assembly and h_ci use.
+pub struct Coefficients {
+    pub f_int_c: f64,
+    pub f_sol_c: f64,
+    pub k_m_int: f64,
+    pub h_ci_horizontal: f64,
+    pub h_ci_upwards: f64,
+    pub h_ci_downwards: f64,
+    pub pitch_limit_horiz_ceiling: f64,
+    pub pitch_limit_horiz_floor: f64,
+}
+
+pub enum HeatFlowDirection {
+    Horizontal,
+    Upwards,
+    Downwards,
+}
+
+// BS EN ISO 52016-1, Tables B.11 and B.17; h_ci: BS EN ISO 13789, Table 8; and the pitches that part ceilings, walls and floors.
+pub fn standard_coefficients() -> Coefficients
+    ensures { λ r. ⌜ r ≡ standardCoefficients ⌝ }
+{
+    Coefficients {
+        f_int_c: 0.4,
+        f_sol_c: 0.1,
+        k_m_int: 10000.0,
+        h_ci_horizontal: 2.5,
+        h_ci_upwards: 5.0,
+        h_ci_downwards: 0.7,
+        pitch_limit_horiz_ceiling: 60.0,
+        pitch_limit_horiz_floor: 120.0,
+    }
+}
+
+// The direction of heat flow at an inner surface.
+pub fn heat_flow_direction(
+    c: Coefficients,
+    pitch: f64,
+    temp_int_air: f64,
+    temp_int_surface: f64,
+) -> HeatFlowDirection
+    ensures { λ r. ⌜ r ≡ heatFlowDirection c pitch «temp_int_air» «temp_int_surface» ⌝ }
+{
+    if (c.pitch_limit_horiz_ceiling <= pitch) & (pitch <= c.pitch_limit_horiz_floor) {
+        return HeatFlowDirection::Horizontal;
+    }
+    let inwards_heat_flow = temp_int_air < temp_int_surface;
+    let is_floor = c.pitch_limit_horiz_floor < pitch;
+    let is_ceiling = pitch < c.pitch_limit_horiz_ceiling;
+    let upwards_heat_flow = (is_floor & inwards_heat_flow) | (is_ceiling & !inwards_heat_flow);
+    if upwards_heat_flow {
+        HeatFlowDirection::Upwards
+    } else {
+        HeatFlowDirection::Downwards
+    }
+}
+
+// The internal convective heat transfer coefficient, in W / (m2.K).
+pub fn h_ci(c: Coefficients, pitch: f64, temp_int_air: f64, temp_int_surface: f64) -> f64
+    ensures { λ r. ⌜ r ≡ hCi c pitch «temp_int_air» «temp_int_surface» ⌝ }
+{
+    let direction = heat_flow_direction(c, pitch, temp_int_air, temp_int_surface);
+    match direction {
+        HeatFlowDirection::Horizontal => c.h_ci_horizontal,
+        HeatFlowDirection::Upwards => c.h_ci_upwards,
+        HeatFlowDirection::Downwards => c.h_ci_downwards,
+    }
+}
+
+pub fn at_most(n: usize, limit: usize) -> usize
+    ensures { λ r. ⌜ (r ≡ min n limit) × (r ≤ limit) ⌝ }
+{
+    if n < limit { n } else { limit }
+}
+
+// h_pli of a Transparent: the resistances of the closed treatments are added to its own.
+pub fn h_pli_transparent(h: f64, delta_r: [f64; 4], treatments: usize, treatments_open: u8) -> f64
+    ensures { λ r. ⌜ r ≡ hPliTransparent h «delta_r» treatments «treatments_open» ⌝ }
+{
+    let n = at_most(treatments, 4);
+    let mut bits = treatments_open;
+    let mut r = 1.0 / h;
+    let mut j = 0;
+    while j < n {
+        let bit = bits % 2;
+        if bit == 0 {
+            r = r + delta_r[j];
+        }
+        bits = bits / 2;
+        j += 1;
+    }
+    1.0 / r
+}
+
+// A Transparent has a node at each surface only.
+pub fn is_two_nodes(kind: Kind) -> bool
+    ensures { λ r. ⌜ r ≡ isTwoNodes kind ⌝ }
+{
+    match kind {
+        Kind::Opaque => false,
+        Kind::AdjacentConditionedSpace => false,
+        Kind::AdjacentUnconditionedSpaceSimple => false,
+        Kind::Ground => false,
+        Kind::Transparent => true,
+        Kind::PartyWall => false,
+    }
+}
+
+pub fn number_of_nodes(kind: Kind) -> usize
+    ensures { λ r. ⌜ r ≡ numberOfNodes kind ⌝ }
+{
+    if is_two_nodes(kind) { 2 } else { 5 }
+}
+
+// The kind of a number, 0 to 5.
+pub fn kind_of(number: u8) -> Kind
+    ensures { λ r. ⌜ r ≡ kindOf number ⌝ }
+{
+    match number {
+        0 => Kind::Opaque,
+        1 => Kind::AdjacentConditionedSpace,
+        2 => Kind::AdjacentUnconditionedSpaceSimple,
+        3 => Kind::Ground,
+        4 => Kind::Transparent,
+        _ => Kind::PartyWall,
+    }
+}
+
+// How many k_pli an element of a kind has.
+pub fn k_count(kind: Kind) -> usize
+    ensures { λ r. ⌜ r ≡ kCount kind ⌝ }
+{
+    if is_two_nodes(kind) { 2 } else { 5 }
+}
+
+// How many h_pli.
+pub fn h_count(kind: Kind) -> usize
+    ensures { λ r. ⌜ r ≡ hCount kind ⌝ }
+{
+    if is_two_nodes(kind) { 1 } else { 4 }
+}
+
+pub fn max_treatments(kind: Kind) -> usize
+    ensures { λ r. ⌜ r ≡ maxTreatments kind ⌝ }
+{
+    if is_two_nodes(kind) { 4 } else { 0 }
+}
+
+// Its bytes in a head.
+pub fn element_size(kind: Kind, treatments: usize) -> usize
+    requires { ⌜ treatments < 256 ⌝ }
+    ensures { λ r. ⌜ r ≡ elementSize kind treatments ⌝ }
+{
+    if is_two_nodes(kind) {
+        123 + 8 * treatments
+    } else {
+        171
+    }
+}
+
+// What stands in a place of no element.
+pub fn no_element_hour() -> ElementHour
+    ensures { λ r. ⌜ r ≡ noElementHour ⌝ }
+{
+    ElementHour {
+        temp_ext: 0.0,
+        i_sol_dir: 0.0,
+        i_sol_dif: 0.0,
+        f_sh_dir: 0.0,
+        f_sh_dif: 0.0,
+        treatments_open: 0,
+    }
+}
+
+pub fn no_element() -> Element
+    ensures { λ r. ⌜ r ≡ noElement ⌝ }
+{
+    let kind = Kind::Opaque;
+    let first_hour = no_element_hour();
+    Element {
+        kind: kind,
+        treatments: 0,
+        area: 0.0,
+        pitch: 0.0,
+        h_ce: 0.0,
+        h_re: 0.0,
+        h_ri: 0.0,
+        solar_absorption_coeff: 0.0,
+        therm_rad_to_sky: 0.0,
+        k_pli: [0.0; 5],
+        h_pli: [0.0; 4],
+        delta_r: [0.0; 4],
+        first_hour: first_hour,
+    }
+}
