@@ -1,25 +1,35 @@
 /*
- * Vaddrulis: the zone calculation of the Home Energy Model as a static library (libhem_zone.a).
+ * Vaddrulis: the zone calculation of the Home Energy Model as a library (libhem_zone).
  *
  * Bytes. A zone is given as the bytes of its head, an hour as the bytes of its conditions, a year as
- * the bytes of a book: a head followed by one entry for each hour. Their layouts stand in
- * docs/FORMATS.md. Integers are big-endian, a float is its big-endian 64-bit pattern.
+ * the bytes of a book: a head followed by one entry for each hour. Sizes, places, names and units stand
+ * below; docs/FORMATS.md has the same as tables, with the ranges. Integers are big-endian, a float is its
+ * big-endian 64-bit pattern.
  *
  * Answers. Each function returns 0 when the call is accepted. Otherwise it returns
  * number + 256 * index (HEM_NUMBER and HEM_INDEX take them apart), and then NOTHING has been written:
  * temperatures, counts, buffers and results are as they were before the call.
  *
- * Units. Temperatures in degrees Celsius, gains in watts, demand in kWh (heating >= 0, cooling <= 0),
- * air change rates per hour, lengths of time in hours, heat balance in watts.
+ * What the caller owes:
+ *  - Every pointer leads to as many bytes or doubles as stand beside it. None is null, also where the
+ *    length is 0; those to double and uint64_t are aligned as the machine asks for.
+ *  - Everything lent has been initialised, also what the call only writes.
+ *  - What a call writes overlaps nothing else that the call is given.
+ *  - The calling thread rounds to nearest, and denormal numbers are on (MXCSR: rounding 00, FTZ and DAZ
+ *    0), as the C standard has it at the start. In another environment the values are others; a library
+ *    built with -ffast-math can change it unasked.
+ *  - The calling thread has HEM_STACK bytes of stack left.
+ * Nothing else is owed: every byte string, every number and every float, NaN too, is taken.
  *
  * Ownership. The caller owns every array. The library keeps no pointer after a call, allocates
  * nothing and has no state of its own, so calls on different arrays may run at the same time.
- * No pointer may be null, also where its length is 0, and what a call writes may overlap nothing else
- * that the call is given.
  *
- * `temps` is always an array of 121, of which the first `nodes` count: element by element from the
- * outer to the inner surface, then the air. A five-node element has 5, a transparent one 2. The places
- * behind them are not looked at, and a call that writes `temps` writes 0.0 there.
+ * `temps` is always an array of HEM_TEMPS, of which the first `nodes` count: element by element from the
+ * outer to the inner surface, then the air; degrees Celsius. A five-node element has 5, a transparent one
+ * 2. The places behind them are not looked at, and a call that writes `temps` writes 0.0 there.
+ *
+ * examples/year.c runs a year; `cc year.c $(pkg-config --cflags --libs hem_zone)` builds it once
+ * host/install has put the library in its place.
  */
 #ifndef HEM_ZONE_H
 #define HEM_ZONE_H
@@ -31,41 +41,206 @@
 extern "C" {
 #endif
 
+/* The version of this interface: 10000 * major + 100 * minor + patch, and as text. */
+#define HEM_ZONE_VERSION 100
+#define HEM_ZONE_VERSION_TEXT "0.1.0"
+/* The version byte of heads and entries. */
+#define HEM_FORMAT 1
+
+/* The stack, in bytes, that suffices for every call (80 KB were measured, by hem_take_up). */
+#define HEM_STACK 98304
+
+/* ---- sizes of arrays ---- */
+
+/* The most elements of a zone. */
+#define HEM_ELEMENTS 24
 /* The most node temperatures that a zone has: 24 elements of 5 nodes, and the air. */
 #define HEM_TEMPS 121
-/* The values of a demand: heating, cooling, rate, whether there is a trigger (0.0 or 1.0), its rate. */
+/* The most entries that a book holds: the hours of a leap year. */
+#define HEM_ENTRIES 8784
+/* The values of a demand. */
 #define HEM_OUT 5
 /* The values of a heat balance: air node 7, internal boundary 4, external boundary 14. */
 #define HEM_BALANCE 25
-/* The most entries that a book holds. */
-#define HEM_ENTRIES 8784
+
+/* ---- sizes in bytes ---- */
+
+/* The shortest and the longest head, its 4-byte length included. */
+#define HEM_HEAD_LEAST 180
+#define HEM_HEAD_MOST 4161
+/* An element in a head: of five nodes, and a transparent one with t treatments (0 to 4). */
+#define HEM_HEAD_ELEMENT 171
+#define HEM_HEAD_TRANSPARENT(t) (123 + 8 * (t))
+/* An element's part of the conditions of an hour, and the conditions for n elements. */
+#define HEM_ELEMENT_HOUR 41
+#define HEM_CONDITIONS(n) (113 + HEM_ELEMENT_HOUR * (n))
+/* An entry, its 4-byte length included, for n elements and `nodes` node temperatures. */
+#define HEM_ENTRY(n, nodes) (38 + HEM_CONDITIONS(n) + 8 * (nodes))
+
+/* ---- answers ---- */
 
 /* The number of a refusal, 1 to 18, and its index: for 4, 5 and 9 the element from 1 (0 if none),
    for 18 the entry from 0, otherwise 0. */
 #define HEM_NUMBER(answer) ((answer) & 255u)
 #define HEM_INDEX(answer) ((answer) >> 8)
 
-/*
- * The refusals.
- *    1  the bytes of the head end early
- *    2  the head's length is outside 176 to 4,157, or is not that of its elements
- *    3  the head's version is not 1
- *    4  a basis, element count, kind or treatment count is bad
- *    5  a value of the head is out of range, or an open bit past the treatments
- *    6  the state has a wrong node count, or a temperature that is not finite or beyond +-1e6
- *    7  the conditions have a wrong size
- *    8  the rate code, the second rate of code 0 or an open bit is bad
- *    9  a value of the conditions, or an update's own gains, fraction or rate, is out of range
- *   10  the cooling setpoint is below the heating setpoint
- *   11  the ventilation setpoint is below the heating setpoint
- *   12  a divisor of the solution is zero or not finite
- *   13  a node temperature is not finite or beyond +-1e6
- *   14  heating or cooling would not change the temperature
- *   15  start-up did not settle within the head's limit of passes
- *   16  the buffer is too short
- *   17  the book would hold more than 8,784 entries
- *   18  an entry is false: it is not what the hour step gives
- */
+enum hem_number {
+    HEM_ACCEPTED = 0,
+    HEM_HEAD_SHORT = 1,                 /* the bytes of the head end early */
+    HEM_HEAD_LENGTH = 2,                /* the head's length is outside 176 to 4,157, or is not that of its elements */
+    HEM_HEAD_VERSION = 3,               /* the head's version is not 1 */
+    HEM_STRUCTURE = 4,                  /* a basis, element count, kind or treatment count is bad */
+    HEM_ZONE_VALUE = 5,                 /* a value of the head is out of range, or an open bit past the treatments */
+    HEM_STATE_INVALID = 6,              /* the state has a wrong node count, or a temperature that is not finite or
+                                           beyond +-1e6 */
+    HEM_CONDITIONS_SIZE = 7,            /* the conditions have a wrong size */
+    HEM_CONDITIONS_CODE = 8,            /* the rate code, the second rate of code 0 or an open bit is bad */
+    HEM_CONDITIONS_VALUE = 9,           /* a value of the conditions, or an update's own gains, fraction or rate, is
+                                           out of range */
+    HEM_COOLING_BELOW_HEATING = 10,     /* the cooling setpoint is below the heating setpoint */
+    HEM_VENTILATION_BELOW_HEATING = 11, /* the ventilation setpoint is below the heating setpoint */
+    HEM_DIVISOR = 12,                   /* a divisor of the solution is zero or not finite */
+    HEM_TEMPERATURE = 13,               /* a node temperature is not finite or beyond +-1e6 */
+    HEM_NO_EFFECT = 14,                 /* heating or cooling would not change the temperature */
+    HEM_NOT_SETTLED = 15,               /* start-up did not settle within the head's limit of passes */
+    HEM_BUFFER_SHORT = 16,              /* the buffer is too short */
+    HEM_BOOK_FULL = 17,                 /* the book would hold more than 8,784 entries */
+    HEM_FALSE_ENTRY = 18                /* an entry is false: it is not what the hour step gives */
+};
+
+/* ---- places in a head, from its first byte; floats have 8 bytes ---- */
+
+enum hem_head_at {
+    HEM_HEAD_AT_LENGTH = 0,                 /* 4 bytes: the length of what follows, 176 to 4,157 */
+    HEM_HEAD_AT_VERSION = 4,                /* 1 byte: HEM_FORMAT */
+    HEM_HEAD_AT_BASIS = 5,                  /* 1 byte: 0 setpoints are of the air, 1 of the operative temperature */
+    HEM_HEAD_AT_COUNT = 6,                  /* 1 byte: n elements, 1 to 24 */
+    HEM_HEAD_AT_LIMIT = 7,                  /* 2 bytes: the passes that start-up may use, 1 to 10,000 */
+    HEM_HEAD_AT_USEFUL_AREA = 9,            /* useful floor area, m2 */
+    HEM_HEAD_AT_VOLUME = 17,                /* volume, m3 */
+    HEM_HEAD_AT_TB_HEAT_TRANS_COEFF = 25,   /* sum of the thermal bridges, W/K */
+    HEM_HEAD_AT_TEMP_EXT_AIR_INIT = 33,     /* external temperature of start-up, deg C */
+    HEM_HEAD_AT_TEMP_SETPNT_INIT = 41,      /* set temperature of start-up, deg C */
+    HEM_HEAD_AT_TEMP_SETPNT_VENT_INIT = 49, /* ventilation setpoint of start-up, deg C (1.4e32: no control) */
+    HEM_HEAD_AT_ELEMENTS = 57               /* the elements, one behind the other */
+};
+
+/* From the first byte of an element. A transparent one has 2 k_pli and 1 h_pli, the others 5 and 4. */
+enum hem_element_at {
+    HEM_ELEMENT_AT_KIND = 0,                    /* 1 byte: enum hem_kind */
+    HEM_ELEMENT_AT_TREATMENTS = 1,              /* 1 byte: window treatments t, 0 to 4; 0 unless transparent */
+    HEM_ELEMENT_AT_AREA = 2,                    /* area, m2 */
+    HEM_ELEMENT_AT_PITCH = 10,                  /* tilt, degrees: 0 faces up (roof), 90 a wall, 180 faces down (floor) */
+    HEM_ELEMENT_AT_H_CE = 18,                   /* external convective coefficient, W/(m2.K) */
+    HEM_ELEMENT_AT_H_RE = 26,                   /* external radiative coefficient, W/(m2.K) */
+    HEM_ELEMENT_AT_H_RI = 34,                   /* internal radiative coefficient, W/(m2.K) */
+    HEM_ELEMENT_AT_SOLAR_ABSORPTION_COEFF = 42, /* share of the irradiance that the outer surface absorbs, 0 to 1 */
+    HEM_ELEMENT_AT_THERM_RAD_TO_SKY = 50,       /* thermal radiation to the sky, W/m2 */
+    HEM_ELEMENT_AT_K_PLI = 58,                  /* heat capacity of each node, J/(m2.K), from the outer surface on */
+    HEM_ELEMENT_AT_H_PLI = 98,                  /* conductance between neighbouring nodes, W/(m2.K) */
+    HEM_ELEMENT_AT_FIRST_HOUR = 130             /* its part of the first hour: enum hem_element_hour_at */
+};
+enum hem_transparent_at {
+    HEM_TRANSPARENT_AT_H_PLI = 74,
+    HEM_TRANSPARENT_AT_DELTA_R = 82 /* t floats: what each treatment adds while it is closed, m2.K/W */
+};
+#define HEM_TRANSPARENT_AT_FIRST_HOUR(t) (82 + 8 * (t))
+
+enum hem_kind {
+    HEM_OPAQUE = 0,                 /* a wall, roof or door to the outside */
+    HEM_ADJACENT_CONDITIONED = 1,   /* next to a space that is heated or cooled too */
+    HEM_ADJACENT_UNCONDITIONED = 2, /* next to a space that is not, as a garage */
+    HEM_GROUND = 3,                 /* a floor on the ground */
+    HEM_TRANSPARENT = 4,            /* a window or glazed door */
+    HEM_PARTY_WALL = 5              /* a wall shared with a neighbour */
+};
+
+/* ---- places in the conditions of an hour ---- */
+
+enum hem_conditions_at {
+    HEM_CONDITIONS_AT_DELTA_T_H = 0,                   /* length, hours */
+    HEM_CONDITIONS_AT_TEMP_EXT_AIR = 8,                /* external air temperature, deg C */
+    HEM_CONDITIONS_AT_GAINS_INTERNAL = 16,             /* internal gains, W */
+    HEM_CONDITIONS_AT_GAINS_SOLAR = 24,                /* solar gains through the windows, W */
+    HEM_CONDITIONS_AT_FRAC_CONVECTIVE_HEAT = 32,       /* convective fraction of heating, 0 to 1 */
+    HEM_CONDITIONS_AT_FRAC_CONVECTIVE_COOL = 40,       /* convective fraction of cooling, 0 to 1 */
+    HEM_CONDITIONS_AT_TEMP_SETPNT_HEAT = 48,           /* heating setpoint, deg C */
+    HEM_CONDITIONS_AT_TEMP_SETPNT_COOL = 56,           /* cooling setpoint, deg C */
+    HEM_CONDITIONS_AT_TEMP_SETPNT_COOL_VENT = 64,      /* windows open above this, deg C (1.4e32: no control) */
+    HEM_CONDITIONS_AT_AVG_AIR_SUPPLY_TEMP = 72,        /* temperature of the supplied air, deg C */
+    HEM_CONDITIONS_AT_GAINS_HEAT_COOL_CONVECTIVE = 80, /* convective gains from heating or cooling that is on in any
+                                                          case, W */
+    HEM_CONDITIONS_AT_GAINS_HEAT_COOL_RADIATIVE = 88,  /* its radiative gains, W */
+    HEM_CONDITIONS_AT_RATE_CODE = 96,                  /* 1 byte: 0 one fixed rate, 1 target and windows open */
+    HEM_CONDITIONS_AT_RATES = 97,                      /* the fixed rate and 8 zero bytes, or target and windows-open
+                                                          rate; air changes per hour */
+    HEM_CONDITIONS_AT_ELEMENTS = 113                   /* each element's part, in the order of the head */
+};
+
+enum hem_element_hour_at {
+    HEM_ELEMENT_HOUR_AT_TEMP_EXT = 0,   /* temperature on the outer side, deg C */
+    HEM_ELEMENT_HOUR_AT_I_SOL_DIR = 8,  /* direct irradiance on the element's surface, W/m2 */
+    HEM_ELEMENT_HOUR_AT_I_SOL_DIF = 16, /* diffuse irradiance on the element's surface, W/m2 */
+    HEM_ELEMENT_HOUR_AT_F_SH_DIR = 24,  /* shading factor of the direct part, 0 to 1 (1 is unshaded) */
+    HEM_ELEMENT_HOUR_AT_F_SH_DIF = 32,  /* shading factor of the diffuse part, 0 to 1 */
+    HEM_ELEMENT_HOUR_AT_OPEN = 40       /* 1 byte: bit j, the least significant first, means treatment j is open */
+};
+
+/* ---- places in an entry; behind the conditions they depend on the n elements ---- */
+
+enum hem_entry_at { HEM_ENTRY_AT_LENGTH = 0, HEM_ENTRY_AT_VERSION = 4, HEM_ENTRY_AT_CONDITIONS = 5 };
+#define HEM_ENTRY_AT_HEATING(n) (5 + HEM_CONDITIONS(n))       /* kWh, at least 0 */
+#define HEM_ENTRY_AT_COOLING(n) (13 + HEM_CONDITIONS(n))      /* kWh, at most 0 */
+#define HEM_ENTRY_AT_RATE(n) (21 + HEM_CONDITIONS(n))         /* the chosen rate, air changes per hour */
+#define HEM_ENTRY_AT_TRIGGER(n) (29 + HEM_CONDITIONS(n))      /* 1 byte: 1 where there is a trigger rate */
+#define HEM_ENTRY_AT_TRIGGER_RATE(n) (30 + HEM_CONDITIONS(n)) /* per hour; zero bits where there is none */
+#define HEM_ENTRY_AT_TEMPS(n) (38 + HEM_CONDITIONS(n))        /* node temperatures after the hour, deg C */
+
+/* ---- places in `out` and `balance` ---- */
+
+enum hem_out {
+    HEM_OUT_HEATING = 0,     /* kWh, at least 0 */
+    HEM_OUT_COOLING = 1,     /* kWh, at most 0 */
+    HEM_OUT_RATE = 2,        /* the chosen rate, air changes per hour */
+    HEM_OUT_TRIGGER = 3,     /* 1.0 where there is a rate that would bring the zone to its heating setpoint, else 0.0 */
+    HEM_OUT_TRIGGER_RATE = 4 /* that rate, per hour; 0.0 where there is none */
+};
+
+/* All in W; heat that enters is positive. */
+enum hem_balance {
+    /* at the air node: the seven add up to zero, but for rounding */
+    HEM_AIR_SOLAR_GAINS = 0,
+    HEM_AIR_INTERNAL_GAINS = 1,
+    HEM_AIR_HEATING_OR_COOLING_SYSTEM_GAINS = 2,
+    HEM_AIR_ENERGY_TO_CHANGE_INTERNAL_TEMPERATURE = 3,
+    HEM_AIR_THERMAL_BRIDGES = 4,
+    HEM_AIR_INFILTRATION_VENTILATION = 5,
+    HEM_AIR_FABRIC_HEAT_LOSS = 6,
+    /* into the inner surfaces */
+    HEM_INT_FABRIC_INT_AIR_CONVECTIVE = 7,
+    HEM_INT_FABRIC_INT_SOL = 8,
+    HEM_INT_FABRIC_INT_INT_GAINS = 9,
+    HEM_INT_FABRIC_INT_HEAT_COOL = 10,
+    /* across the zone's outer boundary */
+    HEM_EXT_SOLAR_GAINS = 11,
+    HEM_EXT_INTERNAL_GAINS = 12,
+    HEM_EXT_HEATING_OR_COOLING_SYSTEM_GAINS = 13,
+    HEM_EXT_THERMAL_BRIDGES = 14,
+    HEM_EXT_INFILTRATION_VENTILATION = 15,
+    HEM_EXT_FABRIC_EXT_AIR_CONVECTIVE = 16,
+    HEM_EXT_FABRIC_EXT_AIR_RADIATIVE = 17,
+    HEM_EXT_FABRIC_EXT_SOL = 18,
+    HEM_EXT_FABRIC_EXT_SKY = 19,
+    /* the same four sums once more, by kind of element (ztc: adjacent conditioned space; ztu: adjacent
+       unconditioned space and party walls) */
+    HEM_EXT_OPAQUE_FABRIC_EXT = 20,
+    HEM_EXT_TRANSPARENT_FABRIC_EXT = 21,
+    HEM_EXT_GROUND_FABRIC_EXT = 22,
+    HEM_EXT_ZTC_FABRIC_EXT = 23,
+    HEM_EXT_ZTU_FABRIC_EXT = 24
+};
+
+/* ---- functions ---- */
 
 /* Tests a head. Bytes after the head's own length are not looked at. Refused with 1 to 5. */
 uint32_t hem_head(const uint8_t *head, size_t head_len);
@@ -80,18 +255,22 @@ uint32_t hem_demand(const uint8_t *head, size_t head_len, const double temps[HEM
                     const uint8_t *cond, size_t cond_len, double out[HEM_OUT]);
 
 /* The temperatures after one hour in which heating or cooling gives `gains` watts, of which `fraction`
-   goes to the air, at `rate` air changes. Replaces `temps`, writes
-   `balance`.
+   goes to the air, at `rate` air changes per hour. Replaces `temps`, writes `balance`.
    Refused with 1 to 9, 12 and 13. */
 uint32_t hem_update(const uint8_t *head, size_t head_len, double temps[HEM_TEMPS], uint64_t nodes,
                     const uint8_t *cond, size_t cond_len, double gains, double fraction, double rate,
                     double balance[HEM_BALANCE]);
 
-/* One hour: its demand, and the temperatures after that demand was met. Replaces
-   `temps`, writes `out` and `balance`. Refused with 1 to 14. */
+/* One hour: its demand, and the temperatures after that demand was met. Replaces `temps`, writes `out`
+   and `balance`. Refused with 1 to 14. */
 uint32_t hem_hour_step(const uint8_t *head, size_t head_len, double temps[HEM_TEMPS], uint64_t nodes,
                        const uint8_t *cond, size_t cond_len, double out[HEM_OUT],
                        double balance[HEM_BALANCE]);
+
+/* The operative temperature of node temperatures, deg C: the mean of the air and of the inner surfaces
+   weighted by area. Writes `*operative`. Refused with 1 to 6. */
+uint32_t hem_operative(const uint8_t *head, size_t head_len, const double temps[HEM_TEMPS], uint64_t nodes,
+                       double *operative);
 
 /* Begins a book: writes the head to the first bytes of `buf`, its start-up to `temps` and `*nodes`,
    0 to `*count` and the number of bytes written to `*used`. Bytes of `buf` after them stay.
@@ -107,12 +286,14 @@ uint32_t hem_append(const uint8_t *head, size_t head_len, uint8_t *buf, size_t b
                     double temps[HEM_TEMPS], uint64_t *nodes, uint64_t *count, uint64_t *used,
                     const uint8_t *cond, size_t cond_len);
 
-/* Takes up the bytes of a book: each whole entry is calculated again and must be the same bytes.
-   Writes the temperatures after the last whole entry (start-up's if there is none) and their number, the
-   number of entries and the number of bytes that they and the head take; a shorter rest behind them is an entry that was not written to its end.
-   Refused with 1 to 5, 11 to 15, 17 at the 8,785th entry and 18 at the first false one. */
-uint32_t hem_take_up(const uint8_t *bytes, size_t bytes_len,
-                     double temps[HEM_TEMPS], uint64_t *nodes, uint64_t *count, uint64_t *used);
+/* Takes up the bytes of a book: each whole entry is calculated again and must be the same bytes. (A
+   changed condition that has no effect in its hour gives another true book.) Writes the temperatures
+   after the last whole entry (start-up's if there is none) and their number, the number of entries and
+   the number of bytes that they and the head take; a shorter rest behind them is an entry that was not
+   written to its end. Refused with 1 to 5, 11 to 15, 17 at the 8,785th entry and 18 at the first false
+   one. */
+uint32_t hem_take_up(const uint8_t *bytes, size_t bytes_len, double temps[HEM_TEMPS], uint64_t *nodes,
+                     uint64_t *count, uint64_t *used);
 
 #ifdef __cplusplus
 }

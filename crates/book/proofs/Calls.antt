@@ -28,16 +28,20 @@ use Rattle.zone.specs.declared.calls.state.Demand.{Demand}
 use Rattle.zone.specs.declared.calls.state.HourAnswer.the-variants as HourAnswer
 use Rattle.zone.specs.declared.calls.state.HourStepReply.{HourStepReply}
 use Rattle.zone.specs.declared.calls.state.StartUp.{StartUp}
+use Rattle.book.specs.Numbers.{bufferShort, bookFull}
+use Rattle.book.specs.Model.Interface.{Written}
 use Rattle.book.specs.Model.Calls as Book
 use Rattle.book.specs.Model.Session.{Meets}
-use Rattle.book.specs.Bytes.{replaceAt}
-use Rattle.book.specs.Entry.{conditionsLength, wholeLength, entryOf}
-use Rattle.book.specs.Year.{startUp, hour, step, year}
-use Rattle.book.specs.Answers.{givenOf, replyIn, code}
+use Rattle.book.specs.Inner.Replace.{replaceAt}
+use Rattle.zone.specs.Format.Layout.{conditionsLength}
+use Rattle.book.specs.Layout.{wholeLength}
+use Rattle.book.specs.Entry.{entryOf}
+use Rattle.book.specs.Year.{startUp, hour, hourEntry, year}
+use Rattle.book.specs.Answers.{givenOf, replyIn, rustTypes}
 use Rattle.book.specs.declared.book.Values.{Values}
 use Rattle.book.specs.declared.book.Reply.{Reply}
 use Rattle.book.proofs.Laws.Accepted.{head-few, hour-conditions, hour-entry}
-use Rattle.book.proofs.Laws.Layers.{step-hour, step-length}
+use Rattle.book.proofs.Laws.Interface.{step-hour, step-length}
 
 -- ---- room behind the used bytes
 
@@ -57,13 +61,13 @@ pub ruleset room-cases = (room-none, room-left)
 
 module _ (bs : List ℕ) (h : Head) (e : h ≡ headAnswer (headOf bs)) where
   pub head-inside : h .verdict ≡ Accepted → h .length ≤ length bs
-  head-inside f = head-within bs (h .zone) (h .length) (head-yes (headOf bs) h e f)
+  head-inside f = head-within bs _ (head-yes (headOf bs) h e f)
 
   pub head-count : h .verdict ≡ Accepted → h .zone .count ≤ 24
   head-count f = head-few bs (h .zone) (h .length) (head-yes (headOf bs) h e f)
 
 module _ (z : Zone) (s : State) (i : List ℕ) (x : HourStepReply) (e : x ≡ hourStepReply s (hourStep standardCoefficients z s i)) where
-  pub hour-size : (d : Demand) (b : HeatBalance) → x .answer ≡ HourAnswer.Accepted d b → length i ≡ conditionsLength z
+  pub hour-size : (d : Demand) (b : HeatBalance) → x .answer ≡ HourAnswer.Accepted d b → length i ≡ conditionsLength (z .count)
   hour-size d b f = hour-conditions z s i (record { demand = d; state = x .state; balance = b }) (hour-yes s (hour z s i) x e d b f)
 
   pub hour-written : (d : Demand) (b : HeatBalance) → x .answer ≡ HourAnswer.Accepted d b → length (entryOf z i d (x .state)) ≡ wholeLength z
@@ -76,7 +80,7 @@ zone-passed z v e f = verdict-accepted (zoneTest z) (sym e ∙ f)
 
 module _ (head : List ℕ) (h : Head) (e : h ≡ headAnswer (headOf head)) (g : Values) (buf : List ℕ) where
   abbrev BeginMeets : Reply → List ℕ → Type 0
-  BeginMeets r out = Meets year code r out (Book.begin year head (givenOf g) buf)
+  BeginMeets r out = Meets year rustTypes r out (Book.begin year head (givenOf g) buf)
 
   abbrev Refuses : Reply → (number index : ℕ) → Type 0
   Refuses r n j = r ≡ replyIn (Book.refusedWith n j (givenOf g))
@@ -95,9 +99,9 @@ module _ (head : List ℕ) (h : Head) (e : h ≡ headAnswer (headOf head)) (g : 
     begin-start r n j q k = begin-refused r n j q (rw (head-yes (headOf head) h e f, start-no (startUp (h .zone)) s i n j k))
 
     module _ (k : s .verdict ≡ Accepted) where
-      pub begin-short : (r : Reply) → Refuses r 16 0 → length buf < h .length → BeginMeets r buf
+      pub begin-short : (r : Reply) → Refuses r bufferShort 0 → length buf < h .length → BeginMeets r buf
       unfolding Book.beginRes
-      begin-short r q l = begin-refused r 16 0 q (rw (head-yes (headOf head) h e f, start-yes (startUp (h .zone)) s i k, lt-leb (h .length) (length buf) l))
+      begin-short r q l = begin-refused r bufferShort 0 q (rw (head-yes (headOf head) h e f, start-yes (startUp (h .zone)) s i k, lt-leb (h .length) (length buf) l))
 
       pub begin-good : (r : Reply) → r ≡ replyIn (Book.accepted (record { state = s .state; count = 0; used = h .length }))
           → h .length ≤ length buf → (out : List ℕ) → out ≡ replaceAt 0 (take (h .length) head) buf → BeginMeets r out
@@ -117,7 +121,7 @@ pub ruleset begin-cases = (begin-head, begin-start, begin-short, begin-good)
 
 module _ (z : Zone) (g : Values) (i : List ℕ) (buf : List ℕ) where
   abbrev AppendMeets : Reply → List ℕ → Type 0
-  AppendMeets r out = Meets year code r out (Book.append year z (givenOf g) i buf)
+  AppendMeets r out = Meets year rustTypes r out (Book.append year z (givenOf g) i buf)
 
   append-refused : (r : Reply) (n j : ℕ) → r ≡ replyIn (Book.refusedWith n j (givenOf g)) → Book.appendRes year z (givenOf g) i buf ≡ refused n j → AppendMeets r buf
   unfolding Book.append
@@ -128,30 +132,30 @@ module _ (z : Zone) (g : Values) (i : List ℕ) (buf : List ℕ) where
   append-zone r n j q v e f = append-refused r n j q (rw (verdict-refused (zoneTest z) n j (sym e ∙ f)))
 
   module _ (tested : zoneTest z ≡ ok tt) where
-    pub append-full : (r : Reply) → r ≡ replyIn (Book.refusedWith 17 0 (givenOf g)) → 8784 ≤ g .count → AppendMeets r buf
+    pub append-full : (r : Reply) → r ≡ replyIn (Book.refusedWith bookFull 0 (givenOf g)) → (year .limit) ≤ g .count → AppendMeets r buf
     unfolding Book.appendRes
-    append-full r q l = append-refused r 17 0 q (rw (tested, le-ltb (g .count) 8784 l))
+    append-full r q l = append-refused r bookFull 0 q (rw (tested, le-ltb (g .count) (year .limit) l))
 
-    module _ (few : g .count < 8784) where
-      room : ltb (g .count) 8784 ≡ true
-      room = lt-ltb (g .count) 8784 few
+    module _ (few : g .count < (year .limit)) where
+      room : ltb (g .count) (year .limit) ≡ true
+      room = lt-ltb (g .count) (year .limit) few
 
       pub append-hour : (r : Reply) (n j : ℕ) → r ≡ replyIn (Book.refusedWith n j (givenOf g))
           → (x : HourStepReply) → x ≡ hourStepReply (g .state) (hourStep standardCoefficients z (g .state) i) → x .answer ≡ HourAnswer.Refused n j → AppendMeets r buf
-      unfolding Book.appendRes step
+      unfolding Book.appendRes hourEntry
       append-hour r n j q x e f = append-refused r n j q (rw (tested, room, hour-no (g .state) (hour z (g .state) i) x e n j f))
 
-      module _ (d : Demand) (after : State) (gives : step z (g .count) (g .state) i ≡ ok (entryOf z i d after, after))
+      module _ (d : Demand) (after : State) (gives : hourEntry z (g .count) (g .state) i ≡ ok (record { bytes = entryOf z i d after; after = after }))
           (m : ℕ) (l : m ≡ wholeLength z) (t : Bool) (k : t ≡ leb (g .used + m) (length buf)) where
         long : length (entryOf z i d after) ≡ m
-        long = step-length z (g .count) (g .state) i (entryOf z i d after, after) gives ∙ sym l
+        long = step-length z (g .count) (g .state) i (record { bytes = entryOf z i d after; after = after }) gives ∙ sym l
 
         test : leb (g .used + length (entryOf z i d after)) (length buf) ≡ t
         test = ap (λ (y : ℕ). leb (g .used + y) (length buf)) long ∙ sym k
 
-        pub append-short : (r : Reply) → r ≡ replyIn (Book.refusedWith 16 0 (givenOf g)) → t ≡ false → AppendMeets r buf
+        pub append-short : (r : Reply) → r ≡ replyIn (Book.refusedWith bufferShort 0 (givenOf g)) → t ≡ false → AppendMeets r buf
         unfolding Book.appendRes
-        append-short r q n = append-refused r 16 0 q (rw (tested, room, gives, test ∙ n))
+        append-short r q n = append-refused r bufferShort 0 q (rw (tested, room, gives, test ∙ n))
 
         pub append-good : (r : Reply) → r ≡ replyIn (Book.accepted (record { state = after; count = g .count + 1; used = g .used + m }))
             → t ≡ true → (out : List ℕ) → out ≡ replaceAt (g .used) (entryOf z i d after) buf → AppendMeets r out
@@ -169,13 +173,13 @@ append-room z used m room t l e f = let w = leb-true (used + m) room (sym e ∙ 
 pub append-sum : (used m room top : ℕ) (t : Bool) → t ≡ leb (used + m) room → t ≡ true → room < top → used + m < top
 append-sum used m room top t e f h = let w = leb-true (used + m) room (sym e ∙ f) in omega arith
 
-pub step-size : (z : Zone) (k : ℕ) (s : State) (i : List ℕ) (e : List ℕ × State) → step z k s i ≡ ok e → length i ≡ conditionsLength z
+pub step-size : (z : Zone) (k : ℕ) (s : State) (i : List ℕ) (e : Written State) → hourEntry z k s i ≡ ok e → length i ≡ conditionsLength (z .count)
 step-size z k s i e p = let a = step-hour z k s i e p in hour-conditions z s i (a .0) (a .1)
 
 -- what the hour step gives, as an append's entry
 pub step-given : (z : Zone) (s : State) (i : List ℕ) (x : HourStepReply) → x ≡ hourStepReply s (hourStep standardCoefficients z s i)
-    → (d : Demand) (b : HeatBalance) → x .answer ≡ HourAnswer.Accepted d b → (k : ℕ) → step z k s i ≡ ok (entryOf z i d (x .state), x .state)
-unfolding step
+    → (d : Demand) (b : HeatBalance) → x .answer ≡ HourAnswer.Accepted d b → (k : ℕ) → hourEntry z k s i ≡ ok (record { bytes = entryOf z i d (x .state); after = x .state })
+unfolding hourEntry
 step-given z s i x e d b f k = rw (hour-yes s (hour z s i) x e d b f)
 
 pub ruleset append-cases = (append-full, append-hour, append-short, append-good)

@@ -1,28 +1,40 @@
--- Demand 3 for the year book, and what else is claimed of books.
+-- Demand 3 for the year book, and what else is claimed of its books.
 use mathlib.Core.Path.{_≡_, refl}
-use mathlib.Core.Logic.{_↔_}
-use mathlib.Core.List.{List, map}
-use mathlib.Core.Option.{none}
+use mathlib.Core.List.{List}
+use Prim.Native.Nat.{ℕ}
 use Rattle.zone.specs.declared.calls.state.State.{State}
 use Rattle.book.specs.Model.Calls as Book
-use Rattle.book.specs.Model.Plain.{empty}
-use Rattle.book.specs.Model.Run.{Calls, run, plainRun}
-use Rattle.book.specs.Model.Session.{CodeLaws, Returned, Session, returnedOf}
-use Rattle.book.specs.Model.Claims.{Claims, AllMade}
-use Rattle.book.proofs.Model.Claims.{claims}
+use Rattle.book.specs.Model.Plain.{empty, book, WellFormed}
+use Rattle.book.specs.Model.Session.{CodeTypes}
+use Rattle.book.specs.Model.Claims.{Demand3, SessionFrom, Claims}
 use Rattle.book.specs.Year.{year}
-use Rattle.book.specs.Answers.{answerOf, replyIn, code}
-use Rattle.book.proofs.Laws.Layers.{year-laws}
+use Rattle.book.specs.Answers.{answerOf, valuesIn, replyIn, rustTypes}
+use Rattle.book.proofs.Model.CodeLaws.{CodeLaws}
+use Rattle.book.proofs.Model.Sessions as Sessions
+use Rattle.book.proofs.Model.Whole as Whole
+use Rattle.book.proofs.Model.Books.Equal as Equal
+use Rattle.book.proofs.Model.Books.Cuts as Cuts
+use Rattle.book.proofs.Model.Books.TakenUp as TakenUp
+use Rattle.book.proofs.Model.Books.Behind as Behind
+use Rattle.book.proofs.Laws.Interface.{year-laws}
 
--- All claims of specs/Claims.antt of the plain book, at the year book's layers: two books are equal byte for byte exactly when heads and hours
--- are; a cut is a take-up of the bytes before it, is never refused and keeps the first hours; hours that a cut took are held again once
--- accepted anew; which bytes are taken up, and which number and index there is otherwise; bytes behind the used ones stay.
-pub year-claims : Claims year
-year-claims = claims year year-laws
+-- ---- lists of calls, at any types whose replies tell the answers apart
+
+module _ (T : CodeTypes year) (C : CodeLaws year T) where
+  pub demand-3-at : Demand3 year T
+  demand-3-at = Sessions.demand-3 year T C year-laws
+
+  pub session-exactly-at : SessionFrom year T empty
+  session-exactly-at = Sessions.session-exactly year T C year-laws
+
+  pub session-from-at : (head : List ℕ) (is : List (year .Item)) → WellFormed year head is → SessionFrom year T (book head is)
+  session-from-at = Sessions.session-from year T C year-laws
+
+-- ---- and at those of `begin`, `append` and `take_up`
 
 -- every answer is read back from its reply
-code-laws : CodeLaws year code
-code-laws = record { given-back = λ v. refl; answer-back = λ a p. back a }
+rust-laws : CodeLaws year rustTypes
+rust-laws = record { given-back = λ v. (valuesIn v, refl); answer-back = λ a p. back a }
   where
     back : (a : Book.Answer State) → answerOf (replyIn a) ≡ a
     back (Book.accepted v) = refl
@@ -30,19 +42,36 @@ code-laws = record { given-back = λ v. refl; answer-back = λ a p. back a }
 
 -- "Demand 3 is one claim about the whole list, not one for each call." For every list of calls that starts with no book, of begins, appends,
 -- cuts and take-ups with whatever arguments, and for whatever `begin`, `append` and `take_up` returned and left in the lent buffers, of which
--- a session holds what their contracts ensure and nothing else: each reply (verdict, number, index, temperatures, count, used length), each
+-- a session holds what their contracts ensure and nothing else: each answer (acceptance or number and index, temperatures, count, used length), each
 -- buffer, byte for byte, and the book held after each call are those of the plain book, which is fed the calls' arguments only.
-pub demand-3 : (cs : Calls year) (rs : List (Returned year code)) → Session year code none cs rs
-    → rs ≡ map (returnedOf year code) (plainRun year empty cs)
-demand-3 = year-claims .demand-3 code code-laws
+pub demand-3 : Demand3 year rustTypes
+demand-3 = demand-3-at rustTypes rust-laws
 
--- The premise of demand-3 is met for every list of calls that may be made: it has a session at the functions' own types. Any begin and any take-up
--- may be made; "appends and cuts come once there is" a book; a cut lies from "the head's end to the used length".
-pub session-exists : (cs : Calls year) → AllMade year (run year none cs) → Session year code none cs (map (returnedOf year code) (run year none cs))
-session-exists = year-claims .session-exists code code-laws
+-- The lists of calls that have a session are those whose calls may all be made, and the contracts of `begin`, `append` and `take_up` leave each of
+-- these one list of events, the plain book's. Any begin and any take-up may be made; "appends and cuts come once there is" a book; a cut lies from "the
+-- head's end to the used length".
+pub session-exactly : SessionFrom year rustTypes empty
+session-exactly = session-exactly-at rustTypes rust-laws
 
--- Both together: the lists of calls that have a session are those whose calls may all be made, and the contracts of `begin`, `append` and `take_up`
--- leave each of these one list of returns, the plain book's.
-pub session-exactly : (cs : Calls year) (rs : List (Returned year code))
-    → Session year code none cs rs ↔ (AllMade year (plainRun year empty cs) × (rs ≡ map (returnedOf year code) (plainRun year empty cs)))
-session-exactly = year-claims .session-exactly code code-laws
+-- The same from any book that is held, be it by a list of calls or by any accepted bytes.
+pub session-from : (head : List ℕ) (is : List (year .Item)) → WellFormed year head is → SessionFrom year rustTypes (book head is)
+session-from = session-from-at rustTypes rust-laws
+
+-- ---- what follows for books
+
+-- Two books are equal byte for byte exactly when heads and hours are; a cut is a take-up of the bytes before it, is never refused and keeps the first
+-- hours; hours that a cut took are held again once accepted anew; which bytes are taken up, and which number and index there is otherwise; bytes behind
+-- the used ones stay.
+pub year-claims : Claims year
+year-claims =
+    record {
+      well-formed-after = Whole.well-formed-after year year-laws;
+      equal-books = Equal.equal-books year year-laws;
+      two-books = Equal.two-books year year-laws;
+      of-book = Cuts.of-book year year-laws;
+      take-up-accepts = TakenUp.take-up-accepts year year-laws;
+      take-up-gives = TakenUp.take-up-gives year year-laws;
+      take-up-refuses = TakenUp.take-up-refuses year year-laws;
+      begin-leaves-behind = Behind.begin-leaves-behind year year-laws;
+      append-leaves-behind = Behind.append-leaves-behind year year-laws;
+    }

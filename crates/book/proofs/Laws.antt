@@ -5,4 +5,4 @@ pub mod Loops
 pub mod Entry
 pub mod Writing
 pub mod Accepted
-pub mod Layers
+pub mod Interface

@@ -1,9 +1,10 @@
--- Demand3 is the claim about the whole list, Contracts its tie to the functions; Calls and TakeUp have the functions' returns case by case.
--- Refusals says which numbers and indices there are.
+-- Demand3 has what is claimed of the year book, the claim about the whole list first, Contracts its tie to the functions, HouseP its example; Calls and
+-- TakeUp have the functions' returns case by case. Refusals says which numbers and indices there are.
 pub mod Model
 pub mod Laws
 pub mod Calls
 pub mod TakeUp
 pub mod Refusals
 pub mod Demand3
+pub mod HouseP
 pub mod Contracts

@@ -10,7 +10,7 @@ use Rattle.zone.specs.declared.calls.state.State.{State}
 use Rattle.zone.proofs.Claims.Refusals.{hour-step-refusals, start-up-refusals}
 use Rattle.book.specs.Model.Calls.{Values, beginRes, appendRes, takeUpRes}
 use Rattle.book.proofs.Model.Laws.Refusals.{begin-refuses-by, append-refuses-by, take-up-refuses-by}
-use Rattle.book.specs.Year.{step, year}
+use Rattle.book.specs.Year.{hourEntry, year}
 use Rattle.book.specs.Refusals.{
   BeginRefusal,
   beginHead,
@@ -35,8 +35,8 @@ begin-refusals head buf =
     (λ z. refuses-also (λ n i p. beginStartUp p) (start-up-refusals standardCoefficients z))
     beginBuffer head buf
 
-step-refuses : (z : Zone) (k : ℕ) (s : State) (conditions : List ℕ) → RefusesOnly AppendRefusal (step z k s conditions)
-unfolding step
+step-refuses : (z : Zone) (k : ℕ) (s : State) (conditions : List ℕ) → RefusesOnly AppendRefusal (hourEntry z k s conditions)
+unfolding hourEntry
 step-refuses z k s conditions =
     bind-refuses _ (refuses-also (λ n i p. appendHour p) (hour-step-refusals standardCoefficients z s conditions)) λ r _.
     accepts _
@@ -44,8 +44,8 @@ step-refuses z k s conditions =
 pub append-refusals : (z : Zone) (given : Values State) (conditions buf : List ℕ) → RefusesOnly AppendRefusal (appendRes year z given conditions buf)
 append-refusals z given conditions buf =
     append-refuses-by year
-    (λ z. refuses-also (λ n i p. appendZone p) (zone-refusals z))
-    step-refuses appendBuffer appendHeld z given conditions buf
+    (λ z s. refuses-also (λ n i p. appendZone p) (zone-refusals z))
+    (λ z k s i few. step-refuses z k s i) appendBuffer appendHeld z given conditions buf
 
 pub take-up-refusals : (bytes : List ℕ) → RefusesOnly TakeUpRefusal (takeUpRes year bytes)
 take-up-refusals bytes =

@@ -3,7 +3,7 @@ use mathlib.Core.Path.{_≡_, sym, ap, _∙_}
 use mathlib.Core.Bool.{Bool, true, false}
 use mathlib.Core.List.{List, _∷_}
 use mathlib.Core.Option.{some}
-use Prim.Native.Nat.{ℕ, _+_, _-_, _*_, _≤_, _<_}
+use Prim.Native.Nat.{ℕ, _+_, _-_, _≤_, _<_}
 use native.Mathlib.Nat.{add-sub-cancel-left}
 use native.Mathlib.Omega.{arith}
 use lib.ListN.{length, take, drop, length-drop}
@@ -25,53 +25,58 @@ use Rattle.zone.specs.declared.calls.state.Demand.{Demand}
 use Rattle.zone.specs.declared.calls.state.HourAnswer.the-variants as HourAnswer
 use Rattle.zone.specs.declared.calls.state.HourStepReply.{HourStepReply}
 use Rattle.zone.specs.declared.calls.state.StartUp.{StartUp}
+use Rattle.book.specs.Numbers.{bookFull, falseEntry}
 use Rattle.book.specs.Model.Bytes.{equalBytes}
 use Rattle.book.specs.Model.Calls as Book
 use Rattle.book.proofs.Model.Laws.Decode.{whole-none, whole-some}
-use Rattle.book.specs.Entry.{conditionsLength, wholeLength, entryOf}
-use Rattle.book.specs.Year.{startUp, hour, step, entryLength, conditionsIn, year}
-use Rattle.book.specs.Answers.{givenOf, replyIn, checkedEntry}
+use Rattle.zone.specs.Format.Layout.{conditionsLength}
+use Rattle.book.specs.Layout.{frontSize, wholeLength}
+use Rattle.book.specs.Entry.{entryOf}
+use Rattle.book.specs.Year.{startUp, hour, hourEntry, entryLength, conditionsIn, year}
+use Rattle.book.specs.Answers.{givenOf, replyIn}
+use Rattle.book.specs.Inner.Checked.{checkedEntry}
 use Rattle.book.specs.declared.book.Values.{Values}
 use Rattle.book.specs.declared.book.Reply.{Reply}
 use Rattle.book.specs.declared.book.CheckedEntry.{CheckedEntry}
-use Rattle.book.proofs.Laws.Layers.{length-here, length-none, year-laws}
+use Rattle.book.proofs.Laws.Interface.{length-here, length-none, year-laws}
 
 -- ---- one entry
 
 module _ (z : Zone) (k : ℕ) (s : State) (c : List ℕ) where
   -- the conditions, as the code cuts them out
-  abbrev part : List ℕ
-  part = take (118 + 41 * z .count - 5) (drop 5 c)
-
-  part-is : part ≡ conditionsIn z c
-  part-is = let e : 118 + 41 * z .count - 5 ≡ conditionsLength z = omega arith in ap (λ (n : ℕ). take n (drop 5 c)) e
+  part-is : (m : ℕ) → m ≡ conditionsLength (z .count) → take (frontSize + m - frontSize) (drop frontSize c) ≡ conditionsIn z c
+  part-is m l = ap (λ (y : ℕ). take y (drop frontSize c)) (add-sub-cancel-left frontSize m ∙ l)
 
   abbrev Checked : CheckedEntry → Type 0
-  Checked y = y ≡ checkedEntry s (Book.checkEntry year k c (step z k s (conditionsIn z c)))
+  Checked y = y ≡ checkedEntry s (Book.checkEntry year k c (hourEntry z k s (conditionsIn z c)))
 
   abbrev False : CheckedEntry → Type 0
-  False y = y ≡ record { verdict = Refused 18 k; state = s }
+  False y = y ≡ record { verdict = Refused falseEntry k; state = s }
 
-  module _ (x : HourStepReply) (r : x ≡ hourStepReply s (hourStep standardCoefficients z s part)) where
+  module _ (m : ℕ) (l : m ≡ conditionsLength (z .count)) (x : HourStepReply)
+      (r : x ≡ hourStepReply s (hourStep standardCoefficients z s (take (frontSize + m - frontSize) (drop frontSize c)))) where
+    abbrev part : List ℕ
+    part = take (frontSize + m - frontSize) (drop frontSize c)
+
     pub entry-refused : (n j : ℕ) → x .answer ≡ HourAnswer.Refused n j → (y : CheckedEntry) → False y → Checked y
-    unfolding step
+    unfolding hourEntry
     entry-refused n j f y q =
-        let w : hour z s (conditionsIn z c) ≡ refused n j = ap (hour z s) (sym part-is) ∙ hour-no s (hour z s part) x r n j f in
+        let w : hour z s (conditionsIn z c) ≡ refused n j = ap (hour z s) (sym (part-is m l)) ∙ hour-no s (hour z s part) x r n j f in
         rw w q
 
     module _ (d : Demand) (b : HeatBalance) (f : x .answer ≡ HourAnswer.Accepted d b) (t : Bool) (g : t ≡ equalBytes (entryOf z part d (x .state)) c) where
       gives : hour z s (conditionsIn z c) ≡ ok (record { demand = d; state = x .state; balance = b })
-      gives = ap (hour z s) (sym part-is) ∙ hour-yes s (hour z s part) x r d b f
+      gives = ap (hour z s) (sym (part-is m l)) ∙ hour-yes s (hour z s part) x r d b f
 
       same : equalBytes (entryOf z (conditionsIn z c) d (x .state)) c ≡ t
-      same = ap (λ (i : List ℕ). equalBytes (entryOf z i d (x .state)) c) (sym part-is) ∙ sym g
+      same = ap (λ (i : List ℕ). equalBytes (entryOf z i d (x .state)) c) (sym (part-is m l)) ∙ sym g
 
       pub entry-right : t ≡ true → Checked (record { verdict = Accepted; state = x .state })
-      unfolding step
+      unfolding hourEntry
       entry-right q = rw (gives, same ∙ q)
 
       pub entry-other : t ≡ false → (y : CheckedEntry) → False y → Checked y
-      unfolding step
+      unfolding hourEntry
       entry-other q y h = rw (gives, same ∙ q) h
 
 pub ruleset entry-cases = (entry-refused, entry-right, entry-other)
@@ -89,7 +94,7 @@ check-yes s (refused m k) x e f = apart m k (sym f ∙ ap (λ y. y .verdict) e)
 module _ (z : Zone) (m : ℕ) (l : m ≡ wholeLength z) (k : ℕ) (t : State) (at : ℕ) (b : List ℕ) (g : Values) (J : Result (Book.Values State))
     (within : at ≤ length b) (inv : J ≡ Book.checkEntries year z k t at (Book.wholeEntries year z (drop at b))) where
   abbrev Told : Reply → Type 0
-  Told r = r ≡ replyIn (Book.answerOf (givenOf g) J)
+  Told r = r ≡ replyIn (Book.answerFrom (givenOf g) J)
 
   abbrev TurnsDown : Reply → (number index : ℕ) → Type 0
   TurnsDown r n j = r ≡ replyIn (Book.refusedWith n j (givenOf g))
@@ -106,36 +111,36 @@ module _ (z : Zone) (m : ℕ) (l : m ≡ wholeLength z) (k : ℕ) (t : State) (a
         let w : entryLength z (drop at b) ≡ some m = length-here z (drop at b) (omega (arith, length-drop at b)) ∙ ap some (sym l) in
         whole-some year year-laws z (drop at b) m w ∙ ap (λ (x : List ℕ). take m (drop at b) ∷ Book.wholeEntries year z x) (drop-drop m at b)
 
-    pub check-many : 8784 ≤ k → (r : Reply) → TurnsDown r 17 0 → Told r
+    pub check-many : (year .limit) ≤ k → (r : Reply) → TurnsDown r bookFull 0 → Told r
     unfolding Book.checkEntries
-    check-many h r q = rw (inv, opened, le-ltb k 8784 h) q
+    check-many h r q = rw (inv, opened, le-ltb k (year .limit) h) q
 
     pub left-length : length (take (at + m - at) (drop at b)) ≡ wholeLength z
     left-length = rw (add-sub-cancel-left at m) (length-take-le m (drop at b) (omega (arith, length-drop at b)) ∙ l)
 
-    module _ (few : k < 8784) (x : CheckedEntry)
-        (r : x ≡ checkedEntry t (Book.checkEntry year k (take (at + m - at) (drop at b)) (step z k t (conditionsIn z (take (at + m - at) (drop at b)))))) where
+    module _ (few : k < (year .limit)) (x : CheckedEntry)
+        (r : x ≡ checkedEntry t (Book.checkEntry year k (take (at + m - at) (drop at b)) (hourEntry z k t (conditionsIn z (take (at + m - at) (drop at b)))))) where
       abbrev Entry : Result State
-      Entry = Book.checkEntry year k (take m (drop at b)) (step z k t (conditionsIn z (take m (drop at b))))
+      Entry = Book.checkEntry year k (take m (drop at b)) (hourEntry z k t (conditionsIn z (take m (drop at b))))
 
       r′ : x ≡ checkedEntry t Entry
       r′ =
           r
-          ∙ ap (λ (n : ℕ). checkedEntry t (Book.checkEntry year k (take n (drop at b)) (step z k t (conditionsIn z (take n (drop at b))))))
+          ∙ ap (λ (n : ℕ). checkedEntry t (Book.checkEntry year k (take n (drop at b)) (hourEntry z k t (conditionsIn z (take n (drop at b))))))
           (add-sub-cancel-left at m)
 
       pub check-false : (n j : ℕ) → x .verdict ≡ Refused n j → (y : Reply) → TurnsDown y n j → Told y
       unfolding Book.checkEntries
       check-false n j e y q =
           let w : Entry ≡ refused n j = check-no t Entry x r′ n j e in
-          rw (inv, opened, lt-ltb k 8784 few, w) q
+          rw (inv, opened, lt-ltb k (year .limit) few, w) q
 
       pub check-right : x .verdict ≡ Accepted → J ≡ Book.checkEntries year z (k + 1) (x .state) (at + m) (Book.wholeEntries year z (drop (at + m) b))
       unfolding Book.checkEntries
       check-right e =
           let n : length (take m (drop at b)) ≡ m = length-take-le m (drop at b) (omega (arith, length-drop at b)) in
           let w : Entry ≡ ok (x .state) = check-yes t Entry x r′ e in
-          rw (inv, opened, lt-ltb k 8784 few, w, n)
+          rw (inv, opened, lt-ltb k (year .limit) few, w, n)
 
 pub ruleset loop-cases = (check-end, check-many, check-false)
 
@@ -155,7 +160,7 @@ module _ (bytes : List ℕ) (h : Head) (e : h ≡ headAnswer (headOf bytes)) (g 
     take-up-start r n j q k = rw (head-yes (headOf bytes) h e f, start-no (startUp (h .zone)) s i n j k) q
 
     pub take-up-entries : s .verdict ≡ Accepted → (r : Reply)
-        → r ≡ replyIn (Book.answerOf (givenOf g) (Book.checkEntries year (h .zone) 0 (s .state) (h .length) (Book.wholeEntries year (h .zone) (drop (h .length) bytes))))
+        → r ≡ replyIn (Book.answerFrom (givenOf g) (Book.checkEntries year (h .zone) 0 (s .state) (h .length) (Book.wholeEntries year (h .zone) (drop (h .length) bytes))))
         → TakenUp r
     unfolding Book.takeUp Book.takeUpRes
     take-up-entries k r q = rw (head-yes (headOf bytes) h e f, start-yes (startUp (h .zone)) s i k) q

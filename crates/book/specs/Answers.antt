@@ -1,5 +1,4 @@
 -- What the functions answer, for what the definitions say: document 01's number and index of a refusal, and the values handed back.
-use Rattle.zone.specs.Promise.{Result, ok, refused}
 use Rattle.zone.specs.declared.record.zone_record.Verdict.{Verdict}
 use Rattle.zone.specs.declared.record.zone_record.Verdict.the-variants.{Accepted, Refused}
 use Rattle.zone.specs.declared.calls.state.State.{State}
@@ -8,7 +7,6 @@ use Rattle.book.specs.Model.Session.{CodeTypes}
 use Rattle.book.specs.Year.{year}
 use Rattle.book.specs.declared.book.Values.{Values}
 use Rattle.book.specs.declared.book.Reply.{Reply}
-use Rattle.book.specs.declared.book.CheckedEntry.{CheckedEntry}
 
 abbrev pub givenOf : Values → Book.Values State
 givenOf v = record { state = v .state; count = v .count; used = v .used }
@@ -21,25 +19,12 @@ abbrev pub replyIn : Book.Answer State → Reply
 replyIn (Book.accepted v) = record { verdict = Accepted; values = valuesIn v }
 replyIn (Book.refusedWith number index v) = record { verdict = Refused number index; values = valuesIn v }
 
-abbrev answerBy : Verdict → Book.Values State → Book.Answer State
+abbrev pub answerBy : Verdict → Book.Values State → Book.Answer State
 answerBy Accepted v = Book.accepted v
 answerBy (Refused number index) v = Book.refusedWith number index v
 
 abbrev pub answerOf : Reply → Book.Answer State
 answerOf r = answerBy (r .verdict) (givenOf (r .values))
 
-abbrev pub code : CodeTypes year
-code =
-    record {
-      Values = Values;
-      Reply = Reply;
-      givenOf = givenOf;
-      valuesIn = valuesIn;
-      answerOf = answerOf;
-      replyIn = replyIn;
-    }
-
--- an entry's check: the state after it, or 18 and the state before it
-abbrev pub checkedEntry : (before : State) → Result State → CheckedEntry
-checkedEntry s (ok t) = record { verdict = Accepted; state = t }
-checkedEntry s (refused number index) = record { verdict = Refused number index; state = s }
+abbrev pub rustTypes : CodeTypes year
+rustTypes = record { Values = Values; Reply = Reply; givenOf = givenOf; answerOf = answerOf; replyIn = replyIn }

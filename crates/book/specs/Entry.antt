@@ -1,34 +1,21 @@
 -- The bytes of an entry (document 01, "Bytes of head and entry").
-use Prim.Native.Nat.{ℕ, _+_, _*_}
+use Prim.Native.Nat.{ℕ}
 use mathlib.Core.List.{List, [], _∷_, _++_}
 use lib.ListN.{take}
 use Rattle.zone.specs.Format.Bytes.{bytesOf}
+use Rattle.zone.specs.Format.Encode.{floatBytes, rowBytes}
 use Rattle.zone.specs.Record.BuildingElement.{nodeCount}
 use Rattle.zone.specs.declared.record.zone_record.Zone.{Zone}
 use Rattle.zone.specs.declared.calls.state.State.{State}
 use Rattle.zone.specs.declared.calls.state.Demand.{Demand}
 use Rattle.zone.specs.declared.calls.state.AchToTriggerHeating.{AchToTriggerHeating}
 use Rattle.zone.specs.declared.calls.state.AchToTriggerHeating.the-variants.{Absent, At}
-use Rattle.book.specs.Bytes.{floatBytes, floatsBytes}
-
--- an hour's conditions: "113 + 41n bytes"
-abbrev pub conditionsLength : Zone → ℕ
-conditionsLength z = 113 + 41 * z .count
-
--- "Length 147 + 41n + 8N, fixed by the head": of what follows the 4 bytes in which it stands
-abbrev pub lengthField : Zone → ℕ
-lengthField z = 147 + 41 * z .count + 8 * nodeCount z
-
--- all bytes of an entry
-abbrev pub wholeLength : Zone → ℕ
-wholeLength z = 4 + lengthField z
-
-abbrev pub version : ℕ
-version = 1
+use Rattle.zone.specs.Format.Layout.{lengthSize}
+use Rattle.book.specs.Layout.{version, followingLength}
 
 -- "4-byte length of what follows, then version byte 1"
 abbrev pub frontBytes : Zone → List ℕ
-frontBytes z = bytesOf 4 (lengthField z) ++ (version ∷ [])
+frontBytes z = bytesOf lengthSize (followingLength z) ++ (version ∷ [])
 
 -- "trigger byte 0 or 1, trigger rate (zero bits if 0)"
 abbrev pub triggerBytes : AchToTriggerHeating → List ℕ
@@ -38,12 +25,12 @@ triggerBytes (At rate) = bytesOf 1 1 ++ floatBytes rate
 -- "heating, cooling, rate", then the trigger
 abbrev pub demandBytes : Demand → List ℕ
 demandBytes d =
-    floatsBytes (d .«space_heat_demand» ∷ d .«space_cool_demand» ∷ d .«ach_cooling» ∷ [])
+    rowBytes (d .«space_heat_demand» ∷ d .«space_cool_demand» ∷ d .«ach_cooling» ∷ [])
     ++ triggerBytes (d .«ach_to_trigger_heating»)
 
 -- "N node temperatures", those after the hour
 abbrev pub temperatureBytes : Zone → State → List ℕ
-temperatureBytes z s = floatsBytes (take (nodeCount z) (s .temps))
+temperatureBytes z s = rowBytes (take (nodeCount z) (s .temps))
 
 -- "Entry: conditions, heating, cooling, rate, trigger byte, trigger rate, N node temperatures." The conditions' bytes stand as they were given.
 unfoldable pub entryOf : Zone → (conditions : List ℕ) → Demand → State → List ℕ

@@ -2,23 +2,25 @@
 use Prim.Native.Nat.{ℕ, _<_}
 use Rattle.zone.specs.Claims.HeadRefusals.{HeadRefusal, ZoneRefusal}
 use Rattle.zone.specs.Claims.Refusals.{HourRefusal, StartUpRefusal}
+use Rattle.book.specs.Numbers.{bufferShort, bookFull, falseEntry}
+use Rattle.book.specs.Layout.{mostEntries}
 
 -- "Begin book: head, start-up, then buffer too short, 16."
 pub data BeginRefusal : (number index : ℕ) → Type 0 where
   beginHead : {number index : ℕ} → HeadRefusal number index → BeginRefusal number index
   beginStartUp : {number index : ℕ} → StartUpRefusal number index → BeginRefusal number index
-  beginBuffer : BeginRefusal 16 0
+  beginBuffer : BeginRefusal bufferShort 0
 
 -- "Append: 8,784 entries held, 17; the hour step's; buffer, 16." The zone is tested first.
 pub data AppendRefusal : (number index : ℕ) → Type 0 where
   appendZone : {number index : ℕ} → ZoneRefusal number index → AppendRefusal number index
-  appendHeld : AppendRefusal 17 0
+  appendHeld : AppendRefusal bookFull 0
   appendHour : {number index : ℕ} → HourRefusal number index → AppendRefusal number index
-  appendBuffer : AppendRefusal 16 0
+  appendBuffer : AppendRefusal bufferShort 0
 
 -- "Take up: head; start-up; then per whole entry, a 8,785th 17, a false one 18", with the entry's index from 0
 pub data TakeUpRefusal : (number index : ℕ) → Type 0 where
   takeUpHead : {number index : ℕ} → HeadRefusal number index → TakeUpRefusal number index
   takeUpStartUp : {number index : ℕ} → StartUpRefusal number index → TakeUpRefusal number index
-  takeUpMany : TakeUpRefusal 17 0
-  takeUpFalse : (entry : ℕ) → entry < 8784 → TakeUpRefusal 18 entry
+  takeUpMany : TakeUpRefusal bookFull 0
+  takeUpFalse : (entry : ℕ) → entry < mostEntries → TakeUpRefusal falseEntry entry

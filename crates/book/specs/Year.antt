@@ -13,8 +13,10 @@ use Rattle.zone.specs.declared.record.zone_record.Zone.{Zone}
 use Rattle.zone.specs.Calls.Hour.{HourResult, hourStep}
 use Rattle.zone.specs.Calls.StartUp.{initNodeTemps}
 use Rattle.zone.specs.declared.calls.state.State.{State}
-use Rattle.book.specs.Model.Layers.{Layers}
-use Rattle.book.specs.Entry.{conditionsLength, wholeLength, entryOf}
+use Rattle.book.specs.Model.Interface.{Interface, Written}
+use Rattle.zone.specs.Format.Layout.{conditionsLength}
+use Rattle.book.specs.Layout.{mostEntries, frontSize, wholeLength}
+use Rattle.book.specs.Entry.{entryOf}
 
 abbrev pub startUp : Zone → Result State
 startUp z = initNodeTemps standardCoefficients z
@@ -23,10 +25,10 @@ abbrev pub hour : Zone → State → (conditions : List ℕ) → Result HourResu
 hour z s i = hourStep standardCoefficients z s i
 
 -- the entry that an hour has, and the state after it: how many entries are before it does not matter
-unfoldable pub step : Zone → (count : ℕ) → State → (conditions : List ℕ) → Result (List ℕ × State)
-step z k s i =
+unfoldable pub hourEntry : Zone → (count : ℕ) → State → (conditions : List ℕ) → Result (Written State)
+hourEntry z k s i =
     bind (hour z s i) λ r.
-    ok (entryOf z i (r .demand) (r .state), r .state)
+    ok (record { bytes = entryOf z i (r .demand) (r .state); after = r .state })
 
 -- "a rest of the book begins with a whole entry if it has at least 4 bytes more than that"
 unfoldable pub entryLength : Zone → (rest : List ℕ) → Option ℕ
@@ -34,20 +36,20 @@ entryLength z rest = cond (leb (wholeLength z) (length rest)) (some (wholeLength
 
 -- the conditions stand behind the length and the version
 abbrev pub conditionsIn : Zone → (entry : List ℕ) → List ℕ
-conditionsIn z e = take (conditionsLength z) (drop 5 e)
+conditionsIn z e = take (conditionsLength (z .count)) (drop frontSize e)
 
-abbrev pub year : Layers
+abbrev pub year : Interface
 year =
     record {
       Zone = Zone;
       State = State;
       Item = List ℕ;
-      limit = 8784;
+      limit = mostEntries;
       headOf = headOf;
-      zoneTest = zoneTest;
+      givenTest = λ z s. zoneTest z;
       startUp = startUp;
-      step = step;
-      appendStep = step;
+      step = hourEntry;
+      appendStep = hourEntry;
       entryLength = entryLength;
       itemOf = conditionsIn;
     }

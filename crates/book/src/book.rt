@@ -1,8 +1,14 @@
 // The calls on a year book.
 use crate::bytes::copy;
+use crate::entry::conditions_length;
 use crate::entry::entry_length;
 use crate::entry::is_entry;
 use crate::entry::put_entry;
+use crate::layout::FRONT_SIZE;
+use crate::layout::MOST_ENTRIES;
+use crate::numbers::BOOK_FULL;
+use crate::numbers::BUFFER_SHORT;
+use crate::numbers::FALSE_ENTRY;
 use zone::Demand;
 use zone::HourAnswer;
 use zone::State;
@@ -19,12 +25,12 @@ ghost use Rattle.zone.specs.Promise.{ok};
 ghost use Rattle.zone.specs.Check.ZoneTest.{zoneTest};
 ghost use Rattle.book.specs.Model.Calls as Book;
 ghost use Rattle.book.specs.Model.Session.{Meets};
-ghost use Rattle.book.specs.Entry.{wholeLength, entryOf};
-ghost use Rattle.book.specs.Year.{year, step, conditionsIn};
-ghost use Rattle.book.specs.Answers.{givenOf, replyIn, code, checkedEntry};
-
-// A leap year's hours.
-const MOST_ENTRIES: usize = 8784;
+ghost use Rattle.book.specs.Numbers.{falseEntry};
+ghost use Rattle.book.specs.Layout.{mostEntries, wholeLength};
+ghost use Rattle.book.specs.Entry.{entryOf};
+ghost use Rattle.book.specs.Year.{year, hourEntry, conditionsIn};
+ghost use Rattle.book.specs.Answers.{givenOf, replyIn, rustTypes};
+ghost use Rattle.book.specs.Inner.Checked.{checkedEntry};
 
 // What a call is given and hands back: the node temperatures, the count of entries and the used length.
 pub struct Values {
@@ -75,7 +81,7 @@ fn has_room(used: usize, length: usize, room: usize) -> bool
 
 // A book with no entries: the head's bytes into the buffer.
 pub fn begin(given: Values, head: &[u8], buf: &mut [u8]) -> Reply
-    ensures { λ r. ⌜ Meets year code r (now (buf .exit)) (Book.begin year (now (head .entry)) (givenOf given) (now (buf .entry))) ⌝ }
+    ensures { λ r. ⌜ Meets year rustTypes r (now (buf .exit)) (Book.begin year (now (head .entry)) (givenOf given) (now (buf .entry))) ⌝ }
 {
     let h = zone_of_head(head);
     let v = h.verdict;
@@ -89,7 +95,7 @@ pub fn begin(given: Values, head: &[u8], buf: &mut [u8]) -> Reply
                 Verdict::Refused { number, index } => refuse(given, number, index),
                 Verdict::Accepted => {
                     if buf.len() < n {
-                        return refuse(given, 16, 0);
+                        return refuse(given, BUFFER_SHORT, 0);
                     }
                     copy(head, n, buf, 0);
                     accept(s.state, 0, n)
@@ -108,8 +114,8 @@ fn append_entry(
     after: State,
     buf: &mut [u8],
 ) -> Reply
-    requires { ⌜ (zoneTest z ≡ ok tt) × (given .count < 8784) × (step z (given .count) (given .state) (now conditions) ≡ ok (entryOf z (now conditions) demand after, after)) ⌝ }
-    ensures { λ r. ⌜ Meets year code r (now (buf .exit)) (Book.append year z (givenOf given) (now (conditions .entry)) (now (buf .entry))) ⌝ }
+    requires { ⌜ (zoneTest z ≡ ok tt) × (given .count < mostEntries) × (hourEntry z (given .count) (given .state) (now conditions) ≡ ok (record { bytes = entryOf z (now conditions) demand after; after = after })) ⌝ }
+    ensures { λ r. ⌜ Meets year rustTypes r (now (buf .exit)) (Book.append year z (givenOf given) (now (conditions .entry)) (now (buf .entry))) ⌝ }
 {
     let count = given.count;
     let used = given.used;
@@ -118,18 +124,18 @@ fn append_entry(
         put_entry(z, conditions, demand, after, buf, used);
         accept(after, count + 1, used + length)
     } else {
-        refuse(given, 16, 0)
+        refuse(given, BUFFER_SHORT, 0)
     }
 }
 
 // An append, once the zone is tested.
 fn append_hour(z: Zone, given: Values, conditions: &[u8], buf: &mut [u8]) -> Reply
     requires { ⌜ zoneTest z ≡ ok tt ⌝ }
-    ensures { λ r. ⌜ Meets year code r (now (buf .exit)) (Book.append year z (givenOf given) (now (conditions .entry)) (now (buf .entry))) ⌝ }
+    ensures { λ r. ⌜ Meets year rustTypes r (now (buf .exit)) (Book.append year z (givenOf given) (now (conditions .entry)) (now (buf .entry))) ⌝ }
 {
     let state = given.state;
     if MOST_ENTRIES <= given.count {
-        return refuse(given, 17, 0);
+        return refuse(given, BOOK_FULL, 0);
     }
     let x = state.hour_step(z, conditions);
     let a = x.answer;
@@ -141,7 +147,7 @@ fn append_hour(z: Zone, given: Values, conditions: &[u8], buf: &mut [u8]) -> Rep
 
 // An hour's entry behind the used bytes.
 pub fn append(z: Zone, given: Values, conditions: &[u8], buf: &mut [u8]) -> Reply
-    ensures { λ r. ⌜ Meets year code r (now (buf .exit)) (Book.append year z (givenOf given) (now (conditions .entry)) (now (buf .entry))) ⌝ }
+    ensures { λ r. ⌜ Meets year rustTypes r (now (buf .exit)) (Book.append year z (givenOf given) (now (conditions .entry)) (now (buf .entry))) ⌝ }
 {
     let v = zone_test(z);
     match v {
@@ -151,10 +157,13 @@ pub fn append(z: Zone, given: Values, conditions: &[u8], buf: &mut [u8]) -> Repl
 }
 
 fn false_entry(s: State, index: usize) -> CheckedEntry
-    ensures { λ r. ⌜ r ≡ record { verdict = Verdict.Refused 18 index; state = s } ⌝ }
+    ensures { λ r. ⌜ r ≡ record { verdict = Verdict.Refused falseEntry index; state = s } ⌝ }
 {
     CheckedEntry {
-        verdict: Verdict::Refused { number: 18, index },
+        verdict: Verdict::Refused {
+            number: FALSE_ENTRY,
+            index,
+        },
         state: s,
     }
 }
@@ -162,10 +171,10 @@ fn false_entry(s: State, index: usize) -> CheckedEntry
 // The hour step on the conditions that the entry holds, and its result, written anew, against the entry.
 fn check_entry(z: Zone, index: usize, s: State, entry: &[u8]) -> CheckedEntry
     requires { ⌜ (z .count ≤ 24) × (length (now entry) ≡ wholeLength z) ⌝ }
-    ensures { λ r. ⌜ r ≡ checkedEntry s (Book.checkEntry year index (now (entry .entry)) (step z index s (conditionsIn z (now (entry .entry))))) ⌝ }
+    ensures { λ r. ⌜ r ≡ checkedEntry s (Book.checkEntry year index (now (entry .entry)) (hourEntry z index s (conditionsIn z (now (entry .entry))))) ⌝ }
 {
-    let end = 118 + 41 * z.count;
-    let x = s.hour_step(z, &entry[5..end]);
+    let end = FRONT_SIZE + conditions_length(z);
+    let x = s.hour_step(z, &entry[FRONT_SIZE..end]);
     let a = x.answer;
     match a {
         HourAnswer::Refused {
@@ -174,7 +183,7 @@ fn check_entry(z: Zone, index: usize, s: State, entry: &[u8]) -> CheckedEntry
         } => false_entry(s, index),
         HourAnswer::Accepted(demand, _) => {
             let after = x.state;
-            if is_entry(z, &entry[5..end], demand, after, entry) {
+            if is_entry(z, &entry[FRONT_SIZE..end], demand, after, entry) {
                 CheckedEntry {
                     verdict: Verdict::Accepted,
                     state: after,
@@ -189,7 +198,7 @@ fn check_entry(z: Zone, index: usize, s: State, entry: &[u8]) -> CheckedEntry
 // The whole entries behind the head's n bytes, in order; a shorter rest is dropped.
 fn check_entries(z: Zone, s: State, n: usize, given: Values, bytes: &[u8]) -> Reply
     requires { ⌜ (z .count ≤ 24) × (n ≤ length (now bytes)) ⌝ }
-    ensures { λ r. ⌜ r ≡ replyIn (Book.answerOf (givenOf given) (Book.checkEntries year z 0 s n (Book.wholeEntries year z (drop n (now (bytes .entry)))))) ⌝ }
+    ensures { λ r. ⌜ r ≡ replyIn (Book.answerFrom (givenOf given) (Book.checkEntries year z 0 s n (Book.wholeEntries year z (drop n (now (bytes .entry)))))) ⌝ }
 {
     let length = entry_length(z);
     let mut state = s;
@@ -197,7 +206,7 @@ fn check_entries(z: Zone, s: State, n: usize, given: Values, bytes: &[u8]) -> Re
     let mut at = n;
     while length <= bytes.len() - at {
         if MOST_ENTRIES <= count {
-            return refuse(given, 17, 0);
+            return refuse(given, BOOK_FULL, 0);
         }
         let x = check_entry(z, count, state, &bytes[at..at + length]);
         let v = x.verdict;

@@ -5,17 +5,17 @@ ghost use lib.ListN.{length, take};
 ghost use lib.Ieee.{binary64, toBits};
 ghost use Rattle.zone.specs.Format.Bytes.{bytesOf};
 ghost use Rattle.book.specs.Model.Bytes.{equalBytes};
-ghost use Rattle.book.specs.Bytes.{replaceAt, floatBytes, floatsBytes};
+ghost use Rattle.zone.specs.Format.Encode.{floatBytes, rowBytes};
+ghost use Rattle.book.specs.Inner.Replace.{replaceAt};
 
-// The 64-bit pattern of a float; all NaNs have the same one.
+// The one pattern that all NaNs have here.
+const NAN_BITS: u64 = 9221120237041090560;
+
+// The 64-bit pattern of a float.
 fn bits_of(x: f64) -> u64
     ensures { λ r. ⌜ r ≡ toBits binary64 x ⌝ }
 {
-    if x != x {
-        9221120237041090560
-    } else {
-        f64::to_bits(x)
-    }
+    if x != x { NAN_BITS } else { f64::to_bits(x) }
 }
 
 // A number into the `count` bytes from `at` on, the highest byte first.
@@ -42,7 +42,7 @@ pub fn write_f64_be(b: &mut [u8], at: usize, x: f64)
 // The first `count` floats of `xs`, one behind the other from `at` on.
 pub fn write_f64s_be(b: &mut [u8], at: usize, xs: &[f64], count: usize)
     requires { ⌜ (count ≤ length (now xs)) × (at + 8 * count ≤ length (now b)) ⌝ }
-    ensures { λ _. ⌜ now (b .exit) ≡ replaceAt at (floatsBytes (take count (now (xs .entry)))) (now (b .entry)) ⌝ }
+    ensures { λ _. ⌜ now (b .exit) ≡ replaceAt at (rowBytes (take count (now (xs .entry)))) (now (b .entry)) ⌝ }
 {
     let mut i = 0;
     let mut p = at;

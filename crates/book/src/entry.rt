@@ -4,6 +4,15 @@ use crate::bytes::copy;
 use crate::bytes::write_be;
 use crate::bytes::write_f64_be;
 use crate::bytes::write_f64s_be;
+use crate::layout::CONDITIONS_ELEMENT;
+use crate::layout::CONDITIONS_SIZE;
+use crate::layout::DEMAND_SIZE;
+use crate::layout::FIXED_LENGTH;
+use crate::layout::FRONT_SIZE;
+use crate::layout::LENGTH_SIZE;
+use crate::layout::LONGEST_ENTRY;
+use crate::layout::RATES_SIZE;
+use crate::layout::VERSION;
 use zone::AchToTriggerHeating;
 use zone::Demand;
 use zone::State;
@@ -14,19 +23,12 @@ ghost use Prim.Native.Nat.{_+_, _*_, _≤_};
 ghost use lib.ListN.{length, take};
 ghost use Rattle.zone.specs.Record.BuildingElement.{nodeCount};
 ghost use Rattle.book.specs.Model.Bytes.{equalBytes};
-ghost use Rattle.book.specs.Bytes.{replaceAt, floatsBytes};
-ghost use Rattle.book.specs.Entry.{
-  conditionsLength,
-  lengthField,
-  wholeLength,
-  frontBytes,
-  triggerBytes,
-  demandBytes,
-  entryOf,
-};
-
-// The version that entries are written with.
-const VERSION: u64 = 1;
+ghost use Rattle.zone.specs.Format.Encode.{rowBytes};
+ghost use Rattle.zone.specs.Format.Layout.{conditionsLength};
+ghost use Rattle.book.specs.Layout.{frontSize, followingLength, wholeLength};
+ghost use Rattle.book.specs.Entry.{frontBytes, triggerBytes, demandBytes, entryOf};
+ghost use Rattle.book.specs.Inner.Replace.{replaceAt};
+ghost use Rattle.book.specs.Inner.Sizes.{triggerSize, demandSize, longestFollowing, longestEntry};
 
 // N, the air's node included.
 fn nodes_of(z: Zone) -> usize
@@ -36,34 +38,42 @@ fn nodes_of(z: Zone) -> usize
     node_count(z)
 }
 
+// The bytes of an hour's conditions.
+pub fn conditions_length(z: Zone) -> usize
+    requires { ⌜ z .count ≤ 24 ⌝ }
+    ensures { λ r. ⌜ r ≡ conditionsLength (z .count) ⌝ }
+{
+    CONDITIONS_SIZE + CONDITIONS_ELEMENT * z.count
+}
+
 // The length that stands in an entry's first 4 bytes.
 fn length_field(z: Zone) -> usize
     requires { ⌜ z .count ≤ 24 ⌝ }
-    ensures { λ r. ⌜ (r ≡ lengthField z) × (r ≤ 2099) ⌝ }
+    ensures { λ r. ⌜ (r ≡ followingLength z) × (r ≤ longestFollowing) ⌝ }
 {
-    147 + 41 * z.count + 8 * nodes_of(z)
+    FIXED_LENGTH + CONDITIONS_ELEMENT * z.count + 8 * nodes_of(z)
 }
 
 // All bytes of an entry.
 pub fn entry_length(z: Zone) -> usize
     requires { ⌜ z .count ≤ 24 ⌝ }
-    ensures { λ r. ⌜ (r ≡ wholeLength z) × (r ≤ 2103) ⌝ }
+    ensures { λ r. ⌜ (r ≡ wholeLength z) × (r ≤ longestEntry) ⌝ }
 {
-    4 + length_field(z)
+    LENGTH_SIZE + length_field(z)
 }
 
 // Length and version. The version is read in a comparison with these bytes, and nowhere else.
 fn put_front(z: Zone, b: &mut [u8], at: usize)
-    requires { ⌜ (z .count ≤ 24) × (at + 5 ≤ length (now b)) ⌝ }
+    requires { ⌜ (z .count ≤ 24) × (at + frontSize ≤ length (now b)) ⌝ }
     ensures { λ _. ⌜ now (b .exit) ≡ replaceAt at (frontBytes z) (now (b .entry)) ⌝ }
 {
     let length = length_field(z);
-    write_be(b, at, 4, length as u64);
-    write_be(b, at + 4, 1, VERSION);
+    write_be(b, at, LENGTH_SIZE, length as u64);
+    write_be(b, at + LENGTH_SIZE, 1, VERSION);
 }
 
 fn put_trigger(trigger: AchToTriggerHeating, b: &mut [u8], at: usize)
-    requires { ⌜ at + 9 ≤ length (now b) ⌝ }
+    requires { ⌜ at + triggerSize ≤ length (now b) ⌝ }
     ensures { λ _. ⌜ now (b .exit) ≡ replaceAt at (triggerBytes trigger) (now (b .entry)) ⌝ }
 {
     match trigger {
@@ -79,19 +89,19 @@ fn put_trigger(trigger: AchToTriggerHeating, b: &mut [u8], at: usize)
 }
 
 fn put_demand(d: Demand, b: &mut [u8], at: usize)
-    requires { ⌜ at + 33 ≤ length (now b) ⌝ }
+    requires { ⌜ at + demandSize ≤ length (now b) ⌝ }
     ensures { λ _. ⌜ now (b .exit) ≡ replaceAt at (demandBytes d) (now (b .entry)) ⌝ }
 {
     let row = [d.space_heat_demand, d.space_cool_demand, d.ach_cooling];
     write_f64s_be(b, at, &row, 3);
     let trigger = d.ach_to_trigger_heating;
-    put_trigger(trigger, b, at + 24);
+    put_trigger(trigger, b, at + RATES_SIZE);
 }
 
 // The first `nodes` temperatures.
 fn put_temperatures(s: State, nodes: usize, b: &mut [u8], at: usize)
     requires { ⌜ (nodes ≤ 121) × (at + 8 * nodes ≤ length (now b)) ⌝ }
-    ensures { λ _. ⌜ now (b .exit) ≡ replaceAt at (floatsBytes (take nodes (s .temps))) (now (b .entry)) ⌝ }
+    ensures { λ _. ⌜ now (b .exit) ≡ replaceAt at (rowBytes (take nodes (s .temps))) (now (b .entry)) ⌝ }
 {
     let temps = s.temps;
     write_f64s_be(b, at, &temps, nodes);
@@ -99,23 +109,23 @@ fn put_temperatures(s: State, nodes: usize, b: &mut [u8], at: usize)
 
 // An entry from `at` on: length and version, the conditions as they were given, the demand and the temperatures after the hour.
 pub fn put_entry(z: Zone, conditions: &[u8], d: Demand, s: State, b: &mut [u8], at: usize)
-    requires { ⌜ (z .count ≤ 24) × (length (now conditions) ≡ conditionsLength z) × (at + wholeLength z ≤ length (now b)) ⌝ }
+    requires { ⌜ (z .count ≤ 24) × (length (now conditions) ≡ conditionsLength (z .count)) × (at + wholeLength z ≤ length (now b)) ⌝ }
     ensures { λ _. ⌜ now (b .exit) ≡ replaceAt at (entryOf z (now (conditions .entry)) d s) (now (b .entry)) ⌝ }
 {
     let n = conditions.len();
     let nodes = nodes_of(z);
     put_front(z, b, at);
-    copy(conditions, n, b, at + 5);
-    put_demand(d, b, at + 5 + n);
-    put_temperatures(s, nodes, b, at + 38 + n);
+    copy(conditions, n, b, at + FRONT_SIZE);
+    put_demand(d, b, at + FRONT_SIZE + n);
+    put_temperatures(s, nodes, b, at + FRONT_SIZE + n + DEMAND_SIZE);
 }
 
 // Is a whole entry the one that these conditions, this demand and these temperatures have: it is written anew and compared.
 pub fn is_entry(z: Zone, conditions: &[u8], d: Demand, s: State, entry: &[u8]) -> bool
-    requires { ⌜ (z .count ≤ 24) × (length (now conditions) ≡ conditionsLength z) × (length (now entry) ≡ wholeLength z) × (length (entryOf z (now conditions) d s) ≡ wholeLength z) × (wholeLength z ≤ 2103) ⌝ }
+    requires { ⌜ (z .count ≤ 24) × (length (now conditions) ≡ conditionsLength (z .count)) × (length (now entry) ≡ wholeLength z) × (length (entryOf z (now conditions) d s) ≡ wholeLength z) × (wholeLength z ≤ longestEntry) ⌝ }
     ensures { λ r. ⌜ r ≡ equalBytes (entryOf z (now (conditions .entry)) d s) (now (entry .entry)) ⌝ }
 {
-    let mut expected = [0u8; 2103];
+    let mut expected = [0u8; LONGEST_ENTRY];
     put_entry(z, conditions, d, s, &mut expected, 0);
     begins_with(&expected, entry)
 }

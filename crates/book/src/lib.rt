@@ -2,6 +2,8 @@
 mod book;
 mod bytes;
 mod entry;
+mod layout;
+mod numbers;
 
 pub use book::Reply;
 pub use book::Values;

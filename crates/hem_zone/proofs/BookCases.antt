@@ -9,7 +9,7 @@ use Rattle.zone.specs.declared.calls.state.State.{State}
 use Rattle.book.specs.Model.Calls as Book
 use Rattle.book.specs.Model.Session.{Meets}
 use Rattle.book.specs.Year.{year}
-use Rattle.book.specs.Answers.{givenOf, replyIn, code}
+use Rattle.book.specs.Answers.{givenOf, replyIn, rustTypes}
 use Rattle.book.specs.declared.book.Values.{Values}
 use Rattle.book.specs.declared.book.Reply.{Reply}
 use Rattle.hem_zone.specs.Code.{refusalCode, answered}
@@ -20,7 +20,7 @@ use Rattle.hem_zone.proofs.Laws.Answers.{reply-no, reply-yes, outcome-n
 -- ---- with a buffer: a refusal leaves it as it was
 
 module _ (g : Book.Values State) (buf : List ℕ) (held : Held) (d : Result (Book.Values State × List ℕ)) (x : Reply) (out : List ℕ)
-    (m : Meets year code x out (Book.outcomeOf g buf d)) where
+    (m : Meets year rustTypes x out (Book.outcomeOf g buf d)) where
   same-buffer : (n j : ℕ) → d ≡ refused n j → out ≡ buf
   same-buffer n j e = m .bytes ∙ ap (λ (r : Result (Book.Values State × List ℕ)). Book.outcomeOf g buf r .buffer) e
 
@@ -34,7 +34,7 @@ module _ (g : Book.Values State) (buf : List ℕ) (held : Held) (d : Result (Boo
       answered-ok bookOut (buf, held) d (givenOf (x .values), out) (out, after) (outcome-yes g buf d x out (m .reply) (m .bytes) v) (rw q)
 
 module _ (head buf : List ℕ) (held : Held) (given : Values) (x : Reply) (out : List ℕ)
-    (m : Meets year code x out (Book.begin year head (givenOf given) buf)) where
+    (m : Meets year rustTypes x out (Book.begin year head (givenOf given) buf)) where
   pub begin-refused : (n j c : ℕ) → x .verdict ≡ Refused n j → c ≡ refusalCode n j → (c, (out, held)) ≡ hemBegin head buf held
   unfolding Book.begin hemBegin
   begin-refused n j c v q = book-refused (givenOf given) buf held (Book.beginRes year head buf) x out m n j c v q
@@ -46,7 +46,7 @@ module _ (head buf : List ℕ) (held : Held) (given : Values) (x : Reply) (out :
 pub ruleset begin-cases = (begin-refused, begin-accepted)
 
 module _ (z : Zone) (conditions buf : List ℕ) (held : Held) (given : Values) (p : givenOf given ≡ valuesOf held) (x : Reply) (out : List ℕ)
-    (m : Meets year code x out (Book.append year z (givenOf given) conditions buf)) where
+    (m : Meets year rustTypes x out (Book.append year z (givenOf given) conditions buf)) where
   abbrev Appends : ℕ × (List ℕ × Held) → Type 0
   Appends y = y ≡ answered bookOut (buf, held) (Book.appendRes year z (valuesOf held) conditions buf)
 

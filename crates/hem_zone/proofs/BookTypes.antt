@@ -6,10 +6,11 @@ use native.Mathlib.Omega.{arith}
 use Rattle.zone.specs.Promise.{Result, RefusesOnly, accepts, refuses}
 use Rattle.zone.specs.declared.calls.state.State.{State}
 use Rattle.book.specs.Model.Calls as Book
-use Rattle.book.specs.Model.Session.{AnswerOfCall, ofBegin, ofAppend, ofTakeUp, CodeLaws}
+use Rattle.book.proofs.Model.CodeLaws.{AnswerOfCall, ofBegin, ofAppend, ofTakeUp, CodeLaws}
 use Rattle.book.specs.Year.{year}
 use Rattle.book.proofs.Refusals.{begin-refusals, append-refusals, take-up-refusals}
 use Rattle.hem_zone.specs.Code.{refusalCode}
+use Rattle.hem_zone.specs.Book.{Held, valuesOf, heldOf}
 use Rattle.hem_zone.specs.BookTypes.{answerBy, answerOf, replyIn, cTypes}
 use Rattle.hem_zone.proofs.Laws.Numbered.{Numbered, begin-numbered, append-numbered, take-up-numbered}
 use Rattle.hem_zone.proofs.Claims.{code-exact, code-number, code-index}
@@ -26,7 +27,7 @@ refusal-back number index p v =
     read-back (refusalCode number index) number index v (omega (arith, e, p .from-1)) (code-number number index p) (code-index number index p)
 
 module _ {P : ℕ → ℕ → Type 0} (numbered : (number index : ℕ) → P number index → Numbered number index) (g : Book.Values State) where
-  taken-back : {d : Result (Book.Values State)} → RefusesOnly P d → answerOf (replyIn (Book.answerOf g d)) ≡ Book.answerOf g d
+  taken-back : {d : Result (Book.Values State)} → RefusesOnly P d → answerOf (replyIn (Book.answerFrom g d)) ≡ Book.answerFrom g d
   taken-back (accepts a) = refl
   taken-back (refuses {number = n} {index = i} p) = refusal-back n i (numbered n i p) g
 
@@ -42,4 +43,9 @@ answer-back a (ofAppend z g i buf) = outcome-back append-numbered g buf (append-
 answer-back a (ofTakeUp g bytes) = taken-back take-up-numbered g (take-up-refusals bytes)
 
 pub c-laws : CodeLaws year cTypes
-c-laws = record { given-back = λ v. refl; answer-back = answer-back }
+c-laws = record { given-back = λ v. (heldOf v, refl); answer-back = answer-back }
+
+-- what a caller gives the next call: `temps`, `nodes`, `count` and `used` as the call left them are the values that its answer hands back
+pub handed-on : (returned : ℕ) (held : Held) → valuesOf held ≡ Book.handedBack (answerOf (returned, held))
+handed-on zero held = refl
+handed-on (suc c) held = refl

@@ -16,18 +16,21 @@ use Rattle.zone.specs.declared.calls.state.Demand.{Demand}
 use Rattle.zone.specs.declared.calls.state.DemandAnswer.the-variants as DemandAnswer
 use Rattle.zone.specs.declared.calls.state.UpdateAnswer.the-variants as UpdateAnswer
 use Rattle.zone.specs.declared.calls.state.HourAnswer.the-variants as HourAnswer
+use Rattle.zone.specs.declared.calls.state.OperativeReply.{OperativeReply}
+use Rattle.zone.specs.declared.calls.state.OperativeReply.the-variants as OperativeReply
 use Rattle.zone.specs.declared.calls.state.DemandReply.{DemandReply}
 use Rattle.zone.specs.declared.calls.state.UpdateReply.{UpdateReply}
 use Rattle.zone.specs.declared.calls.state.HourStepReply.{HourStepReply}
 use Rattle.zone.specs.declared.calls.state.StartUp.{StartUp}
+use Rattle.zone.specs.Calls.State.{operative}
 use Rattle.zone.specs.Calls.Hour.{demand, updateTemperatures, hourStep}
 use Rattle.zone.specs.Calls.StartUp.{initNodeTemps}
-use Rattle.zone.specs.Calls.Answers.{demandReply, updateReply, hourStepReply, startUpReply}
+use Rattle.zone.specs.Calls.Answers.{operativeReply, demandReply, updateReply, hourStepReply, startUpReply}
 use Rattle.hem_zone.specs.Code.{refusalCode, answerCode, answered}
 use Rattle.hem_zone.specs.Arrays.{stateIn, demandOut, balanceOut}
 use Rattle.hem_zone.specs.Zone.{withZone, startUpOut, updateOut, hourOut, hemHead}
 use Rattle.hem_zone.proofs.Laws.Code.{answered-refused, answered-ok}
-use Rattle.zone.proofs.Promise.{head-no, head-yes, start-no, start-yes, demand-no, demand-yes, update-no, update-yes, hour-no, hour-yes}
+use Rattle.zone.proofs.Promise.{head-no, head-yes, start-no, start-yes, operative-no, operative-yes, demand-no, demand-yes, update-no, update-yes, hour-no, hour-yes}
 
 -- ---- the head's refusal, or what the call makes of its zone
 
@@ -77,6 +80,16 @@ module _ (z : Zone) (s : State) (temps : List Float) (nodes : ℕ) (p : s ≡ st
     pub demand-accepted : (d : Demand) (out : List Float) → x .answer ≡ DemandAnswer.Accepted d → out ≡ demandOut d → Demands (0, out)
     demand-accepted d out v q = rw (← p) (answered-ok demandOut before _ d out (demand-yes s _ x e d v) q)
 
+  module _ (before : Float) (x : OperativeReply) (e : x ≡ operativeReply (operative z s)) where
+    abbrev Operative : ℕ × Float → Type 0
+    Operative y = y ≡ answered (λ t. t) before (operative z (stateIn temps nodes))
+
+    pub operative-refused : (n j code : ℕ) → x ≡ OperativeReply.Refused n j → code ≡ refusalCode n j → Operative (code, before)
+    operative-refused n j code v q = rw (← p) (answered-refused (λ t. t) before _ n j code q (operative-no _ x e n j v))
+
+    pub operative-accepted : (t : Float) → x ≡ OperativeReply.Accepted t → Operative (0, t)
+    operative-accepted t v = rw (← p) (answered-ok (λ u. u) before _ t t (operative-yes _ x e t v) refl)
+
   module _ (gains fraction rate : Float) (before : List Float × List Float) (x : UpdateReply)
       (e : x ≡ updateReply s (updateTemperatures standardCoefficients z s conditions gains fraction rate)) where
     abbrev Updates : ℕ × (List Float × List Float) → Type 0
@@ -102,6 +115,8 @@ module _ (z : Zone) (s : State) (temps : List Float) (nodes : ℕ) (p : s ≡ st
     hour-accepted d b out balance v o q =
         rw (← p)
         (answered-ok hourOut before _ (record { demand = d; state = x .state; balance = b }) (x .state .temps, out, balance) (hour-yes s _ x e d b v) (rw (o, q)))
+
+pub ruleset operative-cases = (operative-refused, operative-accepted)
 
 pub ruleset demand-cases = (demand-refused, demand-accepted)
 

@@ -1,21 +1,21 @@
--- The claims of specs/Claims.antt, proved: every refusal has a number from 1 to 18 and an index of at most 8,784, so nothing of it is cut off.
+-- The claims of specs/Claims.antt, proved: every refusal has a number from 1 to 18 and an index of at most 8,783, so nothing of it is cut off.
 use Prim.Native.Nat.{ℕ, _+_, _*_, _%_, _/_}
 use mathlib.Core.Path.{_≡_, refl, ap}
-use mathlib.Core.List.{List}
+use mathlib.Core.List.{List, []}
 use native.Mathlib.Omega.{arith}
 use Rattle.zone.specs.Promise.{Result, RefusesOnly, accepts, refuses}
 use Rattle.zone.proofs.Promise.{bind-refuses, refuses-also}
 use Rattle.zone.specs.declared.record.zone_record.Zone.{Zone}
 use Rattle.zone.specs.Record.BuildingElement.{standardCoefficients}
 use Rattle.zone.proofs.Claims.HeadRefusals.{head-refusals}
-use Rattle.zone.proofs.Claims.Refusals.{demand-refusals, update-refusals, hour-step-refusals, start-up-refusals}
+use Rattle.zone.proofs.Claims.Refusals.{operative-refusals, demand-refusals, update-refusals, hour-step-refusals, start-up-refusals}
 use Rattle.book.proofs.Refusals.{begin-refusals, append-refusals, take-up-refusals}
 use Rattle.hem_zone.specs.Code.{refusalCode, answerCode, lentAfter, answered}
 use Rattle.hem_zone.specs.Arrays.{stateIn}
-use Rattle.hem_zone.specs.Zone.{withZone, hemHead, hemStartUp, hemDemand, hemUpdate, hemHourStep}
+use Rattle.hem_zone.specs.Zone.{withZone, hemHead, hemStartUp, hemOperative, hemDemand, hemUpdate, hemHourStep}
 use Rattle.hem_zone.specs.Book.{valuesOf, hemBegin, hemAppend, hemTakeUp}
 use Rattle.hem_zone.specs.Claims.{AfterHead, ofHead, ofCall, Returned, Answered, Claims}
-use Rattle.hem_zone.proofs.Laws.Numbered.{Numbered, head-numbered, hour-numbered, update-numbered, start-up-numbered, begin-numbered, append-numbered, take-up-numbered, after-head-numbered}
+use Rattle.hem_zone.proofs.Laws.Numbered.{Numbered, head-numbered, operative-numbered, hour-numbered, update-numbered, start-up-numbered, begin-numbered, append-numbered, take-up-numbered, after-head-numbered}
 
 -- nothing of it is cut off, and both are read back
 module _ (number index : ℕ) (p : Numbered number index) where
@@ -63,17 +63,20 @@ with-zone-refuses : {P : ℕ → ℕ → Type 0} {A : Type 0} (head : List ℕ) 
 unfolding withZone
 with-zone-refuses head f p =
     bind-refuses _ (refuses-also (λ n i q. ofHead q) (head-refusals head)) λ h _.
-    refuses-also (λ n i q. ofCall q) (p (h .0))
+    refuses-also (λ n i q. ofCall q) (p (h .zone))
 
--- ---- the eight functions
+-- ---- the nine functions
 
 pub claims : Claims
-unfolding hemHead hemStartUp hemDemand hemUpdate hemHourStep hemBegin hemAppend hemTakeUp
+unfolding hemHead hemStartUp hemOperative hemDemand hemUpdate hemHourStep hemBegin hemAppend hemTakeUp
 claims =
     record {
       «hem_head» = λ head. returned head-numbered (head-refusals head);
       «hem_start_up» = λ head temps nodes.
           answers (after-head-numbered start-up-numbered) _ _ (with-zone-refuses head _ (start-up-refusals standardCoefficients));
+      «hem_operative» = λ head temps nodes before.
+          answers (after-head-numbered operative-numbered) _ _
+          (with-zone-refuses head _ λ z. operative-refusals standardCoefficients z (stateIn temps nodes) []);
       «hem_demand» = λ head temps nodes conditions out.
           answers (after-head-numbered hour-numbered) _ _
           (with-zone-refuses head _ λ z. demand-refusals standardCoefficients z (stateIn temps nodes) conditions);

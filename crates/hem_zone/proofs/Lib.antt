@@ -1,8 +1,11 @@
--- Claims is what a caller learns from a returned number; Demand3 is the claim about whole lists of calls on a book, Contracts its tie to the functions.
+-- Claims is what a caller learns from a returned number; Ties has each contract asking nothing and ensuring its definition; Demand3 is the claim about
+-- whole lists of calls on a book, Contracts its tie to the functions; Demands is all of it.
 pub mod Laws
 pub mod Cases
 pub mod BookCases
 pub mod Claims
 pub mod BookTypes
 pub mod Demand3
+pub mod Ties
 pub mod Contracts
+pub mod Demands

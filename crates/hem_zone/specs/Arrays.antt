@@ -16,16 +16,16 @@ use Rattle.zone.specs.declared.calls.state.AchToTriggerHeating.the-variants.{Ab
 abbrev pub stateIn : (temps : List Float) → (nodes : ℕ) → State
 stateIn temps nodes = record { nodes = nodes; temps = temps }
 
--- "trigger 0.0 or 1.0, trigger rate (0.0 if none)"
+-- trigger 0.0 or 1.0, trigger rate (0.0 if none)
 abbrev pub triggerOut : AchToTriggerHeating → List Float
 triggerOut Absent = zero64 ∷ zero64 ∷ []
 triggerOut (At ach) = one64 ∷ ach ∷ []
 
--- `out[5]`: "heating, cooling, chosen rate", then the trigger
+-- `out[5]`: heating, cooling, chosen rate, then the trigger
 abbrev pub demandOut : Demand → List Float
 demandOut d = d .«space_heat_demand» ∷ d .«space_cool_demand» ∷ d .«ach_cooling» ∷ triggerOut (d .«ach_to_trigger_heating»)
 
--- `balance[25]`: "7 + 4 + 14 in the Rust's struct order"
+-- `balance[25]`: 7 + 4 + 14 in the Rust's struct order
 abbrev pub airNodeOut : HeatBalanceAirNode → List Float
 airNodeOut b =
     b .«solar_gains»

@@ -1,4 +1,4 @@
--- The calls on a book: those of the plain book at the layers of the year. Each definition gives the returned number, then what stands
+-- The calls on a book: those of the contracts (book specs/Model/Calls.antt) at the interface of the year. Each definition gives the returned number, then what stands
 -- after the call in the buffer (a take-up has none), `temps`, `nodes`, `count` and `used`.
 use Prim.Native.Nat.{ℕ}
 use mathlib.Core.List.{List}
@@ -10,16 +10,22 @@ use Rattle.hem_zone.specs.Code.{answered}
 use Rattle.hem_zone.specs.Arrays.{stateIn}
 use Rattle.hem_zone.specs.Zone.{withZone}
 
--- `temps`, `nodes`, `count`, `used`
-abbrev pub Held : Type 0
-Held = List Float × ℕ × ℕ × ℕ
+-- what a caller holds of a book, by the names of the C parameters
+pub record Held : Type 0 where
+  pub temps : List Float
+  pub nodes : ℕ
+  pub count : ℕ
+  pub used : ℕ
 
--- the values of a book that a caller holds, and back
+abbrev pub holding : (temps : List Float) → (nodes count used : ℕ) → Held
+holding temps nodes count used = record { temps = temps; nodes = nodes; count = count; used = used }
+
+-- these are the values of a book, and back
 abbrev pub valuesOf : Held → Book.Values State
-valuesOf h = record { state = stateIn (h .0) (h .1); count = h .2; used = h .3 }
+valuesOf h = record { state = stateIn (h .temps) (h .nodes); count = h .count; used = h .used }
 
 abbrev pub heldOf : Book.Values State → Held
-heldOf v = (v .state .temps, v .state .nodes, v .count, v .used)
+heldOf v = holding (v .state .temps) (v .state .nodes) (v .count) (v .used)
 
 -- what a begin or an append writes: the buffer, and the values
 abbrev pub bookOut : Book.Values State × List ℕ → List ℕ × Held

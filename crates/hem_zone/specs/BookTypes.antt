@@ -11,7 +11,7 @@ use Rattle.hem_zone.specs.Book.{Held, valuesOf, heldOf}
 abbrev pub Reply : Type 0
 Reply = ℕ × Held
 
--- "Each returns 0 when accepted, else number + 256 × index, and then has written nothing": a refusal leaves the values that it was given
+-- 0 where a call is accepted, else number + 256 × index, and then nothing is written: a refusal leaves the values that it was given
 abbrev pub replyIn : Book.Answer State → Reply
 replyIn (Book.accepted v) = (0, heldOf v)
 replyIn (Book.refusedWith number index v) = (refusalCode number index, heldOf v)
@@ -30,7 +30,6 @@ cTypes =
       Values = Held;
       Reply = Reply;
       givenOf = valuesOf;
-      valuesIn = heldOf;
       answerOf = answerOf;
       replyIn = replyIn;
     }

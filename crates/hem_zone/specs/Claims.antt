@@ -9,14 +9,15 @@ use Rattle.zone.specs.Promise.{Result, ok, refused}
 use Rattle.zone.specs.Record.BuildingElement.{standardCoefficients}
 use Rattle.zone.specs.Format.Head.{headOf}
 use Rattle.zone.specs.Claims.HeadRefusals.{HeadRefusal}
+use Rattle.zone.specs.Calls.State.{operative}
 use Rattle.zone.specs.Calls.Hour.{demand, updateTemperatures, hourStep}
 use Rattle.zone.specs.Calls.StartUp.{initNodeTemps}
-use Rattle.zone.specs.Claims.Refusals.{HourRefusal, UpdateRefusal, StartUpRefusal}
+use Rattle.zone.specs.Claims.Refusals.{OperativeRefusal, HourRefusal, UpdateRefusal, StartUpRefusal}
 use Rattle.book.specs.Model.Calls as Book
 use Rattle.book.specs.Year.{year}
 use Rattle.book.specs.Refusals.{BeginRefusal, AppendRefusal, TakeUpRefusal}
 use Rattle.hem_zone.specs.Arrays.{stateIn, demandOut}
-use Rattle.hem_zone.specs.Zone.{withZone, hemHead, startUpOut, hemStartUp, hemDemand, updateOut, hemUpdate, hourOut, hemHourStep}
+use Rattle.hem_zone.specs.Zone.{withZone, hemHead, startUpOut, hemStartUp, hemOperative, hemDemand, updateOut, hemUpdate, hourOut, hemHourStep}
 use Rattle.hem_zone.specs.Book.{Held, valuesOf, heldOf, bookOut, hemBegin, hemAppend, hemTakeUp}
 
 -- the head is read first, 1 to 5; then what the call is refused with
@@ -51,6 +52,9 @@ pub record Claims : Type 0 where
   pub «hem_start_up» :
       (head : List ℕ) (temps : List Float) (nodes : ℕ)
       → Answered (AfterHead StartUpRefusal) startUpOut (temps, nodes) (withZone head (initNodeTemps standardCoefficients)) (hemStartUp head temps nodes)
+  pub «hem_operative» :
+      (head : List ℕ) (temps : List Float) (nodes : ℕ) (before : Float)
+      → Answered (AfterHead OperativeRefusal) (λ t. t) before (withZone head λ z. operative z (stateIn temps nodes)) (hemOperative head temps nodes before)
   pub «hem_demand» :
       (head : List ℕ) (temps : List Float) (nodes : ℕ) (conditions : List ℕ) (out : List Float)
       → Answered (AfterHead HourRefusal) demandOut out (withZone head λ z. demand standardCoefficients z (stateIn temps nodes) conditions)

@@ -1,4 +1,4 @@
--- The calls on a zone: head, start-up, demand, update, hour step. The head is read first, 1 to 5. Each definition gives the returned number,
+-- The calls on a zone: head, start-up, operative temperature, demand, update, hour step. The head is read first, 1 to 5. Each definition gives the returned number,
 -- then what stands after the call in the arrays that it was lent to write, in the order of its parameters.
 use Prim.Native.Nat.{ℕ}
 use mathlib.Core.List.{List}
@@ -9,6 +9,7 @@ use Rattle.zone.specs.Record.BuildingElement.{standardCoefficients}
 use Rattle.zone.specs.Format.Head.{headOf}
 use Rattle.zone.specs.declared.physics.balance.HeatBalance.{HeatBalance}
 use Rattle.zone.specs.declared.calls.state.State.{State}
+use Rattle.zone.specs.Calls.State.{operative}
 use Rattle.zone.specs.Calls.Hour.{HourResult, demand, updateTemperatures, hourStep}
 use Rattle.zone.specs.Calls.StartUp.{initNodeTemps}
 use Rattle.hem_zone.specs.Code.{answerCode, answered}
@@ -16,7 +17,7 @@ use Rattle.hem_zone.specs.Arrays.{stateIn, demandOut, balanceOut}
 
 -- a call on the zone of a head
 unfoldable pub withZone : {A : Type 0} → (head : List ℕ) → (Zone → Result A) → Result A
-withZone head f = bind (headOf head) λ h. f (h .0)
+withZone head f = bind (headOf head) λ h. f (h .zone)
 
 unfoldable pub hemHead : (head : List ℕ) → ℕ
 hemHead head = answerCode (headOf head)
@@ -34,6 +35,12 @@ unfoldable pub hemDemand : (head : List ℕ) → (temps : List Float) → (nodes
 hemDemand head temps nodes conditions out =
     answered demandOut out
     (withZone head λ z. demand standardCoefficients z (stateIn temps nodes) conditions)
+
+-- writes the operative temperature to `operative`
+unfoldable pub hemOperative : (head : List ℕ) → (temps : List Float) → (nodes : ℕ) → (before : Float) → ℕ × Float
+hemOperative head temps nodes before =
+    answered (λ t. t) before
+    (withZone head λ z. operative z (stateIn temps nodes))
 
 -- what an update writes to `temps` and `balance`
 abbrev pub updateOut : State × HeatBalance → List Float × List Float

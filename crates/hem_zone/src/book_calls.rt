@@ -13,11 +13,11 @@ ghost use Rattle.book.specs.Model.Calls as Book;
 ghost use Rattle.book.specs.Year.{year};
 ghost use Rattle.book.specs.Answers.{givenOf};
 ghost use Rattle.hem_zone.specs.Code.{answered};
-ghost use Rattle.hem_zone.specs.Book.{valuesOf, heldOf, bookOut, hemBegin, hemAppend, hemTakeUp};
+ghost use Rattle.hem_zone.specs.Book.{holding, valuesOf, heldOf, bookOut, hemBegin, hemAppend, hemTakeUp};
 
 // The values of a book that stand in the arrays of C.
 fn values_in(temps: &[f64; 121], nodes: u64, count: u64, used: u64) -> Values
-    ensures { λ r. ⌜ givenOf r ≡ valuesOf (now (temps .entry), nodes, count, used) ⌝ }
+    ensures { λ r. ⌜ givenOf r ≡ valuesOf (holding (now (temps .entry)) nodes count used) ⌝ }
 {
     let state = state_in(temps, nodes);
     Values {
@@ -29,7 +29,7 @@ fn values_in(temps: &[f64; 121], nodes: u64, count: u64, used: u64) -> Values
 
 // Puts them there.
 fn write_values(v: Values, temps: &mut [f64; 121], nodes: &mut u64, count: &mut u64, used: &mut u64)
-    ensures { λ _. ⌜ (now (temps .exit), now (nodes .exit), now (count .exit), now (used .exit)) ≡ heldOf (givenOf v) ⌝ }
+    ensures { λ _. ⌜ holding (now (temps .exit)) (now (nodes .exit)) (now (count .exit)) (now (used .exit)) ≡ heldOf (givenOf v) ⌝ }
 {
     let state = v.state;
     let t = state.temps;
@@ -49,7 +49,8 @@ pub extern "C" fn hem_begin(
     count: &mut u64,
     used: &mut u64,
 ) -> u32
-    ensures { λ r. ⌜ (r, (now (buf .exit), (now (temps .exit), now (nodes .exit), now (count .exit), now (used .exit)))) ≡ hemBegin (now (head .entry)) (now (buf .entry)) (now (temps .entry), now (nodes .entry), now (count .entry), now (used .entry)) ⌝ }
+    ensures { λ r. ⌜ (r, (now (buf .exit), holding (now (temps .exit)) (now (nodes .exit)) (now (count .exit)) (now (used .exit))))
+        ≡ hemBegin (now (head .entry)) (now (buf .entry)) (holding (now (temps .entry)) (now (nodes .entry)) (now (count .entry)) (now (used .entry))) ⌝ }
 {
     let given = values_in(temps, *nodes, *count, *used);
     let x = begin(given, head, buf);
@@ -73,7 +74,9 @@ fn append_to(
     used: &mut u64,
     conditions: &[u8],
 ) -> u32
-    ensures { λ r. ⌜ (r, (now (buf .exit), (now (temps .exit), now (nodes .exit), now (count .exit), now (used .exit)))) ≡ answered bookOut (now (buf .entry), (now (temps .entry), now (nodes .entry), now (count .entry), now (used .entry))) (Book.appendRes year z (valuesOf (now (temps .entry), now (nodes .entry), now (count .entry), now (used .entry))) (now (conditions .entry)) (now (buf .entry))) ⌝ }
+    ensures { λ r. ⌜ (r, (now (buf .exit), holding (now (temps .exit)) (now (nodes .exit)) (now (count .exit)) (now (used .exit))))
+        ≡ answered bookOut (now (buf .entry), (holding (now (temps .entry)) (now (nodes .entry)) (now (count .entry)) (now (used .entry))))
+        (Book.appendRes year z (valuesOf (holding (now (temps .entry)) (now (nodes .entry)) (now (count .entry)) (now (used .entry)))) (now (conditions .entry)) (now (buf .entry))) ⌝ }
 {
     let given = values_in(temps, *nodes, *count, *used);
     let x = append(z, given, conditions, buf);
@@ -99,7 +102,8 @@ pub extern "C" fn hem_append(
     used: &mut u64,
     conditions: &[u8],
 ) -> u32
-    ensures { λ r. ⌜ (r, (now (buf .exit), (now (temps .exit), now (nodes .exit), now (count .exit), now (used .exit)))) ≡ hemAppend (now (head .entry)) (now (buf .entry)) (now (temps .entry), now (nodes .entry), now (count .entry), now (used .entry)) (now (conditions .entry)) ⌝ }
+    ensures { λ r. ⌜ (r, (now (buf .exit), holding (now (temps .exit)) (now (nodes .exit)) (now (count .exit)) (now (used .exit))))
+        ≡ hemAppend (now (head .entry)) (now (buf .entry)) (holding (now (temps .entry)) (now (nodes .entry)) (now (count .entry)) (now (used .entry))) (now (conditions .entry)) ⌝ }
 {
     let h = zone_of_head(head);
     let v = h.verdict;
@@ -118,7 +122,8 @@ pub extern "C" fn hem_take_up(
     count: &mut u64,
     used: &mut u64,
 ) -> u32
-    ensures { λ r. ⌜ (r, (now (temps .exit), now (nodes .exit), now (count .exit), now (used .exit))) ≡ hemTakeUp (now (bytes .entry)) (now (temps .entry), now (nodes .entry), now (count .entry), now (used .entry)) ⌝ }
+    ensures { λ r. ⌜ (r, holding (now (temps .exit)) (now (nodes .exit)) (now (count .exit)) (now (used .exit)))
+        ≡ hemTakeUp (now (bytes .entry)) (holding (now (temps .entry)) (now (nodes .entry)) (now (count .entry)) (now (used .entry))) ⌝ }
 {
     let given = values_in(temps, *nodes, *count, *used);
     let x = take_up(given, bytes);

@@ -11,5 +11,6 @@ pub use book_calls::hem_take_up;
 pub use head::hem_head;
 pub use step::hem_demand;
 pub use step::hem_hour_step;
+pub use step::hem_operative;
 pub use step::hem_start_up;
 pub use step::hem_update;

@@ -1,10 +1,11 @@
-// Start-up, demand, update and hour step on the zone of a head.
+// Start-up, operative temperature, demand, update and hour step on the zone of a head.
 use crate::arrays::balance_out;
 use crate::arrays::demand_out;
 use crate::arrays::state_in;
 use crate::code::refusal_code;
 use zone::DemandAnswer;
 use zone::HourAnswer;
+use zone::OperativeReply;
 use zone::UpdateAnswer;
 use zone::Verdict;
 use zone::Zone;
@@ -13,10 +14,11 @@ use zone::zone_of_head;
 ghost use mathlib.Core.Path.{_≡_};
 ghost use Rattle.zone.specs.Record.BuildingElement.{standardCoefficients};
 ghost use Rattle.zone.specs.Calls.StartUp.{initNodeTemps};
+ghost use Rattle.zone.specs.Calls.State as State;
 ghost use Rattle.zone.specs.Calls.Hour.{demand, updateTemperatures, hourStep};
 ghost use Rattle.hem_zone.specs.Code.{answered};
 ghost use Rattle.hem_zone.specs.Arrays.{stateIn, demandOut};
-ghost use Rattle.hem_zone.specs.Zone.{startUpOut, updateOut, hourOut, hemStartUp, hemDemand, hemUpdate, hemHourStep};
+ghost use Rattle.hem_zone.specs.Zone.{startUpOut, updateOut, hourOut, hemStartUp, hemOperative, hemDemand, hemUpdate, hemHourStep};
 
 fn start_up(z: Zone, temps: &mut [f64; 121], nodes: &mut u64) -> u32
     ensures { λ r. ⌜ (r, (now (temps .exit), now (nodes .exit))) ≡ answered startUpOut (now (temps .entry), now (nodes .entry)) (initNodeTemps standardCoefficients z) ⌝ }
@@ -45,6 +47,38 @@ pub extern "C" fn hem_start_up(head: &[u8], temps: &mut [f64; 121], nodes: &mut 
     match v {
         Verdict::Refused { number, index } => refusal_code(number, index),
         Verdict::Accepted => start_up(h.zone, temps, nodes),
+    }
+}
+
+fn operative_of(z: Zone, temps: &[f64; 121], nodes: u64, operative: &mut f64) -> u32
+    ensures { λ r. ⌜ (r, now (operative .exit)) ≡ answered (λ t. t) (now (operative .entry)) (State.operative z (stateIn (now (temps .entry)) nodes)) ⌝ }
+{
+    let s = state_in(temps, nodes);
+    let a = s.temp_operative(z);
+    match a {
+        OperativeReply::Refused { number, index } => refusal_code(number, index),
+        OperativeReply::Accepted(t) => {
+            *operative = t;
+            0
+        }
+    }
+}
+
+// The operative temperature. The temperatures stay.
+#[no_mangle]
+pub extern "C" fn hem_operative(
+    head: &[u8],
+    temps: &[f64; 121],
+    nodes: u64,
+    operative: &mut f64,
+) -> u32
+    ensures { λ r. ⌜ (r, now (operative .exit)) ≡ hemOperative (now (head .entry)) (now (temps .entry)) nodes (now (operative .entry)) ⌝ }
+{
+    let h = zone_of_head(head);
+    let v = h.verdict;
+    match v {
+        Verdict::Refused { number, index } => refusal_code(number, index),
+        Verdict::Accepted => operative_of(h.zone, temps, nodes, operative),
     }
 }
 
@@ -100,8 +134,8 @@ fn update_of(
     match a {
         UpdateAnswer::Refused { number, index } => refusal_code(number, index),
         UpdateAnswer::Accepted(b) => {
-            let after = x.state;
-            let t = after.temps;
+            let updated = x.state;
+            let t = updated.temps;
             *temps = t;
             *balance = balance_out(b);
             0

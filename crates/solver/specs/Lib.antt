@@ -1,5 +1,6 @@
 pub mod F64
 pub mod Each
+pub mod Numbers
 pub mod Result
 pub mod Closeness
 pub mod Sums
@@ -8,3 +9,4 @@ pub mod Lu
 pub mod Chain
 pub mod FastSolver
 pub mod Refusals
+pub mod Inner

@@ -1,18 +1,22 @@
 -- The dense solve: elimination with partial pivoting of a matrix of w unknowns, apart from any right side, and the substitution of a right side.
 use Prim.Native.Nat.{ℕ, _+_, _-_, _*_}
 use mathlib.Core.List.{List}
-use mathlib.Core.Bool.{Bool, true, cond, _&&_}
+use mathlib.Core.Bool.{Bool, cond}
 use lib.ListN.{getD, set, drop}
 use lib.Dec.{ltb, eqb}
 use lib.Ieee.{Float, nan}
 use Rattle.solver.specs.F64.{_-ᶠ_, _*ᶠ_, _/ᶠ_, one64}
 use Rattle.solver.specs.Closeness.{validDivisor}
-use Rattle.solver.specs.Each.{each, eachDown}
+use Rattle.solver.specs.Each.{each, eachDown, all}
 use Rattle.solver.specs.Rows.{entry, row, setRow, pivotRow, eliminateRow}
 
 -- A matrix, factored or on the way there, with the row exchanges: at k the row with which row k changed places when column k was eliminated.
-pub data Lu : Type 0 where
-  luWith : (matrix : List Float) (interchanges : List ℕ) → Lu
+pub record Lu : Type 0 where
+  pub matrix : List Float
+  pub interchanges : List ℕ
+
+abbrev pub luWith : (matrix : List Float) (interchanges : List ℕ) → Lu
+luWith matrix interchanges = record { matrix = matrix; interchanges = interchanges }
 
 -- row k and row q, the pivot row, whose entries are given, change places whole, their factors included; nothing is done where they are one row
 unfoldable pub interchangeRows : ℕ → ℕ → List Float → List Float → List Float
@@ -25,18 +29,15 @@ eliminateColumnBy w k q m interchanges =
 
 -- column k: its pivot is looked for in the rows from the diagonal down, a part of the flat matrix
 unfoldable pub eliminateColumn : ℕ → ℕ → Lu → Lu
-eliminateColumn w k (luWith m interchanges) = eliminateColumnBy w k (k + pivotRow k (w - k) (drop (25 * k) m)) m interchanges
+eliminateColumn w k lu = eliminateColumnBy w k (k + pivotRow k (w - k) (drop (25 * k) (lu .matrix))) (lu .matrix) (lu .interchanges)
 
 -- each column in turn; the factors stay below the diagonal, the pivots on it
 abbrev pub luFactor : ℕ → List Float → List ℕ → Lu
 luFactor w m interchanges = each 0 w (eliminateColumn w) (luWith m interchanges)
 
 -- every pivot is a valid divisor, the last column's too
-abbrev pub pivotValid : List Float → ℕ → Bool → Bool
-pivotValid m k valid = valid && validDivisor (entry k k m)
-
 unfoldable pub pivotsValid : ℕ → List Float → Bool
-pivotsValid w m = each 0 w (pivotValid m) true
+pivotsValid w m = all 0 w λ k. validDivisor (entry k k m)
 
 -- the row exchanges of the factorisation, made on a right side (a row number that no matrix has leaves it as it is)
 abbrev pub swap : ℕ → ℕ → List Float → List Float

@@ -1,34 +1,16 @@
 -- An answer, or a refusal with document 01's number and index (0 where the paper gives none).
-use mathlib.Core.Path.{_≡_, refl, ap, _∙_}
 use mathlib.Core.Bool.{Bool, true, false}
 use Prim.Native.Nat.{ℕ}
-use native.Mathlib.Omega.{arith}
 
 pub data Result (A : Type 0) : Type 0 where
   ok : A → Result A
   refused : (number index : ℕ) → Result A
-
-module _ {A : Type 0} where
-  pub ok-inj : {a b : A} → ok a ≡ ok b → a ≡ b
-  ok-inj e = cc
-
-  -- an answer is no refusal
-  pub ok-not-refused : {B : Type 0} (a : A) (number index : ℕ) → ok a ≡ refused number index → B
-  ok-not-refused a number index e = let z : _≡_ {A = ℕ} 0 1 = cc in absurd (omega arith)
 
 module _ {A B : Type 0} where
   -- goes on with an answer; a refusal stays
   abbrev pub bind : Result A → (A → Result B) → Result B
   bind (ok a) f = f a
   bind (refused c j) f = refused c j
-
-  -- a sequence that is accepted has an accepted first part
-  pub bind-ok : (r : Result A) (f : A → Result B) (b : B) → bind r f ≡ ok b → (a : A) × (r ≡ ok a) × (f a ≡ ok b)
-  bind-ok (ok a) f b e = (a, refl, e)
-  bind-ok (refused c j) f b e = let z : _≡_ {A = ℕ} 0 1 = cc in absurd (omega arith)
-
-  pub bind-is : (r : Result A) (f : A → Result B) (a : A) (x : Result B) → r ≡ ok a → f a ≡ x → bind r f ≡ x
-  bind-is r f a x p q = ap (λ t. bind t f) p ∙ q
 
 -- goes on where the test holds, else refuses
 abbrev pub requireAt : Bool → (number index : ℕ) → Result (Unit {0})
@@ -37,7 +19,3 @@ requireAt false c j = refused c j
 
 abbrev pub require : Bool → (number : ℕ) → Result (Unit {0})
 require b c = requireAt b c 0
-
-pub require-ok : (b : Bool) (c j : ℕ) (u : Unit {0}) → requireAt b c j ≡ ok u → b ≡ true
-require-ok true c j u e = refl
-require-ok false c j u e = let z : _≡_ {A = ℕ} 0 1 = cc in absurd (omega arith)

@@ -3,11 +3,12 @@
 use Prim.Native.Nat.{ℕ, _+_, _*_}
 use mathlib.Core.List.{List}
 use mathlib.Core.Bool.{cond}
-use lib.ListN.{getD, set, replicate}
+use lib.ListN.{getD, set}
 use lib.Ieee.{Float, nan, lt, neg}
-use Rattle.solver.specs.F64.{_+ᶠ_, _*ᶠ_, zero64}
+use Rattle.solver.specs.F64.{_+ᶠ_, _*ᶠ_}
 use Rattle.solver.specs.Closeness.{abs}
 use Rattle.solver.specs.Each.{each}
+use Rattle.solver.specs.Sums.{terms}
 
 -- the entry of row i and column j, and the matrix with another one there
 abbrev pub entry : ℕ → ℕ → List Float → Float
@@ -16,19 +17,12 @@ entry i j m = getD m (25 * i + j) nan
 abbrev pub setEntry : ℕ → ℕ → Float → List Float → List Float
 setEntry i j x m = set m (25 * i + j) x
 
--- row i: its entry j is the matrix's
-abbrev pub rowEntry : ℕ → List Float → ℕ → List Float → List Float
-rowEntry i m j r = set r j (entry i j m)
-
+-- row i, and the matrix with r as its row i
 unfoldable pub row : ℕ → List Float → List Float
-row i m = each 0 25 (rowEntry i m) (replicate 25 zero64)
-
--- the matrix with r as its row i
-abbrev pub setRowEntry : ℕ → List Float → ℕ → List Float → List Float
-setRowEntry i r j m = setEntry i j (getD r j nan) m
+row i m = terms 0 25 λ j. entry i j m
 
 unfoldable pub setRow : ℕ → List Float → List Float → List Float
-setRow i r m = each 0 25 (setRowEntry i r) m
+setRow i r m = each 0 25 (λ j. setEntry i j (getD r j nan)) m
 
 -- row i where its magnitude in column k is strictly greater than that of the row found so far, which a nan never is; else that row
 unfoldable pub largerInColumn : ℕ → List Float → ℕ → ℕ → ℕ

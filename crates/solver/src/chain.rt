@@ -3,11 +3,12 @@
 use crate::closeness::valid_divisor;
 use crate::closeness::within_state_bound;
 ghost use mathlib.Core.Path.{_≡_};
+ghost use mathlib.Core.Bool.{_&&_};
 ghost use Prim.Native.Nat.{_+_, _*_, _<_, _≤_};
 ghost use Rattle.solver.specs.Chain.{outerSlot, eliminateChain, eliminateChains, chainDivisorsValid, divisorsValid, reduceRightSide, reduceRightSides, backSubstituteChain, backSubstituteChains, elementWithin, nodesWithin};
 
 // The slot of element e's outer surface.
-pub fn outer_slot(two_nodes: &[bool; 24], e: usize) -> usize
+fn outer_slot(two_nodes: &[bool; 24], e: usize) -> usize
     requires { ⌜ e < 24 ⌝ }
     ensures { λ r. ⌜ (r ≡ outerSlot (now («two_nodes» .entry)) e) × (5 * e ≤ r) × (r ≤ 5 * e + 3) ⌝ }
 {
@@ -15,7 +16,7 @@ pub fn outer_slot(two_nodes: &[bool; 24], e: usize) -> usize
 }
 
 // The temperatures of the outer surface and the inside nodes are eliminated from the next node's equation.
-pub fn eliminate_chain(
+fn eliminate_chain(
     two_nodes: &[bool; 24],
     next: &[f64; 120],
     prev: &[f64; 120],
@@ -51,14 +52,9 @@ pub fn eliminate_chains(
 }
 
 // Each slot that the chain divides by, beside what was found `given` before.
-pub fn chain_divisors_valid(
-    two_nodes: &[bool; 24],
-    diag: &[f64; 120],
-    e: usize,
-    given: bool,
-) -> bool
+fn chain_divisors_valid(two_nodes: &[bool; 24], diag: &[f64; 120], e: usize, given: bool) -> bool
     requires { ⌜ e < 24 ⌝ }
-    ensures { λ r. ⌜ r ≡ chainDivisorsValid (now («two_nodes» .entry)) (now (diag .entry)) e given ⌝ }
+    ensures { λ r. ⌜ r ≡ (given && chainDivisorsValid (now («two_nodes» .entry)) (now (diag .entry)) e) ⌝ }
 {
     let mut valid = given;
     let mut s = outer_slot(two_nodes, e);
@@ -83,7 +79,7 @@ pub fn divisors_valid(two_nodes: &[bool; 24], diag: &[f64; 120], n: usize) -> bo
 }
 
 // The same elimination, made on a right side.
-pub fn reduce_right_side(
+fn reduce_right_side(
     two_nodes: &[bool; 24],
     diag: &[f64; 120],
     prev: &[f64; 120],
@@ -119,7 +115,7 @@ pub fn reduce_right_sides(
 }
 
 // From the inner surface, whose temperature is known, to the outer surface.
-pub fn back_substitute_chain(
+fn back_substitute_chain(
     two_nodes: &[bool; 24],
     diag: &[f64; 120],
     next: &[f64; 120],
@@ -156,9 +152,9 @@ pub fn back_substitute_chains(
 }
 
 // Every node of element e, beside what was found `given` before.
-pub fn element_within(two_nodes: &[bool; 24], t: &[f64; 121], e: usize, given: bool) -> bool
+fn element_within(two_nodes: &[bool; 24], t: &[f64; 121], e: usize, given: bool) -> bool
     requires { ⌜ e < 24 ⌝ }
-    ensures { λ r. ⌜ r ≡ elementWithin (now («two_nodes» .entry)) (now (t .entry)) e given ⌝ }
+    ensures { λ r. ⌜ r ≡ (given && elementWithin (now («two_nodes» .entry)) (now (t .entry)) e) ⌝ }
 {
     let mut within = given;
     let mut s = outer_slot(two_nodes, e);

@@ -16,7 +16,7 @@ pub fn abs(x: f64) -> f64
 }
 
 // The constant is infinity: a nan is below nothing.
-pub fn is_finite(x: f64) -> bool
+fn is_finite(x: f64) -> bool
     ensures { λ r. ⌜ r ≡ isFinite x ⌝ }
 {
     abs(x) < f64::from_bits(0x7ff0_0000_0000_0000)
@@ -29,7 +29,7 @@ fn max(x: f64, y: f64) -> f64
 }
 
 // The Rust's `relative_eq!`: equal, or both finite and no further apart than `epsilon`, or than `max_relative` times the larger magnitude.
-pub fn relative_eq(a: f64, b: f64, epsilon: f64, max_relative: f64) -> bool
+fn relative_eq(a: f64, b: f64, epsilon: f64, max_relative: f64) -> bool
     ensures { λ r. ⌜ r ≡ relativeEq a b epsilon «max_relative» ⌝ }
 {
     if a == b {
@@ -48,19 +48,21 @@ pub fn relative_eq(a: f64, b: f64, epsilon: f64, max_relative: f64) -> bool
     difference <= max_relative * max(abs(a), abs(b))
 }
 
+// The demand's closeness.
 pub fn close_in_demand(a: f64, b: f64) -> bool
     ensures { λ r. ⌜ r ≡ closeInDemand a b ⌝ }
 {
     relative_eq(a, b, 1e-10, 1e-9)
 }
 
-// The Rust's `isclose`.
+// The Rust's `isclose`, start-up's closeness.
 pub fn isclose(a: f64, b: f64) -> bool
     ensures { λ r. ⌜ r ≡ isclose a b ⌝ }
 {
     relative_eq(a, b, 1e-8, 1e-8)
 }
 
+// The closeness of the windows test.
 pub fn close_in_windows_test(a: f64, b: f64) -> bool
     ensures { λ r. ⌜ r ≡ closeInWindowsTest a b ⌝ }
 {

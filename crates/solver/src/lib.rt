@@ -2,6 +2,7 @@
 mod chain;
 mod closeness;
 mod lu;
+mod numbers;
 mod rows;
 mod sums;
 mod system;
@@ -9,8 +10,9 @@ mod system;
 pub use closeness::close_in_demand;
 pub use closeness::close_in_windows_test;
 pub use closeness::isclose;
-pub use closeness::relative_eq;
 pub use closeness::within_state_bound;
+pub use numbers::DIVISOR;
+pub use numbers::TEMPERATURE;
 pub use sums::Sum2;
 pub use system::Matrix;
 pub use system::Solved;

@@ -13,7 +13,7 @@ ghost use Rattle.solver.specs.Rows.{pivotRow};
 ghost use Rattle.solver.specs.Lu.{luWith, eliminateColumn, luFactor, interchangeRows, pivotsValid, applyInterchanges, subtractMultiple, forwardSubstitution, backSubstitution, luSolve};
 
 // The pivot row of column k: the rows from row k on, one part of the flat matrix, are handed to the pivot search.
-pub fn pivot_row_from(m: &[f64], w: usize, k: usize) -> usize
+fn pivot_row_from(m: &[f64], w: usize, k: usize) -> usize
     requires { ⌜ (length (now m) ≡ 625) × (w ≤ 25) × (k < w) ⌝ }
     ensures { λ r. ⌜ (r ≡ k + pivotRow k (w - k) (drop (25 * k) (now (m .entry)))) × (r < w) ⌝ }
 {
@@ -22,7 +22,7 @@ pub fn pivot_row_from(m: &[f64], w: usize, k: usize) -> usize
 }
 
 // Row k and row q, of which `pivots` is a copy, change places.
-pub fn interchange_rows(m: &mut [f64; 625], k: usize, q: usize, pivots: &[f64; 25])
+fn interchange_rows(m: &mut [f64; 625], k: usize, q: usize, pivots: &[f64; 25])
     requires { ⌜ (k < 25) × (q < 25) ⌝ }
     ensures { λ _. ⌜ now (m .exit) ≡ interchangeRows k q (now (pivots .entry)) (now (m .entry)) ⌝ }
 {
@@ -35,7 +35,7 @@ pub fn interchange_rows(m: &mut [f64; 625], k: usize, q: usize, pivots: &[f64; 2
 }
 
 // Column k: the pivot row comes to row k, and the column is eliminated from each row below.
-pub fn eliminate_column(m: &mut [f64; 625], interchanges: &mut [usize; 25], w: usize, k: usize)
+fn eliminate_column(m: &mut [f64; 625], interchanges: &mut [usize; 25], w: usize, k: usize)
     requires { ⌜ (w ≤ 25) × (k < w) ⌝ }
     ensures { λ _. ⌜ luWith (now (m .exit)) (now (interchanges .exit)) ≡ eliminateColumn w k (luWith (now (m .entry)) (now (interchanges .entry))) ⌝ }
 {
@@ -73,7 +73,7 @@ pub fn pivots_valid(m: &[f64; 625], w: usize) -> bool
 }
 
 // The row exchanges of the factorisation, made on a right side.
-pub fn apply_interchanges(b: &mut [f64; 25], interchanges: &[usize; 25], w: usize)
+fn apply_interchanges(b: &mut [f64; 25], interchanges: &[usize; 25], w: usize)
     requires { ⌜ w ≤ 25 ⌝ }
     ensures { λ _. ⌜ now (b .exit) ≡ applyInterchanges w (now (interchanges .entry)) (now (b .entry)) ⌝ }
 {
@@ -90,14 +90,7 @@ pub fn apply_interchanges(b: &mut [f64; 25], interchanges: &[usize; 25], w: usiz
 }
 
 // The share of unknown k, which is x, is subtracted from the right sides of the rows from `start` up to `end`.
-pub fn subtract_multiples(
-    m: &[f64; 625],
-    b: &mut [f64; 25],
-    k: usize,
-    x: f64,
-    start: usize,
-    end: usize,
-)
+fn subtract_multiples(m: &[f64; 625], b: &mut [f64; 25], k: usize, x: f64, start: usize, end: usize)
     requires { ⌜ (k < 25) × (end ≤ 25) ⌝ }
     ensures { λ _. ⌜ now (b .exit) ≡ each start end (subtractMultiple (now (m .entry)) k x) (now (b .entry)) ⌝ }
 {
@@ -108,7 +101,7 @@ pub fn subtract_multiples(
     }
 }
 
-pub fn forward_substitution(m: &[f64; 625], b: &mut [f64; 25], w: usize)
+fn forward_substitution(m: &[f64; 625], b: &mut [f64; 25], w: usize)
     requires { ⌜ w ≤ 25 ⌝ }
     ensures { λ _. ⌜ now (b .exit) ≡ forwardSubstitution w (now (m .entry)) (now (b .entry)) ⌝ }
 {
@@ -120,7 +113,7 @@ pub fn forward_substitution(m: &[f64; 625], b: &mut [f64; 25], w: usize)
     }
 }
 
-pub fn back_substitution(m: &[f64; 625], b: &mut [f64; 25], w: usize)
+fn back_substitution(m: &[f64; 625], b: &mut [f64; 25], w: usize)
     requires { ⌜ w ≤ 25 ⌝ }
     ensures { λ _. ⌜ now (b .exit) ≡ backSubstitution w (now (m .entry)) (now (b .entry)) ⌝ }
 {

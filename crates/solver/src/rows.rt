@@ -65,7 +65,7 @@ pub fn set_row(m: &mut [f64; 625], i: usize, r: &[f64; 25])
 }
 
 // Column k is eliminated from row i of w columns; `pivots` is a copy of the pivot row, `reciprocal` is 1 / pivot.
-pub fn eliminate_row(
+fn eliminate_row(
     m: &mut [f64; 625],
     w: usize,
     k: usize,

@@ -7,11 +7,14 @@ use crate::chain::reduce_right_sides;
 use crate::lu::lu_factor;
 use crate::lu::lu_solve;
 use crate::lu::pivots_valid;
+use crate::numbers::DIVISOR;
+use crate::numbers::TEMPERATURE;
 use crate::rows::set_entry;
 ghost use mathlib.Core.Path.{_≡_};
 ghost use Prim.Native.Nat.{_≤_};
 ghost use Rattle.solver.specs.Each.{each};
-ghost use Rattle.solver.specs.FastSolver.{atMost24, setInnerDiagonals, factored, factor, factorDense, gatherDense, scatterInner, scatterDense, solved, temperatures, substitute, fastSolver};
+ghost use Rattle.solver.specs.FastSolver.{atMost24, setInnerDiagonals, gatherDense, scatterInner, scatterDense, temperatures};
+ghost use Rattle.solver.specs.Inner.Factored.{factored, factor, factorDense, solved, substitute, fastSolver};
 
 // The matrix in the form that is kept: the number of elements, which of them have two nodes; for each slot its own coefficient and those of
 // the next and the previous slot of its chain; and the dense part, 25 places a row: the couplings between the inner surfaces, the air's column
@@ -31,15 +34,15 @@ pub struct Solved {
     pub temps: [f64; 121],
 }
 
-// No more than 24 elements count.
-pub fn at_most_24(n: usize) -> usize
+// Elements past the 24th are left out.
+fn at_most_24(n: usize) -> usize
     ensures { λ r. ⌜ (r ≡ atMost24 n) × (r ≤ 24) ⌝ }
 {
     if 24 < n { 24 } else { n }
 }
 
 // The adjusted inner diagonals go into the dense part.
-pub fn set_inner_diagonals(diag: &[f64; 120], n: usize, dense: &mut [f64; 625])
+fn set_inner_diagonals(diag: &[f64; 120], n: usize, dense: &mut [f64; 625])
     requires { ⌜ n ≤ 24 ⌝ }
     ensures { λ _. ⌜ now (dense .exit) ≡ setInnerDiagonals n (now (diag .entry)) (now (dense .entry)) ⌝ }
 {
@@ -65,7 +68,7 @@ fn factor_dense(
     lu_factor(dense, interchanges, n + 1);
     let chains = divisors_valid(two_nodes, diag, n);
     let pivots = pivots_valid(dense, n + 1);
-    if chains & pivots { 0 } else { 12 }
+    if chains & pivots { 0 } else { DIVISOR }
 }
 
 // The matrix is factored in place: 0, or 12 where a chain divisor or a pivot is zero or not finite.
@@ -87,7 +90,7 @@ pub fn factor(
 }
 
 // The right side of the dense part.
-pub fn gather_dense(b: &[f64; 121], n: usize) -> [f64; 25]
+fn gather_dense(b: &[f64; 121], n: usize) -> [f64; 25]
     requires { ⌜ n ≤ 24 ⌝ }
     ensures { λ r. ⌜ r ≡ gatherDense n (now (b .entry)) ⌝ }
 {
@@ -102,7 +105,7 @@ pub fn gather_dense(b: &[f64; 121], n: usize) -> [f64; 25]
 }
 
 // The unknowns of the dense part go back to their slots.
-pub fn scatter_inner(v: &[f64; 25], n: usize, t: &mut [f64; 121])
+fn scatter_inner(v: &[f64; 25], n: usize, t: &mut [f64; 121])
     requires { ⌜ n ≤ 24 ⌝ }
     ensures { λ _. ⌜ now (t .exit) ≡ each 0 n (scatterInner (now (v .entry))) (now (t .entry)) ⌝ }
 {
@@ -113,7 +116,7 @@ pub fn scatter_inner(v: &[f64; 25], n: usize, t: &mut [f64; 121])
     }
 }
 
-pub fn scatter_dense(v: &[f64; 25], n: usize, t: &mut [f64; 121])
+fn scatter_dense(v: &[f64; 25], n: usize, t: &mut [f64; 121])
     requires { ⌜ n ≤ 24 ⌝ }
     ensures { λ _. ⌜ now (t .exit) ≡ scatterDense n (now (v .entry)) (now (t .entry)) ⌝ }
 {
@@ -159,10 +162,14 @@ pub fn substitute(
 {
     let k = at_most_24(n);
     solve_nodes(k, two_nodes, diag, next, prev, dense, interchanges, b);
-    if nodes_within(two_nodes, b, k) { 0 } else { 13 }
+    if nodes_within(two_nodes, b, k) {
+        0
+    } else {
+        TEMPERATURE
+    }
 }
 
-// Both, of one right side.
+// Both, of one right side: the entry point that the Rust has. The zone calls its two parts, as it solves for several loads at one rate.
 pub fn fast_solver(a: Matrix, b: [f64; 121]) -> Solved
     ensures { λ r. ⌜ r ≡ fastSolver a b ⌝ }
 {

@@ -1,10 +1,16 @@
--- What heads and conditions are, as theorems of their definitions.
+-- Theorems of the definitions; their statements stand in specs/Claims.
 pub mod Head
+pub mod HeadAlike
 pub mod Conditions
 pub mod ConditionsBytes
 pub mod HeadBytes
 pub mod HeadRefusals
+pub mod HeadClaims
 pub mod Demand
 pub mod StartUp
+pub mod State
 pub mod Refusals
+pub mod Reasons
 pub mod HouseP
+pub mod Index
+pub mod ForBook

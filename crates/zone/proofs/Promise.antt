@@ -1,11 +1,13 @@
 -- What proofs of the layers above cite beside Claims, of the zone's laws and the solver's: Laws is private.
 pub use Rattle.solver.proofs.Laws.Parts.{drop-next}
+pub use Rattle.solver.proofs.Laws.Result.{bind-is, bind-ok, require-ok, ok-inj, ok-not-refused}
 pub use Rattle.solver.proofs.Laws.Refusals.{bind-refuses, refuses-also, test-refuses}
 pub use Rattle.solver.proofs.Laws.Tests.{and-true}
 pub use Rattle.zone.proofs.Laws.Accepted.{conditions-length, count-few, temps-length}
-pub use Rattle.zone.proofs.Laws.Answers.{demand-no, demand-yes, hour-no, hour-yes, start-no, start-yes, update-no, update-yes}
+pub use Rattle.zone.proofs.Laws.Answers.{demand-no, demand-yes, hour-no, hour-yes, operative-no, operative-yes, start-no, start-yes, update-no, update-yes}
 pub use Rattle.zone.proofs.Laws.Element.{nodes-few}
 pub use Rattle.zone.proofs.Laws.HeadAnswers.{apart, head-no, head-yes, same-refusal}
 pub use Rattle.zone.proofs.Laws.Lists.{from, none-left}
 pub use Rattle.zone.proofs.Laws.Nan.{alike-no-nan, differs-nan, no-nan}
 pub use Rattle.zone.proofs.Laws.Ranges.{counts-few, verdict-accepted, verdict-refused}
+pub use Rattle.zone.proofs.Claims.ForBook.{length-bytesOf, length-row, node-count-few, tested-few}

@@ -1,4 +1,5 @@
 pub mod Bytes
+pub mod Layout
 pub mod ElementLayout
 pub mod Decode
 pub mod Head

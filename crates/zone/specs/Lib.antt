@@ -5,4 +5,5 @@ pub mod Physics
 pub mod Claims
 pub mod Calls
 pub mod Hour
+pub mod Inner
 pub mod Promise

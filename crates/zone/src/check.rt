@@ -1,4 +1,5 @@
 // Ranges, and the tests of a zone, its conditions and its state.
+pub mod arguments;
 pub mod conditions_tests;
 pub mod ranges;
-pub mod tests;
+pub mod zone_tests;

@@ -2,4 +2,8 @@
 pub mod bytes;
 pub mod conditions;
 pub mod decode;
+pub mod decode_conditions;
+pub mod element_layout;
 pub mod head;
+pub mod layout;
+pub mod read_conditions;

@@ -1,7 +1,9 @@
 // An hour's solves: ventilation, load and demand.
 pub mod cooling_potential;
 pub mod demand;
+pub mod hour;
 pub mod load;
+pub mod simulation_time;
 pub mod solves;
 pub mod time_step;
 pub mod windows;

@@ -1,4 +1,4 @@
-// A zone, hour by hour: heads, demand, update, start-up and hour step. What the layers above may use is exported here.
+// A zone, hour by hour: heads, start-up, operative temperature, demand, update and hour step. What the layers above may use is exported here.
 mod calls;
 mod check;
 mod format;
@@ -13,10 +13,12 @@ pub use calls::state::DemandAnswer;
 pub use calls::state::DemandReply;
 pub use calls::state::HourAnswer;
 pub use calls::state::HourStepReply;
+pub use calls::state::OperativeReply;
 pub use calls::state::StartUp;
 pub use calls::state::State;
 pub use calls::state::UpdateAnswer;
 pub use calls::state::UpdateReply;
+pub use check::zone_tests::zone_test;
 pub use format::conditions::AirChangesPerHourArgument;
 pub use format::conditions::Conditions;
 pub use format::head::Head;
@@ -38,4 +40,3 @@ pub use record::zone_record::Verdict;
 pub use record::zone_record::Zone;
 pub use record::zone_record::ZoneTemperatureControlBasis;
 pub use record::zone_record::node_count;
-pub use record::zone_record::zone_test;

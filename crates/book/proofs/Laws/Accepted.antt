@@ -4,28 +4,25 @@ use mathlib.Core.Path.{_≡_}
 use mathlib.Core.List.{List}
 use native.Mathlib.Omega.{arith}
 use lib.ListN.{length}
-use Rattle.zone.specs.Promise.{ok, bind-ok}
+use Rattle.zone.specs.Promise.{ok}
 use Rattle.zone.specs.Record.BuildingElement.{standardCoefficients, nodeCount}
 use Rattle.zone.specs.Format.Head.{headOf}
-use Rattle.zone.specs.Check.ZoneTest.{countsTest, zoneTest}
 use Rattle.zone.specs.declared.record.zone_record.Zone.{Zone}
-use Rattle.zone.proofs.Promise.{counts-few, conditions-length, count-few, temps-length}
+use Rattle.zone.proofs.Promise.{tested-few, node-count-few, conditions-length, count-few, temps-length}
 use Rattle.zone.proofs.Claims.Head.{head-tested}
 use Rattle.zone.specs.Calls.Hour.{HourResult}
 use Rattle.zone.specs.declared.calls.state.State.{State}
-use Rattle.book.specs.Entry.{conditionsLength, wholeLength, entryOf}
+use Rattle.zone.specs.Format.Layout.{conditionsLength}
+use Rattle.book.specs.Layout.{wholeLength}
+use Rattle.book.specs.Entry.{entryOf}
 use Rattle.book.specs.Year.{hour}
-use Rattle.book.proofs.Laws.Entry.{node-count-few, length-entry}
+use Rattle.book.proofs.Laws.Entry.{length-entry}
 
-pub tested-few : (z : Zone) → zoneTest z ≡ ok tt → z .count ≤ 24
-unfolding zoneTest
-tested-few z e = counts-few z (bind-ok (countsTest z) _ tt e .1)
-
-pub head-few : (bs : List ℕ) (z : Zone) (n : ℕ) → headOf bs ≡ ok (z, n) → z .count ≤ 24
-head-few bs z n e = tested-few z (head-tested bs z n e)
+pub head-few : (bs : List ℕ) (z : Zone) (n : ℕ) → headOf bs ≡ ok (record { zone = z; length = n }) → z .count ≤ 24
+head-few bs z n e = tested-few z (head-tested bs _ e)
 
 module _ (z : Zone) (s : State) (i : List ℕ) (r : HourResult) (e : hour z s i ≡ ok r) where
-  pub hour-conditions : length i ≡ conditionsLength z
+  pub hour-conditions : length i ≡ conditionsLength (z .count)
   hour-conditions = conditions-length standardCoefficients z s i r e
 
   pub hour-few : z .count ≤ 24

@@ -9,11 +9,12 @@ use lib.ListN.{length, take, drop, getD, set, drop-of-length-le}
 use lib.Seq.{paste, paste-suc}
 use lib.Ieee.{Float, nan, binary64, toBits}
 use borrow.Author.Tests.{eq-eqb, ne-eqb}
-use Rattle.zone.proofs.Promise.{drop-next, from, none-left}
+use Rattle.zone.proofs.Promise.{drop-next, from, none-left, length-bytesOf}
 use Rattle.zone.specs.Format.Bytes.{bytesOf}
 use Rattle.book.specs.Model.Bytes.{equalBytes}
-use Rattle.book.specs.Bytes.{replaceAt, floatBytes, floatsBytes}
-use Rattle.book.proofs.Laws.Replace.{length-bytesOf, replace-none, replace-byte, replace-then, replace-paste}
+use Rattle.zone.specs.Format.Encode.{floatBytes, rowBytes}
+use Rattle.book.specs.Inner.Replace.{replaceAt}
+use Rattle.book.proofs.Laws.Replace.{replace-none, replace-byte, replace-then, replace-paste}
 
 -- ---- a number, from its lowest byte on
 
@@ -32,24 +33,24 @@ num-done b w at k m z e = sym (replace-none at b) ∙ ap (λ (j : ℕ). replaceA
 
 -- ---- floats one behind the other
 
-module _ (xs : List Float) (n i : ℕ) (p : ℕ) (b w : List ℕ) (inv : replaceAt p (floatsBytes (drop i (take n xs))) b ≡ w) where
-  floats-first : i < n → n ≤ length xs → floatsBytes (drop i (take n xs)) ≡ floatBytes (getD xs i nan) ++ floatsBytes (drop (i + 1) (take n xs))
-  unfolding floatsBytes
+module _ (xs : List Float) (n i : ℕ) (p : ℕ) (b w : List ℕ) (inv : replaceAt p (rowBytes (drop i (take n xs))) b ≡ w) where
+  floats-first : i < n → n ≤ length xs → rowBytes (drop i (take n xs)) ≡ floatBytes (getD xs i nan) ++ rowBytes (drop (i + 1) (take n xs))
+  unfolding rowBytes
   floats-first h l = rw (from xs i n nan h l)
 
   pub floats-more : i < n → n ≤ length xs → p ≤ length b → (b₁ : List ℕ) → b₁ ≡ replaceAt p (floatBytes (getD xs i nan)) b
-      → replaceAt (p + 8) (floatsBytes (drop (i + 1) (take n xs))) b₁ ≡ w
+      → replaceAt (p + 8) (rowBytes (drop (i + 1) (take n xs))) b₁ ≡ w
   floats-more h l q b₁ e =
       let F : List ℕ = floatBytes (getD xs i nan) in
-      let R : List ℕ = floatsBytes (drop (i + 1) (take n xs)) in
+      let R : List ℕ = rowBytes (drop (i + 1) (take n xs)) in
       let at : p + 8 ≡ p + length F = ap (λ (k : ℕ). p + k) (sym (length-bytesOf 8 (toBits binary64 (getD xs i nan)))) in
       replace-then p (p + 8) F R b b₁ (replaceAt (p + 8) R b₁) q at e refl
       ∙ ap (λ (l : List ℕ). replaceAt p l b) (sym (floats-first h l))
       ∙ inv
 
   pub floats-done : n ≤ i → b ≡ w
-  unfolding floatsBytes
-  floats-done h = sym (replace-none p b) ∙ ap (λ (l : List Float). replaceAt p (floatsBytes l) b) (sym (none-left xs i n h)) ∙ inv
+  unfolding rowBytes
+  floats-done h = sym (replace-none p b) ∙ ap (λ (l : List Float). replaceAt p (rowBytes l) b) (sym (none-left xs i n h)) ∙ inv
 
 -- ---- a copy
 

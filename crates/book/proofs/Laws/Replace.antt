@@ -1,17 +1,11 @@
 -- Bytes in place of others, one write behind the other.
-use Prim.Native.Nat.{ℕ, suc, zero, _+_, _/_, _≤_, _<_}
-use mathlib.Core.Path.{_≡_, refl, sym, ap, _∙_}
+use Prim.Native.Nat.{ℕ, suc, _+_, _≤_, _<_}
+use mathlib.Core.Path.{_≡_, sym, ap, _∙_}
 use mathlib.Core.List.{List, [], _∷_, _++_, append-assoc, append-nil}
 use native.Mathlib.Omega.{arith}
 use lib.ListN.{length, take, drop, set, length-append, length-set, length-take, take-append-drop}
 use lib.Seq.{take-set-le, drop-cons, getD-set-same, drop-set-lt, take-at, drop-append-add, drop-drop, length-take-le, paste}
-use Rattle.zone.specs.Format.Bytes.{bytesOf}
-use Rattle.book.specs.Bytes.{replaceAt}
-
-pub length-bytesOf : (k n : ℕ) → length (bytesOf k n) ≡ k
-unfolding bytesOf
-length-bytesOf zero n = refl
-length-bytesOf (suc k) n = simp length-append (omega (arith, length-bytesOf k (n / 256)))
+use Rattle.book.specs.Inner.Replace.{replaceAt}
 
 -- no byte replaced
 pub replace-none : (at : ℕ) (b : List ℕ) → replaceAt at [] b ≡ b

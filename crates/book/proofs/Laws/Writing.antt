@@ -9,29 +9,34 @@ use lib.Seq.{take-length}
 use lib.Ieee.{Float}
 use Rattle.zone.specs.Record.BuildingElement.{nodeCount}
 use Rattle.zone.specs.Format.Bytes.{bytesOf}
+use Rattle.zone.proofs.Promise.{length-bytesOf, length-row}
 use Rattle.zone.specs.declared.record.zone_record.Zone.{Zone}
 use Rattle.zone.specs.declared.calls.state.State.{State}
 use Rattle.zone.specs.declared.calls.state.Demand.{Demand}
 use Rattle.zone.specs.declared.calls.state.AchToTriggerHeating.{AchToTriggerHeating}
 use Rattle.zone.specs.declared.calls.state.AchToTriggerHeating.the-variants.{Absent, At}
 use Rattle.book.specs.Model.Bytes.{equalBytes}
-use Rattle.book.specs.Bytes.{replaceAt, floatBytes, floatsBytes}
-use Rattle.book.specs.Entry.{lengthField, wholeLength, version, frontBytes, triggerBytes, demandBytes, temperatureBytes, entryOf}
-use Rattle.book.proofs.Laws.Replace.{length-bytesOf, replace-then, replace-four, replace-start}
-use Rattle.book.proofs.Laws.Entry.{length-floats, length-front, length-demand}
+use Rattle.zone.specs.Format.Encode.{floatBytes, rowBytes}
+use Rattle.book.specs.Inner.Replace.{replaceAt}
+use Rattle.zone.specs.Format.Layout.{lengthSize}
+use Rattle.book.specs.Layout.{version, frontSize, followingLength, wholeLength}
+use Rattle.book.specs.Inner.Sizes.{triggerSize, ratesSize, demandSize}
+use Rattle.book.specs.Entry.{frontBytes, triggerBytes, demandBytes, temperatureBytes, entryOf}
+use Rattle.book.proofs.Laws.Replace.{replace-then, replace-four, replace-start}
+use Rattle.book.proofs.Laws.Entry.{length-front, length-demand}
 
 version-byte : bytesOf 1 1 ≡ version ∷ []
 unfolding bytesOf
 version-byte = refl
 
 module _ (at : ℕ) (b b₁ b₂ : List ℕ) where
-  pub front-written : (z : Zone) (m : ℕ) → m ≡ lengthField z → at + 5 ≤ length b
-      → b₁ ≡ replaceAt at (bytesOf 4 m) b → b₂ ≡ replaceAt (at + 4) (bytesOf 1 1) b₁ → b₂ ≡ replaceAt at (frontBytes z) b
+  pub front-written : (z : Zone) (m : ℕ) → m ≡ followingLength z → at + frontSize ≤ length b
+      → b₁ ≡ replaceAt at (bytesOf lengthSize m) b → b₂ ≡ replaceAt (at + lengthSize) (bytesOf 1 1) b₁ → b₂ ≡ replaceAt at (frontBytes z) b
   front-written z m l h e₁ e₂ =
-      replace-then at (at + 4) (bytesOf 4 m) (bytesOf 1 1) b b₁ b₂ (omega arith) (omega (arith, length-bytesOf 4 m)) e₁ e₂
-      ∙ (λ i. replaceAt at (bytesOf 4 (l i) ++ version-byte i) b)
+      replace-then at (at + lengthSize) (bytesOf lengthSize m) (bytesOf 1 1) b b₁ b₂ (omega arith) (omega (arith, length-bytesOf lengthSize m)) e₁ e₂
+      ∙ (λ i. replaceAt at (bytesOf lengthSize (l i) ++ version-byte i) b)
 
-  module _ (t : AchToTriggerHeating) (h : at + 9 ≤ length b) where
+  module _ (t : AchToTriggerHeating) (h : at + triggerSize ≤ length b) where
     pub trigger-absent : t ≡ Absent → b₁ ≡ replaceAt at (bytesOf 1 0) b → b₂ ≡ replaceAt (at + 1) (bytesOf 8 0) b₁ → b₂ ≡ replaceAt at (triggerBytes t) b
     trigger-absent f e₁ e₂ =
         replace-then at (at + 1) (bytesOf 1 0) (bytesOf 8 0) b b₁ b₂ (omega arith) (omega (arith, length-bytesOf 1 0)) e₁ e₂
@@ -42,33 +47,33 @@ module _ (at : ℕ) (b b₁ b₂ : List ℕ) where
         replace-then at (at + 1) (bytesOf 1 1) (floatBytes x) b b₁ b₂ (omega arith) (omega (arith, length-bytesOf 1 1)) e₁ e₂
         ∙ ap (λ (y : AchToTriggerHeating). replaceAt at (triggerBytes y) b) (sym f)
 
-  pub demand-written : (d : Demand) → at + 33 ≤ length b
-      → b₁ ≡ replaceAt at (floatsBytes (d .«space_heat_demand» ∷ d .«space_cool_demand» ∷ d .«ach_cooling» ∷ [])) b
-      → b₂ ≡ replaceAt (at + 24) (triggerBytes (d .«ach_to_trigger_heating»)) b₁ → b₂ ≡ replaceAt at (demandBytes d) b
+  pub demand-written : (d : Demand) → at + demandSize ≤ length b
+      → b₁ ≡ replaceAt at (rowBytes (d .«space_heat_demand» ∷ d .«space_cool_demand» ∷ d .«ach_cooling» ∷ [])) b
+      → b₂ ≡ replaceAt (at + ratesSize) (triggerBytes (d .«ach_to_trigger_heating»)) b₁ → b₂ ≡ replaceAt at (demandBytes d) b
   demand-written d h e₁ e₂ =
       let row = d .«space_heat_demand» ∷ d .«space_cool_demand» ∷ d .«ach_cooling» ∷ [] in
-      replace-then at (at + 24) (floatsBytes row) (triggerBytes (d .«ach_to_trigger_heating»)) b b₁ b₂ (omega arith) (omega (arith, length-floats row)) e₁ e₂
+      replace-then at (at + ratesSize) (rowBytes row) (triggerBytes (d .«ach_to_trigger_heating»)) b b₁ b₂ (omega arith) (omega (arith, length-row row)) e₁ e₂
 
 pub ruleset trigger-cases = (trigger-absent, trigger-at)
 
 module _ (z : Zone) (i : List ℕ) (d : Demand) (s : State) where
   pub entry-written : (at n : ℕ) (b b₁ b₂ b₃ b₄ : List ℕ) → n ≡ nodeCount z → at + wholeLength z ≤ length b
       → b₁ ≡ replaceAt at (frontBytes z) b
-      → b₂ ≡ replaceAt (at + 5) (take (length i) i) b₁
-      → b₃ ≡ replaceAt (at + 5 + length i) (demandBytes d) b₂
-      → b₄ ≡ replaceAt (at + 38 + length i) (floatsBytes (take n (s .temps))) b₃
+      → b₂ ≡ replaceAt (at + frontSize) (take (length i) i) b₁
+      → b₃ ≡ replaceAt (at + frontSize + length i) (demandBytes d) b₂
+      → b₄ ≡ replaceAt (at + frontSize + length i + demandSize) (rowBytes (take n (s .temps))) b₃
       → b₄ ≡ replaceAt at (entryOf z i d s) b
   unfolding entryOf
   entry-written at n b b₁ b₂ b₃ b₄ l h e₁ e₂ e₃ e₄ =
-      replace-four at (at + 5) (at + 5 + length i) (at + 38 + length i) (frontBytes z) i (demandBytes d) (temperatureBytes z s) b b₁ b₂ b₃ b₄
+      replace-four at (at + frontSize) (at + frontSize + length i) (at + frontSize + length i + demandSize) (frontBytes z) i (demandBytes d) (temperatureBytes z s) b b₁ b₂ b₃ b₄
       (omega arith)
       (omega (arith, length-front z))
       (omega (arith, length-front z))
       (omega (arith, length-front z, length-demand d))
       e₁
-      (e₂ ∙ ap (λ (y : List ℕ). replaceAt (at + 5) y b₁) (take-length i))
+      (e₂ ∙ ap (λ (y : List ℕ). replaceAt (at + frontSize) y b₁) (take-length i))
       e₃
-      (e₄ ∙ ap (λ (y : ℕ). replaceAt (at + 38 + length i) (floatsBytes (take y (s .temps))) b₃) l)
+      (e₄ ∙ ap (λ (y : ℕ). replaceAt (at + frontSize + length i + demandSize) (rowBytes (take y (s .temps))) b₃) l)
 
   -- the entry written anew into a buffer's start, compared with a whole entry
   pub entry-compared : (c b b₁ : List ℕ) (t : Bool) → length c ≡ wholeLength z → length (entryOf z i d s) ≡ wholeLength z

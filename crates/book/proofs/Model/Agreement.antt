@@ -9,22 +9,27 @@ use native.Mathlib.Omega.{arith}
 use lib.ListN.{length, take, drop, length-append, length-map}
 use lib.Seq.{take-at, take-length, length-take-le, take-add}
 use lib.Dec.{leb}
-use Rattle.zone.specs.Promise.{Result, ok, refused, bind-is}
+use Rattle.zone.specs.Promise.{Result, ok, refused}
+use Rattle.zone.proofs.Promise.{bind-is}
+use Rattle.zone.specs.Format.Head.{ReadHead}
 use Rattle.book.specs.Model.Bytes.{concat, fromOption}
-use Rattle.book.specs.Model.Layers.{Layers, Laws}
+use Rattle.book.specs.Model.Interface.{Interface}
+use Rattle.book.proofs.Model.InterfaceLaws.{Laws}
 use Rattle.book.specs.Model.Calls.{Values, accepted, begin, beginRes, wholeEntries, checkEntries, takeUp, takeUpRes}
-use Rattle.book.specs.Model.Plain.{Plain, book, View, Contents, lastState, entries, contents, usedBytes, ownValues, view, beginPlain, WellFormed, wellFormed}
+use Rattle.book.specs.Model.Plain.{Plain, book, View, Contents, lastState, entriesOf, contentsOf, usedBytes, ownValues, view, beginPlain, WellFormed}
+use Rattle.book.proofs.Model.Formed.{wellFormed}
 use Rattle.book.specs.Model.PlainTakeUp.{takeUpPlain}
-use Rattle.book.specs.Model.Run.{afterBegin, afterTakeUp, written, plainOutcome, plainEvent}
+use Rattle.book.specs.Model.Run.{written, plainOutcome, plainEvent}
+use Rattle.book.specs.Model.Session.{afterBegin, afterTakeUp}
 use Rattle.book.proofs.Model.Laws.Bytes.{front-of}
 use Rattle.book.proofs.Model.Laws.Entries.{length-bytesOf}
 use Rattle.book.proofs.Model.Laws.Checking.{check-accepted, check-bad}
 use Rattle.book.proofs.Model.Laws.Decode.{dropped}
 use Rattle.book.proofs.Model.Laws.ByIndex.{items-in, tests-ok, tests-bad}
 
-module _ (L : Layers) where
-  pub contents-is : (head : List ℕ) (is : List (L .Item)) (S : WellFormed L head is) → contents L head is ≡ ok (S .contents)
-  unfolding contents
+module _ (L : Interface) where
+  pub contents-is : (head : List ℕ) (is : List (L .Item)) (S : WellFormed L head is) → contentsOf L head is ≡ ok (S .contents)
+  unfolding contentsOf
   contents-is head is S = bind-is _ _ _ _ (S .head-is) (bind-is _ _ _ _ (S .start-is) (bind-is _ _ _ _ (S .entries-are) refl))
 
   -- what is seen of a well-formed plain book
@@ -41,15 +46,15 @@ module _ (L : Layers) where
   unfolding plainEvent
   outcome-ok g lent p q w e = rw e
 
-module _ (L : Layers) (W : Laws L) where
+module _ (L : Interface) (W : Laws L) where
   -- a head by itself, and with other bytes behind it
-  pub head-alone : (bs : List ℕ) (z : L .Zone) (n : ℕ) → L .headOf bs ≡ ok (z, n) → L .headOf (take n bs) ≡ ok (z, length (take n bs))
+  pub head-alone : (bs : List ℕ) (z : L .Zone) (n : ℕ) → L .headOf bs ≡ ok (record { zone = z; length = n }) → L .headOf (take n bs) ≡ ok (record { zone = z; length = length (take n bs) })
   head-alone bs z n e =
-      let a : L .headOf (take n bs ++ []) ≡ ok (z, n) = W .head-own bs [] z n e in
-      rw (length-take-le n bs (W .head-within bs z n e)) (rw append-nil at a)
+      let a : L .headOf (take n bs ++ []) ≡ ok (record { zone = z; length = n }) = W .head-own bs [] _ e in
+      rw (length-take-le n bs (W .head-within bs _ e)) (rw append-nil at a)
 
-  pub head-on : (head : List ℕ) (is : List (L .Item)) (S : WellFormed L head is) (cs : List ℕ) → L .headOf (head ++ cs) ≡ ok (S .contents .zone, length head)
-  head-on head is S cs = rw take-length at (W .head-own head cs (S .contents .zone) (length head) (S .head-is))
+  pub head-on : (head : List ℕ) (is : List (L .Item)) (S : WellFormed L head is) (cs : List ℕ) → L .headOf (head ++ cs) ≡ ok (record { zone = S .contents .zone; length = length head })
+  head-on head is S cs = rw take-length at (W .head-own head cs _ (S .head-is))
 
   module _ (p : Plain (L .Item)) (pp : wellFormed L p) (g : Values (L .State)) where
     abbrev pub Begins : List ℕ → List ℕ → Type 0
@@ -58,15 +63,15 @@ module _ (L : Layers) (W : Laws L) where
         × wellFormed L (plainOutcome L g (some buf) p (beginPlain L head buf) .next)
 
     pub begin-agrees : (head buf : List ℕ) → Begins head buf
-    unfolding begin beginRes beginPlain plainEvent entries view contents
+    unfolding begin beginRes beginPlain plainEvent entriesOf view contentsOf
     begin-agrees head buf = go (L .headOf head) refl
       where
-        go₃ : (z : L .Zone) (n : ℕ) (s : L .State) (b : Bool) → L .headOf head ≡ ok (z, n) → L .startUp z ≡ ok s → leb n (length buf) ≡ b → Begins head buf
+        go₃ : (z : L .Zone) (n : ℕ) (s : L .State) (b : Bool) → L .headOf head ≡ ok (record { zone = z; length = n }) → L .startUp z ≡ ok s → leb n (length buf) ≡ b → Begins head buf
         go₃ z n s false e f t = rw (e, f, t) (refl, pp)
         go₃ z n s true e f t =
             let c : Contents L = record { zone = z; start = s; entries = [] } in
             let S : WellFormed L (take n head) [] = record { contents = c; head-is = head-alone head z n e; start-is = f; entries-are = refl; within-limit = omega arith } in
-            let l : length (take n head) ≡ n = length-take-le n head (W .head-within head z n e) in
+            let l : length (take n head) ≡ n = length-take-le n head (W .head-within head _ e) in
             let a : take n head ++ [] ≡ take n head = append-nil (take n head) in
             let w : View (L .State) = record { bytes = take n head; values = record { state = s; count = 0; used = n } } in
             let q : view L (book (take n head) []) ≡ some w =
@@ -82,13 +87,13 @@ module _ (L : Layers) (W : Laws L) where
               S,
             )
 
-        go₂ : (z : L .Zone) (n : ℕ) → L .headOf head ≡ ok (z, n) → (x : Result (L .State)) → L .startUp z ≡ x → Begins head buf
+        go₂ : (z : L .Zone) (n : ℕ) → L .headOf head ≡ ok (record { zone = z; length = n }) → (x : Result (L .State)) → L .startUp z ≡ x → Begins head buf
         go₂ z n e (refused c j) f = rw (e, f) (refl, pp)
         go₂ z n e (ok s) f = go₃ z n s (leb n (length buf)) e f refl
 
-        go : (x : Result (L .Zone × ℕ)) → L .headOf head ≡ x → Begins head buf
+        go : (x : Result (ReadHead (L .Zone))) → L .headOf head ≡ x → Begins head buf
         go (refused c j) e = rw e (refl, pp)
-        go (ok h) e = go₂ (h .0) (h .1) e (L .startUp (h .0)) refl
+        go (ok h) e = go₂ (h .zone) (h .length) e (L .startUp (h .zone)) refl
 
     abbrev pub Takes : List ℕ → Type 0
     Takes bytes =
@@ -99,7 +104,7 @@ module _ (L : Layers) (W : Laws L) where
     unfolding takeUp takeUpRes takeUpPlain plainEvent
     takeUp-agrees bytes = go (L .headOf bytes) refl
       where
-        go₃ : (z : L .Zone) (n : ℕ) (s : L .State) → L .headOf bytes ≡ ok (z, n) → L .startUp z ≡ ok s
+        go₃ : (z : L .Zone) (n : ℕ) (s : L .State) → L .headOf bytes ≡ ok (record { zone = z; length = n }) → L .startUp z ≡ ok s
             → (x : Result (Values (L .State))) → checkEntries L z 0 s n (wholeEntries L z (drop n bytes)) ≡ x → Takes bytes
         go₃ z n s e f (refused c j) t =
             let B = check-bad L z 0 s n (wholeEntries L z (drop n bytes)) c j (omega arith) t in
@@ -117,7 +122,7 @@ module _ (L : Layers) (W : Laws L) where
               entries-are = J .entries-are;
               within-limit = rw length-map within-limit;
             } in
-            let l : length (take n bytes) ≡ n = length-take-le n bytes (W .head-within bytes z n e) in
+            let l : length (take n bytes) ≡ n = length-take-le n bytes (W .head-within bytes _ e) in
             let d = dropped L W z (drop n bytes) in
             let u : n + length (concat cs) ≡ v .used = ap (λ x. x .used) (J .values) in
             let b : take n bytes ++ concat cs ≡ take (v .used) bytes =
@@ -136,10 +141,10 @@ module _ (L : Layers) (W : Laws L) where
             rw (e, f, t, tests-ok L W z s (drop n bytes) (J .es) (J .entries-are) (J .same) within-limit, items-in L W z (drop n bytes))
             (sym (outcome-ok L g none p (book (take n bytes) is) w q), S)
 
-        go₂ : (z : L .Zone) (n : ℕ) → L .headOf bytes ≡ ok (z, n) → (x : Result (L .State)) → L .startUp z ≡ x → Takes bytes
+        go₂ : (z : L .Zone) (n : ℕ) → L .headOf bytes ≡ ok (record { zone = z; length = n }) → (x : Result (L .State)) → L .startUp z ≡ x → Takes bytes
         go₂ z n e (refused c j) f = rw (e, f) (refl, pp)
         go₂ z n e (ok s) f = go₃ z n s e f (checkEntries L z 0 s n (wholeEntries L z (drop n bytes))) refl
 
-        go : (x : Result (L .Zone × ℕ)) → L .headOf bytes ≡ x → Takes bytes
+        go : (x : Result (ReadHead (L .Zone))) → L .headOf bytes ≡ x → Takes bytes
         go (refused c j) e = rw e (refl, pp)
-        go (ok h) e = go₂ (h .0) (h .1) e (L .startUp (h .0)) refl
+        go (ok h) e = go₂ (h .zone) (h .length) e (L .startUp (h .zone)) refl

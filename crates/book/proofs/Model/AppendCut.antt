@@ -10,19 +10,25 @@ use lib.ListN.{length, take, drop, length-append}
 use lib.Seq.{take-append-add, take-at, drop-at}
 use lib.Dec.{leb, ltb}
 use borrow.Author.Tests.{leb-true, leb-false, ltb-true, le-leb, lt-leb}
-use Rattle.zone.specs.Promise.{Result, ok, refused, bind-is}
+use Rattle.zone.specs.Promise.{Result, ok, refused}
+use Rattle.zone.proofs.Promise.{bind-is}
 use Rattle.zone.proofs.Promise.{and-true}
-use Rattle.book.specs.Model.Layers.{Layers, Laws}
+use Rattle.book.specs.Numbers.{bufferShort, bookFull}
+use Rattle.book.specs.Model.Interface.{Interface, Written}
+use Rattle.book.proofs.Model.InterfaceLaws.{Laws}
 use Rattle.book.specs.Model.Calls.{Values, accepted, append, appendRes, wholeEntries, takeUp}
-use Rattle.book.specs.Model.Plain.{Plain, book, View, entryBytes, lastState, entries, contents, usedBytes, ownValues, view, appendPlain, itemsEndingBy, cutPlain, WellFormed, wellFormed}
+use Rattle.book.specs.Model.Plain.{Plain, book, View, entryBytes, lastState, entriesOf, contentsOf, usedBytes, ownValues, view, appendPlain, itemsEndingBy, cutPlain, WellFormed}
+use Rattle.book.proofs.Model.Formed.{wellFormed}
 use Rattle.book.specs.Model.PlainTakeUp.{testEntries, takeUpPlain}
-use Rattle.book.specs.Model.Run.{Call, callAppend, callCut, afterAppend, afterTakeUp, make, written, plainOutcome, plainMake, plainEvent}
-use Rattle.book.proofs.Model.Laws.Entries.{Entries, length-bytesOf, entryBytes-append, lastState-append, length-entries, parts-entries}
+use Rattle.book.specs.Model.Run.{Call, callAppend, callCut, written, plainOutcome, plainMake, plainEvent}
+use Rattle.book.specs.Model.Session.{afterAppend, afterTakeUp}
+use Rattle.book.proofs.Model.Caller.{make}
+use Rattle.book.proofs.Model.Laws.Entries.{last-tested, Entries, entry, length-bytesOf, entryBytes-append, lastState-append, length-entries, parts-entries}
 use Rattle.book.proofs.Model.Laws.Decode.{cut-short}
 use Rattle.book.proofs.Model.Laws.ByIndex.{items-in, tests-ok}
 use Rattle.book.proofs.Model.Agreement.{contents-is, view-is, outcome-ok, head-on, takeUp-agrees}
 
-module _ (L : Layers) (W : Laws L) where
+module _ (L : Interface) (W : Laws L) where
   -- the event of a call on what is seen of a plain book is the plain book's, and it leaves a well-formed one
   abbrev pub Agrees : Plain (L .Item) → Call (L .State) (L .Item) → Type 0
   Agrees p c = (make L (view L p) c ≡ plainEvent L (plainMake L p c)) × wellFormed L (plainMake L p c .next)
@@ -37,7 +43,7 @@ module _ (L : Layers) (W : Laws L) where
     pub count-is : length (S .contents .entries) ≡ length is
     count-is = length-entries L (S .contents .zone) 0 (S .contents .start) is (S .contents .entries) (S .entries-are)
 
-    call-append : (i : L .Item) (spare : List ℕ)
+    pub call-append : (i : L .Item) (spare : List ℕ)
         → make L (view L (book head is)) (callAppend i spare) ≡ afterAppend L (append L (S .contents .zone) own i (usedOf ++ spare))
     unfolding make
     call-append i spare = rw (view-is L head is S, head-on L W head is S (entryBytes (S .contents .entries)))
@@ -53,55 +59,55 @@ module _ (L : Layers) (W : Laws L) where
     both-refuse i spare c j a b = rw (call-append i spare, plain-append i spare, a, b, view-is L head is S, take-at usedOf spare _ refl) (refl, S)
 
     -- the plain book with an item more
-    unfoldable pub more : (i : L .Item) (e : List ℕ × L .State) → L .step (S .contents .zone) (length (S .contents .entries)) (lastState (S .contents .start) (S .contents .entries)) i ≡ ok e
+    unfoldable pub more : (i : L .Item) (e : Written (L .State)) → L .step (S .contents .zone) (length (S .contents .entries)) (lastState (S .contents .start) (S .contents .entries)) i ≡ ok e
         → length (S .contents .entries) < L .limit → WellFormed L head (is ++ (i ∷ []))
-    unfolding entries
+    unfolding entriesOf
     more i e st lt =
         let n : length (S .contents .entries) ≡ 0 + length is = count-is ∙ sym (zero-add (length is)) in
-        let one : entries L (S .contents .zone) (0 + length is) (lastState (S .contents .start) (S .contents .entries)) (i ∷ []) ≡ ok (e ∷ []) =
-        subst (λ x. entries L (S .contents .zone) x (lastState (S .contents .start) (S .contents .entries)) (i ∷ []) ≡ ok (e ∷ [])) n (bind-is _ _ _ _ st refl) in
+        let one : entriesOf L (S .contents .zone) (0 + length is) (lastState (S .contents .start) (S .contents .entries)) (i ∷ []) ≡ ok (entry L i e ∷ []) =
+        subst (λ x. entriesOf L (S .contents .zone) x (lastState (S .contents .start) (S .contents .entries)) (i ∷ []) ≡ ok (entry L i e ∷ [])) n (bind-is _ _ _ _ st refl) in
         record {
-          contents = record { zone = S .contents .zone; start = S .contents .start; entries = S .contents .entries ++ (e ∷ []) };
+          contents = record { zone = S .contents .zone; start = S .contents .start; entries = S .contents .entries ++ (entry L i e ∷ []) };
           head-is = S .head-is;
           start-is = S .start-is;
-          entries-are = parts-entries L (S .contents .zone) 0 (S .contents .start) is (i ∷ []) (S .contents .entries) (e ∷ []) (S .entries-are) one;
+          entries-are = parts-entries L (S .contents .zone) 0 (S .contents .start) is (i ∷ []) (S .contents .entries) (entry L i e ∷ []) (S .entries-are) one;
           within-limit = omega (arith, length-append is (i ∷ []), count-is);
         }
 
-    both-accept : (i : L .Item) (spare : List ℕ) (e : List ℕ × L .State)
+    both-accept : (i : L .Item) (spare : List ℕ) (e : Written (L .State))
         → L .step (S .contents .zone) (length (S .contents .entries)) (lastState (S .contents .start) (S .contents .entries)) i ≡ ok e
         → length (S .contents .entries) < L .limit
         → appendRes L (S .contents .zone) own i (usedOf ++ spare)
         ≡ ok (
-          record { state = e .1; count = length (S .contents .entries) + 1; used = length usedOf + length (e .0) },
-          take (length usedOf) (usedOf ++ spare) ++ e .0 ++ drop (length usedOf + length (e .0)) (usedOf ++ spare),
+          record { state = e .after; count = length (S .contents .entries) + 1; used = length usedOf + length (e .bytes) },
+          take (length usedOf) (usedOf ++ spare) ++ e .bytes ++ drop (length usedOf + length (e .bytes)) (usedOf ++ spare),
         )
         → appendPlain L head is i spare ≡ ok (book head (is ++ (i ∷ []))) → Agrees (book head is) (callAppend i spare)
     unfolding append more
     both-accept i spare e st lt a b =
         let es : Entries L = S .contents .entries in
         let S′ : WellFormed L head (is ++ (i ∷ [])) = more i e st lt in
-        let v : Values (L .State) = record { state = e .1; count = length es + 1; used = length usedOf + length (e .0) } in
-        let w : View (L .State) = record { bytes = usedOf ++ e .0; values = v } in
-        let l : length (usedOf ++ e .0) ≡ length usedOf + length (e .0) = length-append usedOf (e .0) in
-        let bs : usedBytes L head (S′ .contents) ≡ usedOf ++ e .0 =
-        ap (λ x. head ++ x) (entryBytes-append es (e ∷ []) ∙ ap (λ x. entryBytes es ++ x) (append-nil (e .0)))
-        ∙ sym (append-assoc head (entryBytes es) (e .0)) in
+        let v : Values (L .State) = record { state = e .after; count = length es + 1; used = length usedOf + length (e .bytes) } in
+        let w : View (L .State) = record { bytes = usedOf ++ e .bytes; values = v } in
+        let l : length (usedOf ++ e .bytes) ≡ length usedOf + length (e .bytes) = length-append usedOf (e .bytes) in
+        let bs : usedBytes L head (S′ .contents) ≡ usedOf ++ e .bytes =
+        ap (λ x. head ++ x) (entryBytes-append es (entry L i e ∷ []) ∙ ap (λ x. entryBytes es ++ x) (append-nil (e .bytes)))
+        ∙ sym (append-assoc head (entryBytes es) (e .bytes)) in
         let q : view L (book head (is ++ (i ∷ []))) ≡ some w =
         view-is L head (is ++ (i ∷ [])) S′
         ∙ (λ t. some (record {
           bytes = bs t;
-          values = record { state = lastState-append (S .contents .start) es (e ∷ []) t; count = length-append es (e ∷ []) t; used = (ap length bs ∙ l) t };
+          values = record { state = lastState-append (S .contents .start) es (entry L i e ∷ []) t; count = length-append es (entry L i e ∷ []) t; used = (ap length bs ∙ l) t };
         })) in
         let tk : take (length usedOf) (usedOf ++ spare) ≡ usedOf = take-at usedOf spare (length usedOf) refl in
-        let out : take (length usedOf) (usedOf ++ spare) ++ e .0 ++ drop (length usedOf + length (e .0)) (usedOf ++ spare) ≡ written L w (usedOf ++ spare) =
-        λ t. tk t ++ e .0 ++ drop (sym l t) (usedOf ++ spare) in
-        let front : take (length usedOf + length (e .0)) (written L w (usedOf ++ spare)) ≡ usedOf ++ e .0 = take-at (usedOf ++ e .0) (drop (length (usedOf ++ e .0)) (usedOf ++ spare)) _ l in
+        let out : take (length usedOf) (usedOf ++ spare) ++ e .bytes ++ drop (length usedOf + length (e .bytes)) (usedOf ++ spare) ≡ written L w (usedOf ++ spare) =
+        λ t. tk t ++ e .bytes ++ drop (sym l t) (usedOf ++ spare) in
+        let front : take (length usedOf + length (e .bytes)) (written L w (usedOf ++ spare)) ≡ usedOf ++ e .bytes = take-at (usedOf ++ e .bytes) (drop (length (usedOf ++ e .bytes)) (usedOf ++ spare)) _ l in
         rw (call-append i spare, plain-append i spare, a, b) (
           (λ t. record {
             answer = some (accepted v);
             buffer = some (out t);
-            held = some (record { bytes = (ap (take (length usedOf + length (e .0))) out ∙ front) t; values = v });
+            held = some (record { bytes = (ap (take (length usedOf + length (e .bytes))) out ∙ front) t; values = v });
           }) ∙ sym (outcome-ok L own (some (usedOf ++ spare)) (book head is) (book head (is ++ (i ∷ []))) w q),
           S′,
         )
@@ -116,37 +122,39 @@ module _ (L : Layers) (W : Laws L) where
         s : L .State
         s = lastState (S .contents .start) (S .contents .entries)
 
-        zt : L .zoneTest (S .contents .zone) ≡ ok tt
-        zt = W .zone-tested head (S .contents .zone) (length head) (S .head-is)
+        zt : L .givenTest (S .contents .zone) s ≡ ok tt
+        zt =
+            last-tested L W (S .contents .zone) 0 (S .contents .start) is (S .contents .entries) (S .entries-are)
+            (W .start-tested head _ (S .contents .start) (S .head-is) (S .start-is))
 
-        co : contents L head is ≡ ok (S .contents)
+        co : contentsOf L head is ≡ ok (S .contents)
         co = contents-is L head is S
 
-        go₃ : (e : List ℕ × L .State) → L .appendStep (S .contents .zone) n s i ≡ ok e → ltb n (L .limit) ≡ true
-            → (b : Bool) → leb (length (e .0)) (length spare) ≡ b → Agrees (book head is) (callAppend i spare)
+        go₃ : (e : Written (L .State)) → L .appendStep (S .contents .zone) n s i ≡ ok e → ltb n (L .limit) ≡ true
+            → (b : Bool) → leb (length (e .bytes)) (length spare) ≡ b → Agrees (book head is) (callAppend i spare)
         go₃ e o t true f =
-            let le = leb-true (length (e .0)) (length spare) f in
-            let y : leb (length usedOf + length (e .0)) (length (usedOf ++ spare)) ≡ true =
-            le-leb (length usedOf + length (e .0)) (length (usedOf ++ spare)) (omega (arith, length-append usedOf spare)) in
+            let le = leb-true (length (e .bytes)) (length spare) f in
+            let y : leb (length usedOf + length (e .bytes)) (length (usedOf ++ spare)) ≡ true =
+            le-leb (length usedOf + length (e .bytes)) (length (usedOf ++ spare)) (omega (arith, length-append usedOf spare)) in
             both-accept i spare e (W .append-step _ _ _ _ _ o) (ltb-true _ _ t) (rw (zt, t, o, y)) (rw (co, t, o, f))
         go₃ e o t false f =
-            let lt = leb-false (length (e .0)) (length spare) f in
-            let y : leb (length usedOf + length (e .0)) (length (usedOf ++ spare)) ≡ false =
-            lt-leb (length usedOf + length (e .0)) (length (usedOf ++ spare)) (omega (arith, length-append usedOf spare)) in
-            both-refuse i spare 16 0 (rw (zt, t, o, y)) (rw (co, t, o, f))
+            let lt = leb-false (length (e .bytes)) (length spare) f in
+            let y : leb (length usedOf + length (e .bytes)) (length (usedOf ++ spare)) ≡ false =
+            lt-leb (length usedOf + length (e .bytes)) (length (usedOf ++ spare)) (omega (arith, length-append usedOf spare)) in
+            both-refuse i spare bufferShort 0 (rw (zt, t, o, y)) (rw (co, t, o, f))
 
-        go₂ : ltb n (L .limit) ≡ true → (x : Result (List ℕ × L .State)) → L .appendStep (S .contents .zone) n s i ≡ x → Agrees (book head is) (callAppend i spare)
-        go₂ t (ok e) o = go₃ e o t (leb (length (e .0)) (length spare)) refl
+        go₂ : ltb n (L .limit) ≡ true → (x : Result (Written (L .State))) → L .appendStep (S .contents .zone) n s i ≡ x → Agrees (book head is) (callAppend i spare)
+        go₂ t (ok e) o = go₃ e o t (leb (length (e .bytes)) (length spare)) refl
         go₂ t (refused c j) o = both-refuse i spare c j (rw (zt, t, o)) (rw (co, t, o))
 
         go : (b : Bool) → ltb n (L .limit) ≡ b → Agrees (book head is) (callAppend i spare)
         go true t = go₂ t (L .appendStep (S .contents .zone) n s i) refl
-        go false t = both-refuse i spare 17 0 (rw (zt, t)) (rw (co, t))
+        go false t = both-refuse i spare bookFull 0 (rw (zt, t)) (rw (co, t))
 
     -- ---- a cut
 
     abbrev pub kept-items : ℕ → List (L .Item)
-    kept-items at = itemsEndingBy L at (length head) is (S .contents .entries)
+    kept-items at = itemsEndingBy L at (length head) (S .contents .entries)
 
     pub cut-is : (at : ℕ) → cutPlain L head is at ≡ ok (book head (kept-items at))
     unfolding cutPlain
@@ -171,7 +179,7 @@ module _ (L : Layers) (W : Laws L) where
           sym (length-append (P .kept) (P .lost)) ∙ ap length (P .joined) ∙ count-is,
           S .within-limit,
         ) in
-        let ts : testEntries L z s T ≡ ok tt = tests-ok L W z s T (P .kept) (ap (entries L z 0 s) it ∙ P .entries-are) (sym (P .read)) within-limit in
+        let ts : testEntries L z s T ≡ ok tt = tests-ok L W z s T (P .kept) (ap (entriesOf L z 0 s) it ∙ P .entries-are) (sym (P .read)) within-limit in
         rw (cut-is at, tk, head-on L W head is S T, S .start-is, drop-at head T (length head) refl, ts, take-at head T (length head) refl)
         (ap (λ x. ok (book head x)) (sym (items-in L W z T ∙ it)))
 

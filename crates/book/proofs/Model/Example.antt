@@ -11,36 +11,38 @@ use lib.ListN.{length, take, drop, getD, length-append, length-take}
 use lib.Seq.{take-at}
 use lib.Dec.{leb, ltb, eqb}
 use borrow.Author.Tests.{leb-true, eqb-true, le-leb, lt-leb}
-use Rattle.zone.specs.Promise.{Result, ok, refused, bind, bind-ok, require, require-ok, ok-inj, ok-not-refused}
+use Rattle.zone.specs.Promise.{Result, ok, refused, bind, require}
+use Rattle.zone.proofs.Promise.{bind-ok, require-ok, ok-inj, ok-not-refused}
+use Rattle.zone.specs.Format.Head.{ReadHead}
 use Rattle.book.specs.Model.Bytes.{firstFrom}
-use Rattle.book.specs.Model.Layers.{Layers, Laws}
+use Rattle.book.specs.Model.Interface.{Interface, Written}
+use Rattle.book.proofs.Model.InterfaceLaws.{Laws}
 use Rattle.book.specs.Model.Calls.{Values, Answer, accepted, refusedWith, beginRes, begin, appendRes, append, wholeEntriesUpTo, wholeEntries, checkEntries, takeUpRes, takeUp}
-use Rattle.book.specs.Model.Plain.{empty, entries, contents, view, beginPlain, appendPlain, itemsEndingBy, cutPlain}
-use Rattle.book.specs.Model.PlainTakeUp.{restAt, entryAt, numberOfEntries, itemsBefore, stepAt, falseAt, firstBad, testEntries, takeUpPlain}
-use Rattle.book.specs.Model.Run.{callBegin, callAppend, callTakeUp, callCut, Calls, Event, make, run, plainMake, plainEvent, plainRun}
-use Rattle.book.specs.Model.Claims.{Claims}
-use Rattle.book.proofs.Model.Claims.{claims}
+use Rattle.book.specs.Model.Plain.{empty, entriesOf, contentsOf, view, beginPlain, appendPlain, itemsEndingBy, cutPlain}
+use Rattle.book.specs.Model.PlainTakeUp.{restAt, entryAt, numberOfEntries, itemsBefore, stepAt, falseAt, firstInvalid, testEntries, takeUpPlain}
+use Rattle.book.specs.Model.Run.{callBegin, callAppend, callTakeUp, callCut, Calls, Event, plainMake, plainEvent, plainRun}
+use Rattle.book.proofs.Model.Caller.{make, run}
 
-unfoldable headOf : List ℕ → Result (ℕ × ℕ)
+unfoldable headOf : List ℕ → Result (ReadHead ℕ)
 headOf [] = refused 1 0
 headOf (v ∷ []) = refused 1 0
 headOf (v ∷ (n ∷ bs)) =
     bind (require (eqb v 1) 3) λ _.
     bind (require (ltb 0 n) 5) λ _.
-    ok (n, 2)
+    ok (record { zone = n; length = 2 })
 
-unfoldable step : ℕ → ℕ → ℕ → List ℕ → Result (List ℕ × ℕ)
+unfoldable step : ℕ → ℕ → ℕ → List ℕ → Result (Written ℕ)
 step z k s i =
     bind (require (eqb (length i) 1) 7) λ _.
     bind (require (leb (getD i 0 0) 200) 9) λ _.
-    ok (1 ∷ (i ++ ((s + z + getD i 0 0) ∷ [])), s + z + getD i 0 0)
+    ok (record { bytes = 1 ∷ (i ++ ((s + z + getD i 0 0) ∷ [])); after = s + z + getD i 0 0 })
 
-unfoldable appendStep : ℕ → ℕ → ℕ → List ℕ → Result (List ℕ × ℕ)
+unfoldable appendStep : ℕ → ℕ → ℕ → List ℕ → Result (Written ℕ)
 appendStep z k s i =
     bind (require (not (eqb (getD i 0 0) 0)) 8) λ _.
     step z k s i
 
-abbrev example : Layers
+abbrev example : Interface
 example =
     record {
       Zone = ℕ;
@@ -48,7 +50,7 @@ example =
       Item = List ℕ;
       limit = 2;
       headOf = headOf;
-      zoneTest = λ z. ok tt;
+      givenTest = λ z s. ok tt;
       startUp = λ z. cond (eqb z 7) (refused 15 0) (ok (z * 10));
       step = step;
       appendStep = appendStep;
@@ -58,27 +60,27 @@ example =
 
 -- ---- the laws
 
-head-two : (bs cs : List ℕ) (z n : ℕ) → headOf bs ≡ ok (z, n) → (n ≤ length bs) × (headOf (take n bs ++ cs) ≡ ok (z, n))
+head-two : (bs cs : List ℕ) (z n : ℕ) → headOf bs ≡ ok (record { zone = z; length = n }) → (n ≤ length bs) × (headOf (take n bs ++ cs) ≡ ok (record { zone = z; length = n }))
 unfolding headOf
-head-two [] cs z n e = ok-not-refused (z, n) 1 0 (sym e)
-head-two (v ∷ []) cs z n e = ok-not-refused (z, n) 1 0 (sym e)
+head-two [] cs z n e = ok-not-refused (record { zone = z; length = n }) 1 0 (sym e)
+head-two (v ∷ []) cs z n e = ok-not-refused (record { zone = z; length = n }) 1 0 (sym e)
 head-two (v ∷ (m ∷ bs)) cs z n e =
-    let a = bind-ok (require (eqb v 1) 3) _ (z, n) e in
-    let b = bind-ok (require (ltb 0 m) 5) _ (z, n) (a .2) in
-    let q : 2 ≡ n = ap (λ x. x .1) (ok-inj (b .2)) in
-    (omega arith, subst (λ x. headOf (take x (v ∷ (m ∷ bs)) ++ cs) ≡ ok (z, n)) q e)
+    let a = bind-ok (require (eqb v 1) 3) _ _ e in
+    let b = bind-ok (require (ltb 0 m) 5) _ _ (a .2) in
+    let q : 2 ≡ n = ap (λ x. x .length) (ok-inj (b .2)) in
+    (omega arith, subst (λ x. headOf (take x (v ∷ (m ∷ bs)) ++ cs) ≡ ok (record { zone = z; length = n })) q e)
 
 one-byte : (i : List ℕ) (t : ℕ) → length i ≡ 1 → (length (i ++ (t ∷ [])) ≡ 2) × (take 1 (i ++ (t ∷ [])) ≡ i)
 one-byte i t e = (length-append i (t ∷ []) ∙ ap (λ x. x + 1) e, take-at i (t ∷ []) 1 e)
 
-module _ (z k s : ℕ) (i : List ℕ) (e : List ℕ × ℕ) (h : step z k s i ≡ ok e) where
-  entry-is : (length (e .0) ≡ 3) × (take 1 (drop 1 (e .0)) ≡ i)
+module _ (z k s : ℕ) (i : List ℕ) (e : Written ℕ) (h : step z k s i ≡ ok e) where
+  entry-is : (length (e .bytes) ≡ 3) × (take 1 (drop 1 (e .bytes)) ≡ i)
   unfolding step
   entry-is =
       let a = bind-ok (require (eqb (length i) 1) 7) _ e h in
       let b = bind-ok (require (leb (getD i 0 0) 200) 9) _ e (a .2) in
       let o = one-byte i (s + z + getD i 0 0) (eqb-true (length i) 1 (require-ok _ _ _ _ (a .1))) in
-      subst (λ x. (length (x .0) ≡ 3) × (take 1 (drop 1 (x .0)) ≡ i)) (ok-inj (b .2)) (ap suc (o .0), o .1)
+      subst (λ x. (length (x .bytes) ≡ 3) × (take 1 (drop 1 (x .bytes)) ≡ i)) (ok-inj (b .2)) (ap suc (o .0), o .1)
 
 length-in : (bs : List ℕ) (n : ℕ) → cond (leb 3 (length bs)) (some 3) none ≡ some n → (0 < n) × (n ≤ length bs)
 length-in bs n e = go (leb 3 (length bs)) refl e
@@ -87,29 +89,27 @@ length-in bs n e = go (leb 3 (length bs)) refl e
     go true t q = let m : 3 ≡ n = cc in (omega arith, omega (arith, leb-true 3 (length bs) t))
     go false t q = let m : _≡_ {A = ℕ} 0 1 = cc in absurd (omega arith)
 
-step-of-append : (z k s : ℕ) (i : List ℕ) (e : List ℕ × ℕ) → appendStep z k s i ≡ ok e → step z k s i ≡ ok e
+step-of-append : (z k s : ℕ) (i : List ℕ) (e : Written ℕ) → appendStep z k s i ≡ ok e → step z k s i ≡ ok e
 unfolding appendStep
 step-of-append z k s i e h = bind-ok (require (not (eqb (getD i 0 0) 0)) 8) _ e h .2
 
 example-laws : Laws example
 example-laws =
     record {
-      head-within = λ bs z n e. head-two bs [] z n e .0;
-      head-own = λ bs cs z n e. head-two bs cs z n e .1;
-      zone-tested = λ bs z n e. refl;
+      head-within = λ bs h e. head-two bs [] (h .zone) (h .length) e .0;
+      head-own = λ bs cs h e. head-two bs cs (h .zone) (h .length) e .1;
+      start-tested = λ bs h s e f. refl;
+      step-tested = λ z k s i e t h. refl;
       append-step = step-of-append;
       length-within = λ z bs n e. length-in bs n e;
       length-whole = λ z k s i e h rest.
           let l = entry-is z k s i e h .0 in
-          rw (le-leb 3 (length (e .0 ++ rest)) (omega (arith, l, length-append (e .0) rest))) (ap some (sym l));
+          rw (le-leb 3 (length (e .bytes ++ rest)) (omega (arith, l, length-append (e .bytes) rest))) (ap some (sym l));
       length-short = λ z k s i e h m lt.
           let l = entry-is z k s i e h .0 in
-          rw (lt-leb 3 (length (take m (e .0))) (omega (arith, l, length-take m (e .0))));
+          rw (lt-leb 3 (length (take m (e .bytes))) (omega (arith, l, length-take m (e .bytes))));
       item-back = λ z k s i e h. entry-is z k s i e h .1;
     }
-
-example-claims : Claims example
-example-claims = claims example example-laws
 
 -- ---- a list of calls
 
@@ -219,5 +219,5 @@ unfolding run make begin beginRes append appendRes takeUp takeUpRes checkEntries
 calls-run = refl
 
 calls-plain : plainRun example empty calls ≡ events
-unfolding plainRun plainMake plainEvent view contents entries beginPlain appendPlain itemsEndingBy cutPlain takeUpPlain testEntries firstBad falseAt stepAt itemsBefore numberOfEntries entryAt restAt firstFrom headOf step appendStep calls events
+unfolding plainRun plainMake plainEvent view contentsOf entriesOf beginPlain appendPlain itemsEndingBy cutPlain takeUpPlain testEntries firstInvalid falseAt stepAt itemsBefore numberOfEntries entryAt restAt firstFrom headOf step appendStep calls events
 calls-plain = refl

@@ -1,172 +1,160 @@
--- Every list of calls that may be made has a session, and no other list has one: demand 3 at the functions' types speaks of something.
+-- Demand 3: a session's events are the plain book's, and every list of calls that may be made has a session.
 use mathlib.Core.Path.{_≡_, refl, sym, ap, _∙_, subst}
-use mathlib.Core.List.{List, [], _∷_, _++_, map}
-use mathlib.Core.Option.{Option, none, some}
-use Prim.Native.Nat.{ℕ, _≤_}
+use mathlib.Core.Bool.{Bool, true, false, _&&_, cond}
+use mathlib.Core.List.{List, [], _∷_, _++_}
+use mathlib.Core.Option.{none, some}
+use Prim.Native.Nat.{ℕ}
 use lib.ListN.{take}
 use lib.Dec.{leb}
-use borrow.Author.Tests.{leb-true}
+use borrow.Author.Tests.{leb-true, le-leb}
 use Rattle.zone.specs.Promise.{Result, ok, refused}
-use mathlib.Core.Bool.{Bool, true, false, _&&_, cond}
+use Rattle.zone.specs.Format.Head.{ReadHead}
 use Rattle.zone.proofs.Promise.{and-true}
-use Rattle.book.specs.Model.Layers.{Layers, Laws}
+use Rattle.book.specs.Model.Interface.{Interface}
 use Rattle.book.specs.Model.Calls as Book
-use Rattle.book.specs.Model.Plain.{empty, View}
-use Rattle.book.specs.Model.Run.{Call, callBegin, callAppend, callTakeUp, callCut, Calls, Event, Held, make, makeAppend, makeCut, notMade, run, replaced, afterBegin, afterAppend, afterTakeUp, plainRun}
-use Rattle.book.specs.Model.Session.{CodeTypes, AnswerOfCall, ofBegin, ofAppend, ofTakeUp, CodeLaws, Meets, HeldBook, Returned, Session, ends, begins, appends, takesUp, cuts, replacedBy, replacing, continuing, replyOut, heldOut, returnedOf}
-use Rattle.book.specs.Model.Claims.{AllMade, SessionExists, SessionExactly}
+use Rattle.book.specs.Model.Plain.{Plain, empty, book, View, view, WellFormed}
+use Rattle.book.proofs.Model.Formed.{wellFormed}
+use Rattle.book.specs.Model.Run.{Call, callBegin, callAppend, callTakeUp, callCut, Calls, Event, plainMake, plainEvent, plainRun}
+use Rattle.book.specs.Model.Session.{CodeTypes, Meets, HeldBook, afterBegin, afterTakeUp, afterAppend, returned, Made, begins, takesUp, appends, cuts, Session, ends, calls}
+use Rattle.book.specs.Model.Claims.{Demand3, AllMade, SessionFrom}
+use Rattle.book.proofs.Model.InterfaceLaws.{Laws}
+use Rattle.book.proofs.Model.CodeLaws.{AnswerOfCall, ofBegin, ofAppend, ofTakeUp, CodeLaws}
+use Rattle.book.proofs.Model.Caller.{notMade, makeAppend, makeCut, make}
 use Rattle.book.proofs.Model.Laws.Bytes.{none-not-some}
-use Rattle.book.proofs.Model.Whole.{whole}
-use Rattle.book.proofs.Model.Demand3.{replaces, demand-3}
+use Rattle.book.proofs.Model.Whole.{agrees}
 
-module _ (L : Layers) (T : CodeTypes L) (C : CodeLaws L T) where
-  -- all values are those of some at the functions' types, so what holds of these holds of all
-  of-given : (P : Book.Values (L .State) → Type 0) → ((w : T .Values) → P (T .givenOf w)) → (g : Book.Values (L .State)) → P g
-  of-given P f g = subst P (C .given-back g) (f (T .valuesIn g))
+module _ (L : Interface) (T : CodeTypes L) (C : CodeLaws L T) where
+  -- a reply that is an answer's stands for that answer
+  stands : (r : T .Reply) (a : Book.Answer (L .State)) → AnswerOfCall L a → r ≡ T .replyIn a → T .answerOf r ≡ a
+  stands r a p e = ap (T .answerOf) e ∙ C .answer-back a p
 
-  -- the book held after the reply for an answer
-  replacing-answer : (H : Held L) (bytes : List ℕ) (a : Book.Answer (L .State)) → AnswerOfCall L a
-      → replacing L T (heldOut L T H) bytes (T .replyIn a) ≡ heldOut L T (replaced L H bytes a)
-  replacing-answer H bytes a p = ap (replacedBy L T (heldOut L T H) bytes) (C .answer-back a p) ∙ replaces L T C H bytes a
+  returned-is : (r : T .Reply) (out : List ℕ) (d : Book.Outcome (L .State)) → AnswerOfCall L (d .answer) → Meets L T r out d → returned L T r out ≡ d
+  returned-is r out d p m = λ t. record { answer = stands r (d .answer) p (m .reply) t; buffer = m .bytes t }
 
-  continuing-answer : (out : List ℕ) (a : Book.Answer (L .State)) → AnswerOfCall L a
-      → some (continuing L T out (T .replyIn a))
-      ≡ heldOut L T (some (record { bytes = take (Book.handedBack a .used) out; values = Book.handedBack a }))
-  continuing-answer out a p =
-      ap (λ x. some (record { bytes = take (Book.handedBack x .used) out; values = T .valuesIn (Book.handedBack x) })) (C .answer-back a p)
+  -- ---- a call that was made has the event of the definitions
 
-  -- from every book held, calls that may be made have a session
-  abbrev Sessions : Calls L → Type 0
-  Sessions cs = (K : Held L) → AllMade L (run L K cs) → Session L T (heldOut L T K) cs (map (returnedOf L T) (run L K cs))
+  made-is : {h : HeldBook L} {c : Call (L .State) (L .Item)} {e : Event (L .State)} → Made L T h c e → e ≡ make L h c
+  unfolding make
+  made-is (begins h head buf g r out m) = ap (afterBegin L h) (returned-is r out (Book.begin L head (T .givenOf g) buf) (ofBegin head (T .givenOf g) buf) m)
+  made-is (takesUp h bytes g r m) = ap (afterTakeUp L h bytes) (stands r (Book.takeUp L (T .givenOf g) bytes) (ofTakeUp (T .givenOf g) bytes) m)
+  made-is (appends v h i spare g r out hd same m) =
+      rw hd
+      (ap (afterAppend L)
+      (returned-is r out (Book.append L (h .zone) (T .givenOf g) i (v .bytes ++ spare)) (ofAppend (h .zone) (T .givenOf g) i (v .bytes ++ spare)) m
+      ∙ ap (λ x. Book.append L (h .zone) x i (v .bytes ++ spare)) same))
+  made-is (cuts v h at g r hd lo hi same m) =
+      rw (hd, le-leb (h .length) at lo, le-leb at (v .values .used) hi)
+      (ap (afterTakeUp L (some v) (take at (v .bytes)))
+      (stands r (Book.takeUp L (T .givenOf g) (take at (v .bytes))) (ofTakeUp (T .givenOf g) (take at (v .bytes))) m
+      ∙ ap (λ x. Book.takeUp L x (take at (v .bytes))) same))
 
-  module _ (cs : Calls L) (rec : Sessions cs) where
-    abbrev returns : Held L → List (Returned L T)
-    returns K = map (returnedOf L T) (run L K cs)
+  has-answer : {h : HeldBook L} {c : Call (L .State) (L .Item)} {e : Event (L .State)} → Made L T h c e → (a : Book.Answer (L .State)) × (e .answer ≡ some a)
+  has-answer (begins h head buf g r out m) = (T .answerOf r, refl)
+  has-answer (takesUp h bytes g r m) = (T .answerOf r, refl)
+  has-answer (appends v h i spare g r out hd same m) = (T .answerOf r, refl)
+  has-answer (cuts v h at g r hd lo hi same m) = (T .answerOf r, refl)
 
-    -- a call with its event, before such calls
-    abbrev OneCall : Held L → Call (L .State) (L .Item) → Event (L .State) → Type 0
-    OneCall H c e =
-        AllMade L (e ∷ run L (e .held) cs) → Session L T (heldOut L T H) (c ∷ cs) (returnedOf L T e ∷ returns (e .held))
+  -- ---- a call that has an answer may be made
 
-    -- the book held after the call, at the functions' types, and the session of the calls behind it from there
-    before : (H K : Held L) (c : Call (L .State) (L .Item)) (r : T .Reply) (out : Option (List ℕ)) (h : Option (HeldBook L T)) → h ≡ heldOut L T K
-        → AllMade L (run L K cs)
-        → (Session L T h cs (returns K) → Session L T (heldOut L T H) (c ∷ cs) (record { reply = some r; buffer = out; held = h } ∷ returns K))
-        → Session L T (heldOut L T H) (c ∷ cs) (record { reply = some r; buffer = out; held = heldOut L T K } ∷ returns K)
-    before H K c r out h k m f =
-        subst (λ x. Session L T (heldOut L T H) (c ∷ cs) (record { reply = some r; buffer = out; held = x } ∷ returns K)) k
-        (f (subst (λ x. Session L T x cs (returns K)) (sym k) (rec K m)))
+  abbrev MayBe : HeldBook L → Call (L .State) (L .Item) → Event (L .State) → Type 0
+  MayBe h c e = (a : Book.Answer (L .State)) × (e .answer ≡ some a) → Made L T h c e
 
-    -- a call that may not be made has no answer
-    none-made : (H K : Held L) (c : Call (L .State) (L .Item)) → OneCall H c (notMade L K)
-    none-made H K c m = none-not-some (m .0 .0) (m .0 .1)
+  not-made : (h : HeldBook L) (c : Call (L .State) (L .Item)) → MayBe h c (notMade L h)
+  not-made h c x = none-not-some (x .0) (x .1)
 
-    one-begin : (H : Held L) (head buf : List ℕ) (w : T .Values)
-        → OneCall H (callBegin head (T .givenOf w) buf) (afterBegin L H (Book.begin L head (T .givenOf w) buf))
-    one-begin H head buf w m =
-        let d : Book.Outcome (L .State) = Book.begin L head (T .givenOf w) buf in
-        let r : T .Reply = T .replyIn (d .answer) in
-        before H (replaced L H (d .buffer) (d .answer)) (callBegin head (T .givenOf w) buf) r (some (d .buffer)) _
-        (replacing-answer H (d .buffer) (d .answer) (ofBegin head (T .givenOf w) buf)) (m .1)
-        (begins (heldOut L T H) cs _ head buf w r (d .buffer) (record { reply = refl; bytes = refl }))
+  -- the reply for an answer
+  meets : (d : Book.Outcome (L .State)) → Meets L T (T .replyIn (d .answer)) (d .buffer) d
+  meets d = record { reply = refl; bytes = refl }
 
-    one-take-up : (H : Held L) (bytes : List ℕ) (w : T .Values)
-        → OneCall H (callTakeUp (T .givenOf w) bytes) (afterTakeUp L H bytes (Book.takeUp L (T .givenOf w) bytes))
-    one-take-up H bytes w m =
-        let a : Book.Answer (L .State) = Book.takeUp L (T .givenOf w) bytes in
-        before H (replaced L H bytes a) (callTakeUp (T .givenOf w) bytes) (T .replyIn a) none _
-        (replacing-answer H bytes a (ofTakeUp (T .givenOf w) bytes)) (m .1)
-        (takesUp (heldOut L T H) cs _ bytes w (T .replyIn a) refl)
+  begin-made : (h : HeldBook L) (head : List ℕ) (g : Book.Values (L .State)) (buf : List ℕ)
+      → Made L T h (callBegin head g buf) (afterBegin L h (Book.begin L head g buf))
+  begin-made h head g buf =
+      let w = C .given-back g in
+      let d : Book.Outcome (L .State) = Book.begin L head (T .givenOf (w .0)) buf in
+      subst (λ x. Made L T h (callBegin head x buf) (afterBegin L h (Book.begin L head x buf))) (w .1)
+      (subst (λ x. Made L T h (callBegin head (T .givenOf (w .0)) buf) (afterBegin L h x))
+      (returned-is _ _ d (ofBegin head (T .givenOf (w .0)) buf) (meets d)) (begins h head buf (w .0) _ _ (meets d)))
 
-    -- calls on a book, which are given its values at the functions' types
-    module _ (v : View (L .State)) where
-      abbrev held : HeldBook L T
-      held = record { bytes = v .bytes; values = T .valuesIn (v .values) }
+  take-up-made : (h : HeldBook L) (g : Book.Values (L .State)) (bytes : List ℕ)
+      → Made L T h (callTakeUp g bytes) (afterTakeUp L h bytes (Book.takeUp L g bytes))
+  take-up-made h g bytes =
+      let w = C .given-back g in
+      subst (λ x. Made L T h (callTakeUp x bytes) (afterTakeUp L h bytes (Book.takeUp L x bytes))) (w .1)
+      (subst (λ x. Made L T h (callTakeUp (T .givenOf (w .0)) bytes) (afterTakeUp L h bytes x))
+      (C .answer-back _ (ofTakeUp (T .givenOf (w .0)) bytes)) (takesUp h bytes (w .0) _ refl))
 
-      back : v .values ≡ T .givenOf (held .values)
-      back = sym (C .given-back (v .values))
+  append-made : (v : View (L .State)) (i : L .Item) (spare : List ℕ) (x : Result (ReadHead (L .Zone))) → L .headOf (v .bytes) ≡ x
+      → MayBe (some v) (callAppend i spare) (makeAppend L v i spare x)
+  append-made v i spare (refused c j) e = not-made (some v) (callAppend i spare)
+  append-made v i spare (ok h) e =
+      λ _.
+      let w = C .given-back (v .values) in
+      let d : Book.Outcome (L .State) = Book.append L (h .zone) (T .givenOf (w .0)) i (v .bytes ++ spare) in
+      subst (λ x. Made L T (some v) (callAppend i spare) (afterAppend L x))
+      (returned-is _ _ d (ofAppend (h .zone) (T .givenOf (w .0)) i (v .bytes ++ spare)) (meets d) ∙ ap (λ x. Book.append L (h .zone) x i (v .bytes ++ spare)) (w .1))
+      (appends v h i spare (w .0) _ _ e (w .1) (meets d))
 
-      one-append : (i : L .Item) (spare : List ℕ) (x : Result (L .Zone × ℕ)) → L .headOf (v .bytes) ≡ x
-          → OneCall (some v) (callAppend i spare) (makeAppend L v i spare x)
-      one-append i spare (refused c j) e = none-made (some v) (some v) (callAppend i spare)
-      one-append i spare (ok h) e =
-          λ m.
-          let d : Book.Outcome (L .State) = Book.append L (h .0) (v .values) i (v .bytes ++ spare) in
-          let r : T .Reply = T .replyIn (d .answer) in
-          before (some v) (afterAppend L d .held) (callAppend i spare) r (some (d .buffer)) _
-          (continuing-answer (d .buffer) (d .answer) (ofAppend (h .0) (v .values) i (v .bytes ++ spare))) (m .1)
-          (appends held cs _ (h .0) (h .1) i spare r (d .buffer) e
-          (subst (λ y. Meets L T r (d .buffer) (Book.append L (h .0) y i (v .bytes ++ spare))) back (record { reply = refl; bytes = refl })))
+  module _ (v : View (L .State)) (at : ℕ) where
+    abbrev bytes : List ℕ
+    bytes = take at (v .bytes)
 
-      module _ (at : ℕ) where
-        abbrev answer : Book.Answer (L .State)
-        answer = Book.takeUp L (v .values) (take at (v .bytes))
+    cut-made : (h : ReadHead (L .Zone)) → L .headOf (v .bytes) ≡ ok h → (b : Bool) → (leb (h .length) at && leb at (v .values .used)) ≡ b
+        → MayBe (some v) (callCut at) (cond b (afterTakeUp L (some v) bytes (Book.takeUp L (v .values) bytes)) (notMade L (some v)))
+    cut-made h e false t = not-made (some v) (callCut at)
+    cut-made h e true t =
+        λ _.
+        let both = and-true (leb (h .length) at) (leb at (v .values .used)) t in
+        let w = C .given-back (v .values) in
+        subst (λ x. Made L T (some v) (callCut at) (afterTakeUp L (some v) bytes x))
+        (C .answer-back _ (ofTakeUp (T .givenOf (w .0)) bytes) ∙ ap (λ x. Book.takeUp L x bytes) (w .1))
+        (cuts v h at (w .0) _ e (leb-true _ _ (both .0)) (leb-true _ _ (both .1)) (w .1) refl)
 
-        -- in its range, or not made
-        in-range : (h : L .Zone × ℕ) → L .headOf (v .bytes) ≡ ok h → (b : Bool) → (leb (h .1) at && leb at (v .values .used)) ≡ b
-            → OneCall (some v) (callCut at) (cond b (afterTakeUp L (some v) (take at (v .bytes)) answer) (notMade L (some v)))
-        in-range h e false t = none-made (some v) (some v) (callCut at)
-        in-range h e true t =
-            λ m.
-            let both = and-true (leb (h .1) at) (leb at (v .values .used)) t in
-            before (some v) (replaced L (some v) (take at (v .bytes)) answer) (callCut at) (T .replyIn answer) none _
-            (replacing-answer (some v) (take at (v .bytes)) answer (ofTakeUp (v .values) (take at (v .bytes)))) (m .1)
-            (cuts held cs _ (h .0) (h .1) at (T .replyIn answer) e (leb-true _ _ (both .0)) (subst (λ y. at ≤ y .used) back (leb-true _ _ (both .1)))
-            (ap (λ y. T .replyIn (Book.takeUp L y (take at (v .bytes)))) back))
+    cut-may : (x : Result (ReadHead (L .Zone))) → L .headOf (v .bytes) ≡ x → MayBe (some v) (callCut at) (makeCut L v at x)
+    cut-may (refused c j) e = not-made (some v) (callCut at)
+    cut-may (ok h) e = cut-made h e (leb (h .length) at && leb at (v .values .used)) refl
 
-        one-cut : (x : Result (L .Zone × ℕ)) → L .headOf (v .bytes) ≡ x → OneCall (some v) (callCut at) (makeCut L v at x)
-        one-cut (refused c j) e = none-made (some v) (some v) (callCut at)
-        one-cut (ok h) e = in-range h e (leb (h .1) at && leb at (v .values .used)) refl
+  may-be : (h : HeldBook L) (c : Call (L .State) (L .Item)) → MayBe h c (make L h c)
+  unfolding make
+  may-be h (callBegin head g buf) = λ _. begin-made h head g buf
+  may-be h (callTakeUp g bytes) = λ _. take-up-made h g bytes
+  may-be none (callAppend i spare) = not-made none (callAppend i spare)
+  may-be (some v) (callAppend i spare) = append-made v i spare (L .headOf (v .bytes)) refl
+  may-be none (callCut at) = not-made none (callCut at)
+  may-be (some v) (callCut at) = cut-may v at (L .headOf (v .bytes)) refl
 
-    one-call : (H : Held L) (c : Call (L .State) (L .Item)) → OneCall H c (make L H c)
-    unfolding make
-    one-call H (callBegin head g buf) = of-given (λ x. OneCall H (callBegin head x buf) (make L H (callBegin head x buf))) (one-begin H head buf) g
-    one-call H (callTakeUp g bytes) = of-given (λ x. OneCall H (callTakeUp x bytes) (make L H (callTakeUp x bytes))) (one-take-up H bytes) g
-    one-call none (callAppend i spare) = none-made none none (callAppend i spare)
-    one-call (some v) (callAppend i spare) = one-append v i spare (L .headOf (v .bytes)) refl
-    one-call none (callCut at) = none-made none none (callCut at)
-    one-call (some v) (callCut at) = one-cut v at (L .headOf (v .bytes)) refl
+  -- ---- the whole list
 
-  sessions : (cs : Calls L) → Sessions cs
-  unfolding run
-  sessions [] H m = ends (heldOut L T H)
-  sessions (c ∷ cs) H m = one-call cs (sessions cs) H c m
+  module _ (W : Laws L) where
+    only : {h : HeldBook L} {cs : Calls L} {es : List (Event (L .State))} → Session L T h cs es → (p : Plain (L .Item)) → wellFormed L p → h ≡ view L p
+        → AllMade L (plainRun L p cs) × (es ≡ plainRun L p cs)
+    unfolding plainRun plainEvent
+    only (ends h) p pp q = (tt, refl)
+    only (calls h c e cs es m rest) p pp q =
+        let a = agrees L W p pp c in
+        let is : e ≡ plainEvent L (plainMake L p c) = made-is m ∙ ap (λ x. make L x c) q ∙ a .0 in
+        let r = only rest (plainMake L p c .next) (a .1) (ap (λ x. x .held) is) in
+        let x = has-answer m in
+        (((x .0, sym (ap (λ y. y .answer) is) ∙ x .1), r .0), (λ t. is t ∷ r .1 t))
 
--- ---- the calls of a session were all made: each has a reply
+    exists : (p : Plain (L .Item)) → wellFormed L p → (cs : Calls L) → AllMade L (plainRun L p cs) → Session L T (view L p) cs (plainRun L p cs)
+    unfolding plainRun plainEvent
+    exists p pp [] m = ends (view L p)
+    exists p pp (c ∷ cs) m =
+        let a = agrees L W p pp c in
+        calls (view L p) c (plainEvent L (plainMake L p c)) cs _
+        (subst (Made L T (view L p) c) (a .0) (may-be (view L p) c (m .0 .0, ap (λ x. x .answer) (a .0) ∙ m .0 .1)))
+        (exists (plainMake L p c .next) (a .1) cs (m .1))
 
-module _ (L : Layers) (T : CodeTypes L) where
-  abbrev AllReplied : List (Returned L T) → Type 0
-  AllReplied [] = Unit {0}
-  AllReplied (x ∷ xs) = ((r : T .Reply) × (x .reply ≡ some r)) × AllReplied xs
+    session-of : (p : Plain (L .Item)) → wellFormed L p → SessionFrom L T p
+    session-of p pp cs es =
+        (λ s. only s p pp refl, λ x. subst (Session L T (view L p) cs) (sym (x .1)) (exists p pp cs (x .0)))
 
-  replied : {h : Option (HeldBook L T)} {cs : Calls L} {rs : List (Returned L T)} → Session L T h cs rs → AllReplied rs
-  replied (ends h) = tt
-  replied (begins h cs rs head buf g r out m rest) = ((r, refl), replied rest)
-  replied (appends b cs rs z n i spare r out hd m rest) = ((r, refl), replied rest)
-  replied (takesUp h cs rs bytes g r m rest) = ((r, refl), replied rest)
-  replied (cuts b cs rs z n at r hd lo hi m rest) = ((r, refl), replied rest)
+    pub session-exactly : SessionFrom L T empty
+    session-exactly = session-of empty tt
 
-  made : (es : List (Event (L .State))) → AllReplied (map (returnedOf L T) es) → AllMade L es
-  made [] x = tt
-  made (e ∷ es) x = (go (e .answer) (x .0), made es (x .1))
-    where
-      go : (o : Option (Book.Answer (L .State))) → ((r : T .Reply) × (replyOut L T o ≡ some r)) → (a : Book.Answer (L .State)) × (o ≡ some a)
-      go none y = none-not-some (y .0) (y .1)
-      go (some a) y = (a, refl)
+    pub session-from : (head : List ℕ) (is : List (L .Item)) → WellFormed L head is → SessionFrom L T (book head is)
+    session-from head is S = session-of (book head is) S
 
-pub session-exists : (L : Layers) (T : CodeTypes L) → CodeLaws L T → SessionExists L T
-session-exists L T C cs m = sessions L T C cs none m
-
-pub session-exactly : (L : Layers) → Laws L → (T : CodeTypes L) → CodeLaws L T → SessionExactly L T
-session-exactly L W T C cs rs = (only, exists)
-  where
-    es : List (Event (L .State))
-    es = plainRun L empty cs
-
-    only : Session L T none cs rs → AllMade L es × (rs ≡ map (returnedOf L T) es)
-    only s = let e = demand-3 L W T C cs rs s in (made L T es (subst (AllReplied L T) e (replied L T s)), e)
-
-    exists : AllMade L es × (rs ≡ map (returnedOf L T) es) → Session L T none cs rs
-    exists x =
-        let w = whole L W cs in
-        subst (Session L T none cs) (ap (map (returnedOf L T)) w ∙ sym (x .1)) (session-exists L T C cs (subst (AllMade L) (sym w) (x .0)))
+    pub demand-3 : Demand3 L T
+    unfolding view
+    demand-3 cs es s = session-exactly cs es .0 s .1

@@ -1,14 +1,17 @@
--- Every list of calls, starting with no book, has the plain book's run.
-use mathlib.Core.Path.{_≡_, refl, ap, _∙_}
+-- Every call on what is seen of a well-formed plain book has the event that the plain book has for it, and leaves a well-formed one.
+use mathlib.Core.Path.{refl, subst}
 use mathlib.Core.List.{[], _∷_}
-use mathlib.Core.Option.{none}
-use Rattle.book.specs.Model.Layers.{Layers, Laws}
-use Rattle.book.specs.Model.Plain.{Plain, empty, book, view, wellFormed}
-use Rattle.book.specs.Model.Run.{Call, callBegin, callAppend, callTakeUp, callCut, Calls, make, run, heldAfter, plainMake, plainEvent, plainRun, plainAfter}
+use Rattle.book.specs.Model.Interface.{Interface}
+use Rattle.book.proofs.Model.InterfaceLaws.{Laws}
+use Rattle.book.specs.Model.Plain.{Plain, empty, book, view}
+use Rattle.book.proofs.Model.Formed.{wellFormed}
+use Rattle.book.specs.Model.Run.{Call, callBegin, callAppend, callTakeUp, callCut, Calls, plainMake, plainEvent, plainAfter}
+use Rattle.book.proofs.Model.Caller.{make}
+use Rattle.book.specs.Model.Claims.{WellFormedAfter}
 use Rattle.book.proofs.Model.Agreement.{begin-agrees, takeUp-agrees}
 use Rattle.book.proofs.Model.AppendCut.{Agrees, append-agrees, cut-agrees}
 
-module _ (L : Layers) (W : Laws L) where
+module _ (L : Interface) (W : Laws L) where
   pub agrees : (p : Plain (L .Item)) → wellFormed L p → (c : Call (L .State) (L .Item)) → Agrees L W p c
   unfolding make plainMake plainEvent view
   agrees p pp (callBegin head g buf) = begin-agrees L W p pp g head buf
@@ -18,30 +21,11 @@ module _ (L : Layers) (W : Laws L) where
   agrees empty pp (callCut at) = (refl, pp)
   agrees (book head is) S (callCut at) = cut-agrees L W head is S at
 
-  pub run-agrees : (p : Plain (L .Item)) → wellFormed L p → (cs : Calls L) → run L (view L p) cs ≡ plainRun L p cs
-  unfolding run plainRun plainEvent
-  run-agrees p pp [] = refl
-  run-agrees p pp (c ∷ cs) =
-      let a = agrees p pp c in
-      ap (λ x. x ∷ run L (x .held) cs) (a .0) ∙ ap (λ x. plainEvent L (plainMake L p c) ∷ x) (run-agrees (plainMake L p c .next) (a .1) cs)
-
-  pub whole : (cs : Calls L) → run L none cs ≡ plainRun L empty cs
-  unfolding view
-  whole cs = run-agrees empty tt cs
-
-  -- the plain book after a list of calls is well-formed, and what is seen of it is what the caller holds
+  -- the plain book after a list of calls is well-formed
   pub after-formed : (p : Plain (L .Item)) → wellFormed L p → (cs : Calls L) → wellFormed L (plainAfter L p cs)
   unfolding plainAfter
   after-formed p pp [] = pp
   after-formed p pp (c ∷ cs) = after-formed (plainMake L p c .next) (agrees p pp c .1) cs
 
-  pub held-is : (p : Plain (L .Item)) → wellFormed L p → (cs : Calls L) → heldAfter L (view L p) cs ≡ view L (plainAfter L p cs)
-  unfolding heldAfter plainAfter plainEvent
-  held-is p pp [] = refl
-  held-is p pp (c ∷ cs) =
-      let a = agrees p pp c in
-      ap (λ x. heldAfter L (x .held) cs) (a .0) ∙ held-is (plainMake L p c .next) (a .1) cs
-
-  pub held : (cs : Calls L) → heldAfter L none cs ≡ view L (plainAfter L empty cs)
-  unfolding view
-  held cs = held-is empty tt cs
+  pub well-formed-after : WellFormedAfter L
+  well-formed-after cs head is e = subst (wellFormed L) e (after-formed empty tt cs)

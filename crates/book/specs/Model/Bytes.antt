@@ -5,15 +5,17 @@ use mathlib.Core.Option.{Option, none, some}
 use Prim.Native.Nat.{ℕ, zero, suc, _+_}
 use lib.Dec.{eqb}
 
-module _ {A : Type 0} where
-  abbrev pub concat : List (List A) → List A
-  concat [] = []
-  concat (x ∷ xs) = x ++ concat xs
+abbrev pub concat : {A : Type 0} → List (List A) → List A
+concat [] = []
+concat (x ∷ xs) = x ++ concat xs
 
 -- f of what is there, or else b
 abbrev pub fromOption : {A B : Type 0} → (b : B) → (f : A → B) → Option A → B
 fromOption b f none = b
 fromOption b f (some a) = f a
+
+abbrev pub mapOption : {A B : Type 0} → (A → B) → Option A → Option B
+mapOption f o = fromOption none (λ a. some (f a)) o
 
 -- do two byte strings agree in length and in every byte
 abbrev pub equalBytes : List ℕ → List ℕ → Bool

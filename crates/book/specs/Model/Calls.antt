@@ -5,8 +5,9 @@ use Prim.Native.Nat.{ℕ, zero, suc, _+_}
 use lib.ListN.{length, take, drop}
 use lib.Dec.{leb, ltb}
 use Rattle.zone.specs.Promise.{Result, ok, refused, bind, require}
+use Rattle.book.specs.Numbers.{bufferShort, bookFull, falseEntry}
 use Rattle.book.specs.Model.Bytes.{fromOption, equalBytes}
-use Rattle.book.specs.Model.Layers.{Layers}
+use Rattle.book.specs.Model.Interface.{Interface, Written}
 
 -- what a call is given and hands back: "the temperatures, count and used length"
 pub record Values (State : Type 0) : Type 0 where
@@ -30,23 +31,23 @@ pub record Outcome (State : Type 0) : Type 0 where
 
 module _ {State : Type 0} where
   -- "A refusal gives its number, plus an index .., and hands back unchanged the temperatures, count and used length that it was given"
-  abbrev pub answerOf : (given : Values State) → Result (Values State) → Answer State
-  answerOf g (ok v) = accepted v
-  answerOf g (refused c j) = refusedWith c j g
+  abbrev pub answerFrom : (given : Values State) → Result (Values State) → Answer State
+  answerFrom g (ok v) = accepted v
+  answerFrom g (refused c j) = refusedWith c j g
 
   -- and it changes no byte of the buffer
   abbrev pub outcomeOf : (given : Values State) → (buf : List ℕ) → Result (Values State × List ℕ) → Outcome State
   outcomeOf g buf (ok r) = record { answer = accepted (r .0); buffer = r .1 }
   outcomeOf g buf (refused c j) = record { answer = refusedWith c j g; buffer = buf }
 
-module _ (L : Layers) where
+module _ (L : Interface) where
   -- "Begin book: head, start-up, then buffer too short, 16."
   unfoldable pub beginRes : (head buf : List ℕ) → Result (Values (L .State) × List ℕ)
   beginRes head buf =
       bind (L .headOf head) λ h.
-      bind (L .startUp (h .0)) λ s.
-      bind (require (leb (h .1) (length buf)) 16) λ _.
-      ok (record { state = s; count = 0; used = h .1 }, take (h .1) head ++ drop (h .1) buf)
+      bind (L .startUp (h .zone)) λ s.
+      bind (require (leb (h .length) (length buf)) bufferShort) λ _.
+      ok (record { state = s; count = 0; used = h .length }, take (h .length) head ++ drop (h .length) buf)
 
   unfoldable pub begin : (head : List ℕ) → (given : Values (L .State)) → (buf : List ℕ) → Outcome (L .State)
   begin head g buf = outcomeOf g buf (beginRes head buf)
@@ -54,13 +55,13 @@ module _ (L : Layers) where
   -- "Append: 8,784 entries held, 17; the hour step's; buffer, 16." The zone is tested first.
   unfoldable pub appendRes : L .Zone → (given : Values (L .State)) → L .Item → (buf : List ℕ) → Result (Values (L .State) × List ℕ)
   appendRes z g i buf =
-      bind (L .zoneTest z) λ _.
-      bind (require (ltb (g .count) (L .limit)) 17) λ _.
+      bind (L .givenTest z (g .state)) λ _.
+      bind (require (ltb (g .count) (L .limit)) bookFull) λ _.
       bind (L .appendStep z (g .count) (g .state) i) λ e.
-      bind (require (leb (g .used + length (e .0)) (length buf)) 16) λ _.
+      bind (require (leb (g .used + length (e .bytes)) (length buf)) bufferShort) λ _.
       ok (
-        record { state = e .1; count = g .count + 1; used = g .used + length (e .0) },
-        take (g .used) buf ++ e .0 ++ drop (g .used + length (e .0)) buf,
+        record { state = e .after; count = g .count + 1; used = g .used + length (e .bytes) },
+        take (g .used) buf ++ e .bytes ++ drop (g .used + length (e .bytes)) buf,
       )
 
   unfoldable pub append : L .Zone → (given : Values (L .State)) → L .Item → (buf : List ℕ) → Outcome (L .State)
@@ -76,15 +77,15 @@ module _ (L : Layers) where
   wholeEntries z bs = wholeEntriesUpTo z (length bs) bs
 
   -- the whole entry c with index k against what the hour step gives for its item: the state after it, or 18
-  abbrev pub checkEntry : (k : ℕ) → (c : List ℕ) → Result (List ℕ × L .State) → Result (L .State)
-  checkEntry k c (ok e) = cond (equalBytes (e .0) c) (ok (e .1)) (refused 18 k)
-  checkEntry k c (refused n j) = refused 18 k
+  abbrev pub checkEntry : (k : ℕ) → (c : List ℕ) → Result (Written (L .State)) → Result (L .State)
+  checkEntry k c (ok e) = cond (equalBytes (e .bytes) c) (ok (e .after)) (refused falseEntry k)
+  checkEntry k c (refused n j) = refused falseEntry k
 
   -- "per whole entry, a 8,785th 17, a false one 18": from index k, state s and used length u on
   unfoldable pub checkEntries : L .Zone → (k : ℕ) → L .State → (u : ℕ) → List (List ℕ) → Result (Values (L .State))
   checkEntries z k s u [] = ok (record { state = s; count = k; used = u })
   checkEntries z k s u (c ∷ cs) =
-      bind (require (ltb k (L .limit)) 17) λ _.
+      bind (require (ltb k (L .limit)) bookFull) λ _.
       bind (checkEntry k c (L .step z k s (L .itemOf z c))) λ t.
       checkEntries z (k + 1) t (u + length c) cs
 
@@ -92,9 +93,9 @@ module _ (L : Layers) where
   unfoldable pub takeUpRes : List ℕ → Result (Values (L .State))
   takeUpRes bytes =
       bind (L .headOf bytes) λ h.
-      bind (L .startUp (h .0)) λ s.
-      checkEntries (h .0) 0 s (h .1) (wholeEntries (h .0) (drop (h .1) bytes))
+      bind (L .startUp (h .zone)) λ s.
+      checkEntries (h .zone) 0 s (h .length) (wholeEntries (h .zone) (drop (h .length) bytes))
 
   -- take-up borrows its bytes as `&[u8]`: it can change none
   unfoldable pub takeUp : (given : Values (L .State)) → (bytes : List ℕ) → Answer (L .State)
-  takeUp g bytes = answerOf g (takeUpRes bytes)
+  takeUp g bytes = answerFrom g (takeUpRes bytes)

@@ -5,11 +5,12 @@ use Prim.Native.Nat.{ℕ, zero, suc}
 use lib.ListN.{length, take, drop}
 use lib.Dec.{eqb}
 use Rattle.zone.specs.Promise.{Result, ok, refused, bind}
+use Rattle.book.specs.Numbers.{bookFull, falseEntry}
 use Rattle.book.specs.Model.Bytes.{fromOption, equalBytes, firstBelow}
-use Rattle.book.specs.Model.Layers.{Layers}
-use Rattle.book.specs.Model.Plain.{Plain, book, entries, lastState}
+use Rattle.book.specs.Model.Interface.{Interface, Written}
+use Rattle.book.specs.Model.Plain.{Plain, book, entriesOf, lastState}
 
-module _ (L : Layers) (z : L .Zone) where
+module _ (L : Interface) (z : L .Zone) where
   -- the length of the whole entry with which a rest begins; 0 where it begins with none
   abbrev pub firstEntryLength : (rest : List ℕ) → ℕ
   firstEntryLength rest = fromOption 0 (λ n. n) (L .entryLength z rest)
@@ -33,13 +34,13 @@ module _ (L : Layers) (z : L .Zone) where
   itemsBefore bs (suc k) = itemsBefore bs k ++ (L .itemOf z (entryAt bs k) ∷ [])
 
   -- what the hour step gives for the conditions of the entry with index k, from the state that the plain book has there
-  unfoldable pub stepAt : (start : L .State) → (bs : List ℕ) → (k : ℕ) → Result (List ℕ × L .State)
+  unfoldable pub stepAt : (start : L .State) → (bs : List ℕ) → (k : ℕ) → Result (Written (L .State))
   stepAt start bs k =
-      bind (entries L z 0 start (itemsBefore bs k)) λ es.
+      bind (entriesOf L z 0 start (itemsBefore bs k)) λ es.
       L .step z k (lastState start es) (L .itemOf z (entryAt bs k))
 
-  abbrev pub givesOther : Result (List ℕ × L .State) → (entry : List ℕ) → Bool
-  givesOther (ok e) c = not (equalBytes (e .0) c)
+  abbrev pub givesOther : Result (Written (L .State)) → (entry : List ℕ) → Bool
+  givesOther (ok e) c = not (equalBytes (e .bytes) c)
   givesOther (refused n j) c = true
 
   -- "an entry is false if the hour step refuses its conditions there or gives other bytes"
@@ -47,25 +48,25 @@ module _ (L : Layers) (z : L .Zone) where
   falseAt start bs k = givesOther (stepAt start bs k) (entryAt bs k)
 
   -- the first index of a whole entry that is 8,784 or whose entry is false; the number of whole entries where there is none
-  unfoldable pub firstBad : (start : L .State) → (bs : List ℕ) → ℕ
-  firstBad start bs = firstBelow (numberOfEntries bs) (λ k. eqb k (L .limit) || falseAt start bs k)
+  unfoldable pub firstInvalid : (start : L .State) → (bs : List ℕ) → ℕ
+  firstInvalid start bs = firstBelow (numberOfEntries bs) (λ k. eqb k (L .limit) || falseAt start bs k)
 
   -- "per whole entry, a 8,785th 17, a false one 18"
   abbrev pub refusalAt : (k : ℕ) → Result (Unit {0})
-  refusalAt k = cond (eqb k (L .limit)) (refused 17 0) (refused 18 k)
+  refusalAt k = cond (eqb k (L .limit)) (refused bookFull 0) (refused falseEntry k)
 
   unfoldable pub testEntries : (start : L .State) → (bs : List ℕ) → Result (Unit {0})
-  testEntries start bs = cond (eqb (firstBad start bs) (numberOfEntries bs)) (ok tt) (refusalAt (firstBad start bs))
+  testEntries start bs = cond (eqb (firstInvalid start bs) (numberOfEntries bs)) (ok tt) (refusalAt (firstInvalid start bs))
 
   -- "whole entries' conditions"
   abbrev pub itemsIn : (bs : List ℕ) → List (L .Item)
   itemsIn bs = itemsBefore bs (numberOfEntries bs)
 
-module _ (L : Layers) where
+module _ (L : Interface) where
   -- "Take-up: head and whole entries' conditions in its bytes"
   unfoldable pub takeUpPlain : (bytes : List ℕ) → Result (Plain (L .Item))
   takeUpPlain bytes =
       bind (L .headOf bytes) λ h.
-      bind (L .startUp (h .0)) λ s.
-      bind (testEntries L (h .0) s (drop (h .1) bytes)) λ _.
-      ok (book (take (h .1) bytes) (itemsIn L (h .0) (drop (h .1) bytes)))
+      bind (L .startUp (h .zone)) λ s.
+      bind (testEntries L (h .zone) s (drop (h .length) bytes)) λ _.
+      ok (book (take (h .length) bytes) (itemsIn L (h .zone) (drop (h .length) bytes)))

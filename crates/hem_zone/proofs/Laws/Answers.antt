@@ -12,11 +12,11 @@ use Rattle.book.specs.declared.book.Reply.{Reply}
 
 -- with a buffer and without
 module _ (g : Book.Values State) where
-  pub reply-no : (d : Result (Book.Values State)) (r : Reply) → r ≡ replyIn (Book.answerOf g d) → (n j : ℕ) → r .verdict ≡ Refused n j → d ≡ refused n j
+  pub reply-no : (d : Result (Book.Values State)) (r : Reply) → r ≡ replyIn (Book.answerFrom g d) → (n j : ℕ) → r .verdict ≡ Refused n j → d ≡ refused n j
   reply-no (ok a) r e n j f = apart n j (sym (ap (λ x. x .verdict) e) ∙ f)
   reply-no (refused m k) r e n j f = same-refusal m k n j (sym (ap (λ x. x .verdict) e) ∙ f)
 
-  pub reply-yes : (d : Result (Book.Values State)) (r : Reply) → r ≡ replyIn (Book.answerOf g d) → r .verdict ≡ Accepted → d ≡ ok (givenOf (r .values))
+  pub reply-yes : (d : Result (Book.Values State)) (r : Reply) → r ≡ replyIn (Book.answerFrom g d) → r .verdict ≡ Accepted → d ≡ ok (givenOf (r .values))
   reply-yes (ok a) r e f = λ i. ok (givenOf (sym e i .values))
   reply-yes (refused m k) r e f = apart m k (sym f ∙ ap (λ x. x .verdict) e)
 

@@ -1,4 +1,4 @@
--- Every refusal of document 01 has a number from 1 to 18 and an index of at most 8,784: family by family.
+-- Every refusal of document 01 has a number from 1 to 18 and an index of at most 8,783: family by family.
 use Prim.Native.Nat.{ℕ, _≤_}
 use borrow.Author.Needs.{needs}
 use Rattle.zone.specs.Promise.{SolveRefusal, divisor, temperature}
@@ -11,7 +11,7 @@ use Rattle.hem_zone.specs.Claims.{AfterHead, ofHead, ofCall}
 pub record Numbered (number index : ℕ) : Type 0 where
   pub from-1 : 1 ≤ number
   pub to-18 : number ≤ 18
-  pub few : index ≤ 8784
+  pub few : index ≤ 8783
 
 pub solve-numbered : (n i : ℕ) → SolveRefusal n i → Numbered n i
 solve-numbered n i divisor = search needs
@@ -29,10 +29,13 @@ zone-numbered n i (Head.zoneCounts j h) = search needs
 zone-numbered n i (Head.zoneValue j h) = search needs
 
 pub conditions-numbered : (n i : ℕ) → Head.ConditionsRefusal n i → Numbered n i
-conditions-numbered n i Head.conditionsCount = search needs
 conditions-numbered n i Head.conditionsSize = search needs
 conditions-numbered n i Head.conditionsRates = search needs
 conditions-numbered n i (Head.conditionsValue j h) = search needs
+
+pub operative-numbered : (n i : ℕ) → Zone.OperativeRefusal n i → Numbered n i
+operative-numbered n i (Zone.operativeZone p) = zone-numbered n i p
+operative-numbered n i Zone.operativeState = search needs
 
 pub hour-numbered : (n i : ℕ) → Zone.HourRefusal n i → Numbered n i
 hour-numbered n i (Zone.hourZone p) = zone-numbered n i p

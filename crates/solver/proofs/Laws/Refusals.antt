@@ -1,17 +1,15 @@
 -- What is refused by a sequence, by a test, by a choice, and by the solver.
-use Prim.Native.Nat.{ℕ, zero, suc}
+use Prim.Native.Nat.{ℕ}
 use native.Mathlib.Omega.{arith}
 use mathlib.Core.Path.{_≡_, refl}
 use mathlib.Core.Bool.{Bool, true, false, cond}
 use mathlib.Core.List.{List}
-use lib.ListN.{replicate}
 use lib.Ieee.{Float}
 use Rattle.solver.specs.declared.system.Matrix.{Matrix}
-use Rattle.solver.specs.declared.system.Solved.{Solved}
 use Rattle.solver.specs.Result.{Result, ok, refused, bind, requireAt}
 use Rattle.solver.specs.Refusals.{RefusesOnly, accepts, refuses, SolveRefusal, divisor, temperature}
-use Rattle.solver.specs.FastSolver.{Factored, factored, factor, substitute, withFactors, fastSolverRes}
-use Rattle.solver.proofs.Laws.Solver.{solver-12, solver-13, solver-ok}
+use Rattle.solver.specs.Numbers.{divisorNo, temperatureNo}
+use Rattle.solver.specs.FastSolver.{divisible, temperaturesOf, bounded, solve}
 
 module _ {P : ℕ → ℕ → Type 0} {A : Type 0} where
   -- a sequence refuses as its parts do; the second starts from what the first accepted
@@ -49,15 +47,9 @@ test-refuses true number index f p q = q refl
 test-refuses false number index f p q = refuses p
 
 -- the solver refuses with 12 or 13
-pub solver-refuses : (a : Matrix) (b : List Float) → RefusesOnly SolveRefusal (fastSolverRes a b)
-solver-refuses a b = by-factors (factor a (replicate 25 0)) refl
-  where
-    by-number : (diag dense : List Float) (x : List ℕ) → factored 0 diag dense x ≡ factor a (replicate 25 0)
-        → (s : Solved) → s ≡ substitute (withFactors a diag dense) x b → (number : ℕ) → s .number ≡ number → RefusesOnly SolveRefusal (fastSolverRes a b)
-    by-number diag dense x f s u zero e = rw (solver-ok a b diag dense x 0 (s .temps) (s .number) f refl u e) (accepts (s .temps))
-    by-number diag dense x f s u (suc k) e = rw (solver-13 a b diag dense x 0 (s .temps) (s .number) f refl u (λ q. omega arith)) (refuses temperature)
-
-    by-factors : (f : Factored) → f ≡ factor a (replicate 25 0) → RefusesOnly SolveRefusal (fastSolverRes a b)
-    by-factors (factored zero diag dense x) f =
-        by-number diag dense x f (substitute (withFactors a diag dense) x b) refl (substitute (withFactors a diag dense) x b .number) refl
-    by-factors (factored (suc k) diag dense x) f = rw (solver-12 a b diag dense x (suc k) f (λ q. omega arith)) (refuses divisor)
+pub solver-refuses : (a : Matrix) (b : List Float) → RefusesOnly SolveRefusal (solve a b)
+unfolding solve
+solver-refuses a b =
+    test-refuses (divisible a) divisorNo 0 _ divisor λ _.
+    test-refuses (bounded a (temperaturesOf a b)) temperatureNo 0 _ temperature λ _.
+    accepts (temperaturesOf a b)

@@ -8,18 +8,24 @@ use borrow.Author.Tests.{eqb-true}
 use lib.Dec.{eqb}
 use lib.ListN.{length, take, getD, replicate}
 use lib.Seq.{take-all, take-at}
-use Rattle.solver.specs.Result.{ok, bind-ok, requireAt, require-ok}
-use Rattle.zone.specs.Format.Bytes.{numAt, floatAt}
+use Rattle.solver.specs.Result.{ok, requireAt}
+use Rattle.solver.proofs.Laws.Result.{bind-ok, require-ok}
+use Rattle.zone.specs.Record.Numbers.{conditionsValue}
+use Rattle.zone.specs.Format.Layout.{openByte, elementHourSize, firstElementHour, conditionsLength}
+use Rattle.zone.specs.Format.Bytes.{Bytes, numAt, floatAt}
 use Rattle.zone.specs.Format.Decode.{floatsAt, elementHourAt, noElementHour}
 use Rattle.zone.specs.Check.Ranges.{hourLengthRange, temperatureRange, gainsRange, fractionRange, heatingSetpointRange, setpointRange, rateRange, irradianceRange}
-use Rattle.zone.specs.Check.ZoneTest.{elementHourInRange}
-use Rattle.zone.specs.Format.Conditions.{achArgsAt, elementHoursAt, conditionsAt, rateCodeValid, openBitsValid, hourAndGainsInRange, setpointsInRange, achArgsInRange, elementHoursTest, conditionsTest, conditionsOf, treatmentsOf}
-use Rattle.zone.specs.Format.Encode.{rowBytes, elementHourBytes, elementHoursBytes, achArgsBytes, conditionsBytes}
+use Rattle.zone.specs.Check.ZoneTest.{elementHourInRange, eachNeeds}
+use Rattle.zone.specs.Inner.Format.{conditionsFor, testedAt}
+use Rattle.zone.specs.Format.Conditions.{achArgsAt, elementHoursAt, conditionsAt, rateCodeValid, openBitsValid, hourAndGainsInRange, setpointsInRange, achArgsInRange, conditionsTest, conditionsOf}
+use Rattle.zone.specs.Inner.Format.{treatmentsOf}
+use Rattle.zone.specs.Format.Encode.{rowBytes}
+use Rattle.zone.specs.Inner.Encode.{elementHourBytes, elementHoursBytes, achArgsBytes, conditionsBytes}
 use Rattle.zone.specs.declared.record.zone_record.Zone.{Zone}
 use Rattle.zone.specs.declared.format.conditions.Conditions.{Conditions}
 use Rattle.zone.specs.declared.format.conditions.AirChangesPerHourArgument.the-variants.{Cooling, TargetAndWindowsOpen}
 use Rattle.solver.proofs.Laws.Tests.{and-true}
-use Rattle.zone.proofs.Laws.RoundTrip.{Bytes, Numbers, part, part-add, part-one, number-part, float-part, row-part}
+use Rattle.zone.proofs.Laws.RoundTrip.{Numbers, part, part-add, part-one, number-part, float-part, row-part}
 use Rattle.zone.proofs.Laws.Numbers.{hourLength-number, temperature-number, gains-number, fraction-number, heatingSetpoint-number, setpoint-number, rate-number, irradiance-number}
 use Rattle.zone.proofs.Claims.Conditions.{accepted}
 
@@ -55,18 +61,18 @@ hour-numbers s at e =
     (temperature-number (floatAt s at) (r .0), (irradiance-number (floatAt s (at + 8)) (r .1), (irradiance-number (floatAt s (at + 16)) (r .2), (fraction-number (floatAt s (at + 24)) (r .3), (fraction-number (floatAt s (at + 32)) (r .4), tt)))))
 
 module _ (s : List ℕ) (b : Bytes s) where
-  pub hour-part : (at : ℕ) → at + 41 ≤ length s → elementHourInRange (elementHourAt s at) ≡ true → elementHourBytes (elementHourAt s at) ≡ part s at 41
+  pub hour-part : (at : ℕ) → at + elementHourSize ≤ length s → elementHourInRange (elementHourAt s at) ≡ true → elementHourBytes (elementHourAt s at) ≡ part s at 41
   hour-part at h e =
-      rw (part-add s at 40 1, ← row-part s b at 5 (omega arith) (hour-numbers s at e), hour-floats s at, part-one s (at + 40) (omega arith))
+      rw (part-add s at 40 1, ← row-part s b at 5 (omega arith) (hour-numbers s at e), hour-floats s at, part-one s (at + openByte) (omega arith))
 
-  hours-part : (n at i : ℕ) → at + 41 * n ≤ length s → elementHoursTest (elementHoursAt s at n) i ≡ ok tt → elementHoursBytes (elementHoursAt s at n) ≡ part s at (41 * n)
-  unfolding elementHoursAt elementHoursTest elementHoursBytes
+  hours-part : (n at i : ℕ) → at + elementHourSize * n ≤ length s → eachNeeds elementHourInRange conditionsValue (elementHoursAt s at n) i ≡ ok tt → elementHoursBytes (elementHoursAt s at n) ≡ part s at (41 * n)
+  unfolding elementHoursAt eachNeeds elementHoursBytes
   hours-part zero at i h e = refl
   hours-part (suc n) at i h e =
       let q : 41 * suc n ≡ 41 + 41 * n = omega arith in
       let x = bind-ok (requireAt (elementHourInRange (elementHourAt s at)) 9 i) _ tt e in
-      let good = require-ok (elementHourInRange (elementHourAt s at)) 9 i (x .0) (x .1) in
-      rw (q, part-add s at 41 (41 * n), ← hour-part at (omega arith) good, ← hours-part n (at + 41) (i + 1) (omega arith) (x .2))
+      let good = require-ok (elementHourInRange (elementHourAt s at)) conditionsValue i (x .0) (x .1) in
+      rw (q, part-add s at 41 (41 * n), ← hour-part at (omega arith) good, ← hours-part n (at + elementHourSize) (i + 1) (omega arith) (x .2))
 
   rates-by : (c : Bool) → eqb (getD s 96 0) 0 ≡ c → 113 ≤ length s → cond c (eqb (numAt s 105 8) 0) (eqb (getD s 96 0) 1) ≡ true
       → achArgsInRange (cond c (Cooling (floatAt s 97)) (TargetAndWindowsOpen (floatAt s 97) (floatAt s 105))) ≡ true
@@ -85,7 +91,7 @@ module _ (s : List ℕ) (b : Bytes s) where
 length-hours : (bs : List ℕ) (p n : ℕ) → length (elementHoursAt bs p n) ≡ n
 unfolding elementHoursAt
 length-hours bs p zero = refl
-length-hours bs p (suc n) = ap suc (length-hours bs (p + 41) n)
+length-hours bs p (suc n) = ap suc (length-hours bs (p + elementHourSize) n)
 
 front-numbers : (s : List ℕ) (n : ℕ) → hourAndGainsInRange (conditionsAt s n) ≡ true → setpointsInRange (conditionsAt s n) ≡ true → Numbers (floatsAt s 0 12)
 unfolding conditionsAt hourAndGainsInRange setpointsInRange Numbers floatsAt
@@ -136,9 +142,9 @@ row : (s : List ℕ) (n : ℕ) (b : Bytes s) → hourAndGainsInRange (conditions
 unfolding floatsAt
 row s n b i p h = row-part s b 0 12 (omega arith) (front-numbers s n i p)
 
-whole : (s : List ℕ) (n : ℕ) → Bytes s → length s ≡ 113 + 41 * n → rateCodeValid s ≡ true
+whole : (s : List ℕ) (n : ℕ) → Bytes s → length s ≡ conditionsLength n → rateCodeValid s ≡ true
     → hourAndGainsInRange (conditionsAt s n) ≡ true → setpointsInRange (conditionsAt s n) ≡ true → achArgsInRange (conditionsAt s n .«ach_args») ≡ true
-    → elementHoursTest (take n (conditionsAt s n .elements)) 1 ≡ ok tt
+    → eachNeeds elementHourInRange conditionsValue (take n (conditionsAt s n .elements)) 1 ≡ ok tt
     → conditionsBytes n (conditionsAt s n) ≡ s
 unfolding conditionsBytes conditionsAt
 whole s n b h g i p r e =
@@ -149,25 +155,25 @@ whole s n b h g i p r e =
     ∙ sym (part-add s 0 96 (17 + 41 * n))
     ∙ take-all (96 + (17 + 41 * n)) s (omega arith))
 
-bytes-of : (s : List ℕ) (n : ℕ) → Bytes s → length s ≡ 113 + 41 * n → rateCodeValid s ≡ true → conditionsTest n (conditionsAt s n) ≡ ok tt
+bytes-of : (s : List ℕ) (n : ℕ) → Bytes s → length s ≡ conditionsLength n → rateCodeValid s ≡ true → conditionsTest n (conditionsAt s n) ≡ ok tt
     → conditionsBytes n (conditionsAt s n) ≡ s
 unfolding conditionsTest
 bytes-of s n b h g e =
     let c = conditionsAt s n in
-    let x = bind-ok (requireAt (hourAndGainsInRange c && setpointsInRange c && achArgsInRange (c .«ach_args»)) 9 0) _ tt e in
-    let t = require-ok (hourAndGainsInRange c && setpointsInRange c && achArgsInRange (c .«ach_args»)) 9 0 (x .0) (x .1) in
+    let x = bind-ok (requireAt (hourAndGainsInRange c && setpointsInRange c && achArgsInRange (c .«ach_args»)) conditionsValue 0) _ tt e in
+    let t = require-ok (hourAndGainsInRange c && setpointsInRange c && achArgsInRange (c .«ach_args»)) conditionsValue 0 (x .0) (x .1) in
     let t3 = and-true (hourAndGainsInRange c && setpointsInRange c) (achArgsInRange (c .«ach_args»)) t in
     let t2 = and-true (hourAndGainsInRange c) (setpointsInRange c) (t3 .0) in
     whole s n b h g (t2 .0) (t2 .1) (t3 .1) (x .2)
 
 -- accepted conditions are the bytes of what they decode to
 pub conditions-bytes : (z : Zone) (bs : List ℕ) (c : Conditions) → Bytes bs → conditionsOf z bs ≡ ok c → bs ≡ conditionsBytes (z .count) c
-unfolding conditionsOf
+unfolding conditionsOf conditionsFor testedAt
 conditions-bytes z bs c b e =
     let a = accepted (z .count) (map treatmentsOf (z .«building_elements»)) bs c e in
     let ts = map treatmentsOf (z .«building_elements») in
     let v : conditionsTest (z .count) (conditionsAt bs (z .count)) ≡ ok tt = rw (← a .decoded) (a .values) in
-    sym (ap (conditionsBytes (z .count)) (a .decoded) ∙ bytes-of bs (z .count) b (a .size) (and-true (rateCodeValid bs) (openBitsValid bs (take (z .count) ts) 113) (a .code) .0) v)
+    sym (ap (conditionsBytes (z .count)) (a .decoded) ∙ bytes-of bs (z .count) b (a .size) (and-true (rateCodeValid bs) (openBitsValid bs (take (z .count) ts) firstElementHour) (a .code) .0) v)
 
 -- so no two byte strings that a zone accepts decode to the same conditions
 pub conditions-injective : (z : Zone) (a b : List ℕ) (c : Conditions) → Bytes a → Bytes b → conditionsOf z a ≡ ok c → conditionsOf z b ≡ ok c → a ≡ b

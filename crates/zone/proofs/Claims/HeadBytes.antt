@@ -10,21 +10,27 @@ use lib.ListN.{length, take, getD, replicate}
 use lib.Seq.{take-at}
 use lib.Ieee.{Float}
 use Rattle.solver.specs.F64.{zero64}
-use Rattle.solver.specs.Result.{ok, bind-ok, requireAt, require-ok}
-use Rattle.zone.specs.Format.Bytes.{numAt, floatAt, bytesOf}
-use Rattle.zone.specs.Format.ElementLayout.{kCount, hCount, kindOf, kindAt, treatmentsAt, maxTreatments, sizeAt}
+use Rattle.solver.specs.Result.{ok, requireAt}
+use Rattle.solver.proofs.Laws.Result.{bind-ok, require-ok}
+use Rattle.zone.specs.Record.Numbers.{zoneValue}
+use Rattle.zone.specs.Format.Layout.{basisIn, countIn, firstElement, elementArrays, elementHourSize}
+use Rattle.zone.specs.Format.Bytes.{Bytes, numAt, floatAt, bytesOf}
+use Rattle.zone.specs.Format.ElementLayout.{hCount, kindOf, kindAt, treatmentsAt, maxTreatments, sizeAt, sizes}
 use Rattle.zone.specs.Format.Decode.{floatsAt, elementHourAt, elementAt, elementsAt, basisOf, zoneAt}
 use Rattle.zone.specs.Check.Ranges.{areaRange, pitchRange, coefficientRange, hPliRange, kPliRange, fractionRange, skyRange, deltaRRange, temperatureRange, heatingSetpointRange, setpointRange, limitRange, allIn, openWithin}
-use Rattle.zone.specs.Check.ZoneTest.{elementHourInRange, arraysInRange, tailInRange, elementInRange, frontInRange, elementValuesTest, valuesTest}
-use Rattle.zone.specs.Format.Head.{elementsEnd, headOf}
-use Rattle.zone.specs.Format.Encode.{rowBytes, elementHourBytes, kindNumber, basisNumber, elementBytes, elementsBytes, headBytes}
+use Rattle.zone.specs.Check.ZoneTest.{elementHourInRange, elementInRange, frontInRange, eachNeeds, valuesTest}
+use Rattle.zone.specs.Inner.Check.{arraysInRange}
+use Rattle.zone.specs.Record.BuildingElement.{numberOfNodes}
+use Rattle.zone.specs.Format.Head.{ReadHead, elementsEnd, headOf}
+use Rattle.zone.specs.Format.Encode.{rowBytes, kindNumber}
+use Rattle.zone.specs.Inner.Encode.{elementHourBytes, basisNumber, elementBytes, elementsBytes, headBytes}
 use Rattle.zone.specs.declared.record.zone_record.Zone.{Zone}
 use Rattle.solver.proofs.Laws.Tests.{and-true}
 use Rattle.zone.proofs.Laws.ElementLayout.{shaped, treatments-few}
 use Rattle.zone.proofs.Laws.Structure.{Whole, whole-of, Structured, structured}
-use Rattle.zone.proofs.Laws.RoundTrip.{Bytes, Number, Numbers, part, part-add, part-one, number-part, row-part}
+use Rattle.zone.proofs.Laws.RoundTrip.{Number, Numbers, part, part-add, part-one, number-part, row-part}
 use Rattle.zone.proofs.Laws.Numbers.{area-number, pitch-number, coefficient-number, hPli-number, kPli-number, fraction-number, sky-number, deltaR-number, temperature-number, heatingSetpoint-number, setpoint-number}
-use Rattle.zone.proofs.Claims.Head.{accepted, zone-elements, sizes, end-is}
+use Rattle.zone.proofs.Claims.Head.{accepted, zone-elements, end-is}
 use Rattle.zone.proofs.Claims.ConditionsBytes.{six, hour-part}
 
 pub kind-back : (k : ℕ) → k ≤ 5 → kindNumber (kindOf k) ≡ k
@@ -71,10 +77,10 @@ seven-floats s p =
 -- what the tests of an element tell of its floats
 record Told (s : List ℕ) (p t kc hc : ℕ) : Type 0 where
   seven : Numbers (floatsAt s (p + 2) 7)
-  ks : Numbers (floatsAt s (p + 58) kc)
-  hs : Numbers (floatsAt s (p + 58 + 8 * kc) hc)
-  ds : Numbers (floatsAt s (p + 58 + 8 * kc + 8 * hc) t)
-  hour : elementHourInRange (elementHourAt s (p + 58 + 8 * kc + 8 * hc + 8 * t)) ≡ true
+  ks : Numbers (floatsAt s (p + elementArrays) kc)
+  hs : Numbers (floatsAt s (p + elementArrays + 8 * kc) hc)
+  ds : Numbers (floatsAt s (p + elementArrays + 8 * kc + 8 * hc) t)
+  hour : elementHourInRange (elementHourAt s (p + elementArrays + 8 * kc + 8 * hc + 8 * t)) ≡ true
 
 arrays-told : (s : List ℕ) (t kc hc at ah ad m1 m2 m3 : ℕ)
     → arraysInRange kc hc t (floatsAt s at kc ++ replicate m1 zero64) (floatsAt s ah hc ++ replicate m2 zero64) (floatsAt s ad t ++ replicate m3 zero64) ≡ true
@@ -90,16 +96,16 @@ arrays-told s t kc hc at ah ad m1 m2 m3 e =
       all-numbers deltaRRange deltaR-number (floatsAt s ad t) (a .1),
     )
 
-told : (s : List ℕ) (p : ℕ) → elementInRange (elementAt s p) ≡ true → Told s p (treatmentsAt s p) (kCount (kindAt s p)) (hCount (kindAt s p))
-unfolding elementInRange tailInRange Numbers
+told : (s : List ℕ) (p : ℕ) → elementInRange (elementAt s p) ≡ true → Told s p (treatmentsAt s p) (numberOfNodes (kindAt s p)) (hCount (kindAt s p))
+unfolding elementInRange arraysInRange Numbers
 told s p e =
     let k = kindAt s p in
     let t = treatmentsAt s p in
-    let at = p + 58 in
-    let ah = p + 58 + 8 * kCount k in
-    let ad = p + 58 + 8 * kCount k + 8 * hCount k in
-    let hour = elementHourAt s (p + 58 + 8 * kCount k + 8 * hCount k + 8 * t) in
-    let arrays = arraysInRange (kCount k) (hCount k) t (elementAt s p .«k_pli») (elementAt s p .«h_pli») (elementAt s p .«delta_r») in
+    let at = p + elementArrays in
+    let ah = p + elementArrays + 8 * numberOfNodes k in
+    let ad = p + elementArrays + 8 * numberOfNodes k + 8 * hCount k in
+    let hour = elementHourAt s (p + elementArrays + 8 * numberOfNodes k + 8 * hCount k + 8 * t) in
+    let arrays = arraysInRange (numberOfNodes k) (hCount k) t (elementAt s p .«k_pli») (elementAt s p .«h_pli») (elementAt s p .«delta_r») in
     let open-good = openWithin t (hour .«treatments_open») in
     let six-good = areaRange (floatAt s (p + 2)) && pitchRange (floatAt s (p + 10)) && coefficientRange (floatAt s (p + 18)) && coefficientRange (floatAt s (p + 26)) && coefficientRange (floatAt s (p + 34)) && fractionRange (floatAt s (p + 42)) in
     let a = and-true (six-good && skyRange (floatAt s (p + 50))) (arrays && elementHourInRange hour && open-good) e in
@@ -108,7 +114,7 @@ told s p e =
     six (areaRange (floatAt s (p + 2))) (pitchRange (floatAt s (p + 10))) (coefficientRange (floatAt s (p + 18))) (coefficientRange (floatAt s (p + 26))) (coefficientRange (floatAt s (p + 34))) (fractionRange (floatAt s (p + 42))) (b .0) in
     let d = and-true (arrays && elementHourInRange hour) open-good (a .1) in
     let f = and-true arrays (elementHourInRange hour) (d .0) in
-    let n = arrays-told s t (kCount k) (hCount k) at ah ad (5 - kCount k) (4 - hCount k) (4 - t) (f .0) in
+    let n = arrays-told s t (numberOfNodes k) (hCount k) at ah ad (5 - numberOfNodes k) (4 - hCount k) (4 - t) (f .0) in
     record {
       seven =
           rw (seven-floats s p)
@@ -121,22 +127,22 @@ told s p e =
 
 module _ (s : List ℕ) (b : Bytes s) where
   -- an element's bytes past the first two
-  rest-part : (p t kc hc : ℕ) → p + (99 + 8 * kc + 8 * hc + 8 * t) ≤ length s → Told s p t kc hc
-      → rowBytes (floatsAt s (p + 2) 7) ++ (rowBytes (floatsAt s (p + 58) kc) ++ (rowBytes (floatsAt s (p + 58 + 8 * kc) hc) ++ (rowBytes (floatsAt s (p + 58 + 8 * kc + 8 * hc) t) ++ elementHourBytes (elementHourAt s (p + 58 + 8 * kc + 8 * hc + 8 * t)))))
+  rest-part : (p t kc hc : ℕ) → p + (elementArrays + 8 * kc + 8 * hc + 8 * t + elementHourSize) ≤ length s → Told s p t kc hc
+      → rowBytes (floatsAt s (p + 2) 7) ++ (rowBytes (floatsAt s (p + elementArrays) kc) ++ (rowBytes (floatsAt s (p + elementArrays + 8 * kc) hc) ++ (rowBytes (floatsAt s (p + elementArrays + 8 * kc + 8 * hc) t) ++ elementHourBytes (elementHourAt s (p + elementArrays + 8 * kc + 8 * hc + 8 * t)))))
       ≡ part s (p + 2) (56 + (8 * kc + (8 * hc + (8 * t + 41))))
   rest-part p t kc hc h w =
-      let e : p + 2 + 56 ≡ p + 58 = omega arith in
+      let e : p + 2 + 56 ≡ p + elementArrays = omega arith in
       rw (
         part-add s (p + 2) 56 (8 * kc + (8 * hc + (8 * t + 41))),
         e,
-        part-add s (p + 58) (8 * kc) (8 * hc + (8 * t + 41)),
-        part-add s (p + 58 + 8 * kc) (8 * hc) (8 * t + 41),
-        part-add s (p + 58 + 8 * kc + 8 * hc) (8 * t) 41,
+        part-add s (p + elementArrays) (8 * kc) (8 * hc + (8 * t + 41)),
+        part-add s (p + elementArrays + 8 * kc) (8 * hc) (8 * t + 41),
+        part-add s (p + elementArrays + 8 * kc + 8 * hc) (8 * t) 41,
         row-part s b (p + 2) 7 (omega arith) (w .seven),
-        row-part s b (p + 58) kc (omega arith) (w .ks),
-        row-part s b (p + 58 + 8 * kc) hc (omega arith) (w .hs),
-        row-part s b (p + 58 + 8 * kc + 8 * hc) t (omega arith) (w .ds),
-        hour-part s b (p + 58 + 8 * kc + 8 * hc + 8 * t) (omega arith) (w .hour),
+        row-part s b (p + elementArrays) kc (omega arith) (w .ks),
+        row-part s b (p + elementArrays + 8 * kc) hc (omega arith) (w .hs),
+        row-part s b (p + elementArrays + 8 * kc + 8 * hc) t (omega arith) (w .ds),
+        hour-part s b (p + elementArrays + 8 * kc + 8 * hc + 8 * t) (omega arith) (w .hour),
       )
 
   front-part : (p m : ℕ) → p + 2 ≤ length s → part s p (2 + m) ≡ getD s p 0 ∷ getD s (p + 1) 0 ∷ part s (p + 2) m
@@ -151,22 +157,22 @@ module _ (s : List ℕ) (b : Bytes s) where
       let k = kindAt s p in
       let t = treatmentsAt s p in
       let f = shaped k t (treatments-few (getD s p 0) t (w .kind-valid)) in
-      let z : sizeAt s p ≡ 2 + (56 + (8 * kCount k + (8 * hCount k + (8 * t + 41)))) = omega (arith, f .sized) in
+      let z : sizeAt s p ≡ 2 + (56 + (8 * numberOfNodes k + (8 * hCount k + (8 * t + 41)))) = omega (arith, f .sized) in
       let five : getD s p 0 ≤ 5 = leb-true (getD s p 0) 5 (and-true (leb (getD s p 0) 5) (leb t (maxTreatments k)) (w .kind-valid) .0) in
       sym
       (ap (part s p) z
-      ∙ front-part p (56 + (8 * kCount k + (8 * hCount k + (8 * t + 41)))) (omega (arith, w .front))
-      ∙ ap (λ (l : List ℕ). getD s p 0 ∷ t ∷ l) (sym (rest-part p t (kCount k) (hCount k) (omega (arith, f .sized, w .rest)) (told s p e)))
-      ∙ sym (rw (kind-back (getD s p 0) five, front-floats s (p + 58) (kCount k) (5 - kCount k), front-floats s (p + 58 + 8 * kCount k) (hCount k) (4 - hCount k), front-floats s (p + 58 + 8 * kCount k + 8 * hCount k) t (4 - t), seven-floats s p)))
+      ∙ front-part p (56 + (8 * numberOfNodes k + (8 * hCount k + (8 * t + 41)))) (omega (arith, w .front))
+      ∙ ap (λ (l : List ℕ). getD s p 0 ∷ t ∷ l) (sym (rest-part p t (numberOfNodes k) (hCount k) (omega (arith, f .sized, w .rest)) (told s p e)))
+      ∙ sym (rw (kind-back (getD s p 0) five, front-floats s (p + elementArrays) (numberOfNodes k) (5 - numberOfNodes k), front-floats s (p + elementArrays + 8 * numberOfNodes k) (hCount k) (4 - hCount k), front-floats s (p + elementArrays + 8 * numberOfNodes k + 8 * hCount k) t (4 - t), seven-floats s p)))
 
-  elements-part : (end left i p q j : ℕ) → end ≤ length s → elementsEnd s end left i p ≡ ok q → elementValuesTest (elementsAt s p left) j ≡ ok tt
+  elements-part : (end left i p q j : ℕ) → end ≤ length s → elementsEnd s end left i p ≡ ok q → eachNeeds elementInRange zoneValue (elementsAt s p left) j ≡ ok tt
       → elementsBytes (elementsAt s p left) ≡ part s p (sizes (elementsAt s p left))
-  unfolding elementsAt elementsBytes sizes elementValuesTest
+  unfolding elementsAt elementsBytes sizes eachNeeds
   elements-part end zero i p q j h e v = refl
   elements-part end (suc left) i p q j h e v =
       let w = whole-of s end left i p q e in
-      let x = bind-ok (requireAt (elementInRange (elementAt s p)) 5 j) _ tt v in
-      let good = require-ok (elementInRange (elementAt s p)) 5 j (x .0) (x .1) in
+      let x = bind-ok (requireAt (elementInRange (elementAt s p)) zoneValue j) _ tt v in
+      let good = require-ok (elementInRange (elementAt s p)) zoneValue j (x .0) (x .1) in
       ap (λ (l : List ℕ). l ++ elementsBytes (elementsAt s (p + sizeAt s p) left)) (element-part end left i p q h w good)
       ∙ ap (λ (l : List ℕ). part s p (sizeAt s p) ++ l) (elements-part end left (i + 1) (p + sizeAt s p) q (j + 1) h (w .on) (x .2))
       ∙ sym (part-add s p (sizeAt s p) (sizes (elementsAt s (p + sizeAt s p) left)))
@@ -179,18 +185,18 @@ module _ (s : List ℕ) (b : Bytes s) where
       let a = and-true (limitRange (numAt s 7 2)) (areaRange (floatAt s 9)) (r .0) in
       (area-number (floatAt s 9) (a .1), (area-number (floatAt s 17) (r .1), (coefficient-number (floatAt s 25) (r .2), (temperature-number (floatAt s 33) (r .3), (heatingSetpoint-number (floatAt s 41) (r .4), (setpoint-number (floatAt s 49) (r .5), tt))))))
 
-  six-part : 57 ≤ length s → frontInRange (zoneAt s) ≡ true → rowBytes (floatAt s 9 ∷ floatAt s 17 ∷ floatAt s 25 ∷ floatAt s 33 ∷ floatAt s 41 ∷ floatAt s 49 ∷ []) ≡ part s 9 48
+  six-part : firstElement ≤ length s → frontInRange (zoneAt s) ≡ true → rowBytes (floatAt s 9 ∷ floatAt s 17 ∷ floatAt s 25 ∷ floatAt s 33 ∷ floatAt s 41 ∷ floatAt s 49 ∷ []) ≡ part s 9 48
   unfolding floatsAt
   six-part h e = row-part s b 9 6 (omega arith) (front-numbers e)
 
   -- the front, with what follows it
-  front-bytes : (n m : ℕ) → Structured s n → frontInRange (zoneAt s) ≡ true → n - 4 ≡ numAt s 0 4 → n ≡ 57 + m
-      → bytesOf 4 (n - 4) ++ (1 ∷ basisNumber (basisOf (getD s 5 0)) ∷ getD s 6 0 ∷ (bytesOf 2 (numAt s 7 2) ++ (rowBytes (floatAt s 9 ∷ floatAt s 17 ∷ floatAt s 25 ∷ floatAt s 33 ∷ floatAt s 41 ∷ floatAt s 49 ∷ []) ++ part s 57 m)))
+  front-bytes : (n m : ℕ) → Structured s n → frontInRange (zoneAt s) ≡ true → n - 4 ≡ numAt s 0 4 → n ≡ firstElement + m
+      → bytesOf 4 (n - 4) ++ (1 ∷ basisNumber (basisOf (basisIn s)) ∷ countIn s ∷ (bytesOf 2 (numAt s 7 2) ++ (rowBytes (floatAt s 9 ∷ floatAt s 17 ∷ floatAt s 25 ∷ floatAt s 33 ∷ floatAt s 41 ∷ floatAt s 49 ∷ []) ++ part s 57 m)))
       ≡ take n s
   front-bytes n m q good four ends =
       let total : n ≡ 4 + (1 + (1 + (1 + (2 + (48 + m))))) = omega (arith, ends) in
-      let room : 57 ≤ length s = omega (arith, q .low, q .there) in
-      rw (four, basis-back (getD s 5 0) (q .basis), number-part s b 0 4 (omega arith), number-part s b 7 2 (omega arith), six-part room good)
+      let room : firstElement ≤ length s = omega (arith, q .low, q .there) in
+      rw (four, basis-back (basisIn s) (q .basis), number-part s b 0 4 (omega arith), number-part s b 7 2 (omega arith), six-part room good)
       (sym
       (ap (part s 0) total
       ∙ rw (
@@ -209,21 +215,22 @@ module _ (s : List ℕ) (b : Bytes s) where
   head-part : (n : ℕ) → Structured s n → valuesTest (zoneAt s) ≡ ok tt → headBytes n (zoneAt s) ≡ take n s
   unfolding headBytes valuesTest zoneAt
   head-part n q v =
-      let x = bind-ok (requireAt (frontInRange (zoneAt s)) 5 0) _ tt v in
-      let good = require-ok (frontInRange (zoneAt s)) 5 0 (x .0) (x .1) in
-      let es = elementsAt s 57 (getD s 6 0) in
-      let values : elementValuesTest es 1 ≡ ok tt = rw (zone-elements s) at (x .2) in
-      let ends : n ≡ 57 + sizes es = end-is s n (getD s 6 0) 0 57 n (q .elements) in
+      let x = bind-ok (requireAt (frontInRange (zoneAt s)) zoneValue 0) _ tt v in
+      let good = require-ok (frontInRange (zoneAt s)) zoneValue 0 (x .0) (x .1) in
+      let es = elementsAt s firstElement (countIn s) in
+      let values : eachNeeds elementInRange zoneValue es 1 ≡ ok tt = rw (zone-elements s) at (x .2) in
+      let ends : n ≡ firstElement + sizes es = end-is s n (countIn s) 0 firstElement n (q .elements) in
       let four : n - 4 ≡ numAt s 0 4 = omega (arith, q .ends) in
-      rw (zone-elements s, elements-part n (getD s 6 0) 0 57 n 1 (q .there) (q .elements) values) (front-bytes n (sizes es) q good four ends)
+      rw (zone-elements s, elements-part n (countIn s) 0 firstElement n 1 (q .there) (q .elements) values) (front-bytes n (sizes es) q good four ends)
 
 -- an accepted head is the bytes of its zone
-pub head-bytes : (bs : List ℕ) (z : Zone) (n : ℕ) → Bytes bs → headOf bs ≡ ok (z, n) → take n bs ≡ headBytes n z
-head-bytes bs z n b e =
-    let a = accepted bs z n e in
+pub head-bytes : (bs : List ℕ) (h : ReadHead Zone) → Bytes bs → headOf bs ≡ ok h → take (h .length) bs ≡ headBytes (h .length) (h .zone)
+head-bytes bs h b e =
+    let n : ℕ = h .length in
+    let a = accepted bs h e in
     let v : valuesTest (zoneAt bs) ≡ ok tt = rw (← a .zone) (a .values) in
     sym (ap (headBytes n) (a .zone) ∙ head-part bs b n (structured bs n (a .structure)) v)
 
 -- so no two heads of one length hold the same zone
-pub head-injective : (a b : List ℕ) (z : Zone) (n : ℕ) → Bytes a → Bytes b → headOf a ≡ ok (z, n) → headOf b ≡ ok (z, n) → take n a ≡ take n b
-head-injective a b z n ba bb ea eb = head-bytes a z n ba ea ∙ sym (head-bytes b z n bb eb)
+pub head-injective : (a b : List ℕ) (h : ReadHead Zone) → Bytes a → Bytes b → headOf a ≡ ok h → headOf b ≡ ok h → take (h .length) a ≡ take (h .length) b
+head-injective a b h ba bb ea eb = head-bytes a h ba ea ∙ sym (head-bytes b h bb eb)

@@ -1,47 +1,125 @@
--- House P's marked rows, and its head, by computing.
+-- House P's head, start-up and hour, and its marked rows, by computing.
 use mathlib.Core.Path.{_≡_, refl}
 use mathlib.Core.Bool.{true}
-use lib.Ieee.{neg, toBits}
+use lib.ListN.{length}
+use Rattle.zone.specs.Format.Decode.{noElement, noElementHour, floatsAt, zoneAt, elementsAt}
+use Rattle.zone.specs.Format.ElementLayout.{kindOf}
 use Rattle.solver.specs.F64.{dec}
-use Rattle.solver.specs.Result.{ok}
-use Rattle.zone.specs.Record.BuildingElement.{standardCoefficients}
-use Rattle.zone.specs.Format.Decode.{floatsAt, elementsAt, zoneAt}
-use Rattle.zone.specs.Format.Encode.{conditionsBytes}
-use Rattle.zone.specs.Calls.Hour.{updateTemperatures, demand}
-use Rattle.solver.specs.Each.{eachOf, eachDown}
-use Rattle.solver.specs.Closeness.{abs, isFinite, relativeEq, closeInDemand, validDivisor, withinStateBound}
-use Rattle.solver.specs.Sums.{sum2AddAll, termsOf}
+use Rattle.solver.specs.Each.{eachOf, eachDown, allOf}
+use Rattle.solver.specs.Closeness.{abs, isFinite, relativeEq, closeInDemand, validDivisor, withinStateBound, isclose}
+use Rattle.solver.specs.Sums.{sum2AddAll, sumFrom, termsOf}
 use Rattle.solver.specs.Rows.{row, setRow, largerInColumn, eliminateRow}
 use Rattle.solver.specs.Lu.{interchangeRows, eliminateColumnBy, eliminateColumn, pivotsValid, applyInterchanges, forwardStep, forwardSubstitution, backStep, backSubstitution, luSolve}
 use Rattle.solver.specs.Chain.{eliminateChain, eliminateChains, chainDivisorsValid, divisorsValid, reduceRightSide, reduceRightSides, backSubstituteChain, backSubstituteChains, elementWithin, nodesWithin}
-use Rattle.solver.specs.FastSolver.{setInnerDiagonals, factorDense, factor, gatherDense, scatterDense, temperatures, substitute, fastSolver, fastSolverRes}
-use Rattle.zone.specs.Record.BuildingElement.{heatFlowDirection, hCi, addClosed, hPliTransparent, numberOfNodes, nodesOf, nodeCount}
+use Rattle.solver.specs.FastSolver.{setInnerDiagonals, gatherDense, scatterDense, temperatures, diagOf, denseOf, divisible, temperaturesOf, bounded, solve}
+use Rattle.zone.specs.Record.BuildingElement.{standardCoefficients, hCi, addClosed, hPliTransparent, numberOfNodes, nodesOf, nodeCount}
 use Rattle.zone.specs.Format.Bytes.{bigEndianFrom, bytesOf}
 use Rattle.zone.specs.Check.Ranges.{areaRange, pitchRange, coefficientRange, hPliRange, kPliRange, fractionRange, skyRange, deltaRRange, irradianceRange, gainsRange, rateRange, temperatureRange, heatingSetpointRange, setpointRange, hourLengthRange, allIn}
-use Rattle.zone.specs.Check.ZoneTest.{elementHourInRange, arraysInRange, tailInRange, elementInRange, frontInRange, elementValuesTest, valuesTest, treatmentsTest, countsTest, zoneTest}
-use Rattle.zone.specs.Format.Conditions.{elementHoursAt, conditionsAt, openBitsValid, hourAndGainsInRange, setpointsInRange, elementHoursTest, conditionsTest, testedAt, conditionsFor, conditionsOf}
-use Rattle.zone.specs.Physics.Ventilation.{air, densityKgPerM3, calcVentHeatTransferCoeff, orMinimum, raisedTo, cappedAt, achReqToReachTemperature}
-use Rattle.zone.specs.Format.ElementLayout.{kindOf}
-use Rattle.zone.specs.Format.Head.{elementsEnd, structureWithin, structureOf, headOf}
-use Rattle.zone.specs.Format.Encode.{rowBytes, elementHoursBytes}
-use Rattle.zone.specs.Physics.Slots.{setSlots, withTerms}
+use Rattle.zone.specs.Check.ZoneTest.{elementHourInRange, elementInRange, frontInRange, valuesTest, countsTest, zoneTest, eachNeeds}
+use Rattle.zone.specs.Format.Conditions.{elementHoursAt, conditionsAt, openBitsValid, hourAndGainsInRange, setpointsInRange, conditionsTest, conditionsOf}
+use Rattle.zone.specs.Physics.Ventilation.{airProperties, densityKgPerM3, calcVentHeatTransferCoeff, orMinimum, raisedTo, cappedAt, achReqToReachTemperature}
+use Rattle.zone.specs.Format.Encode.{rowBytes}
+use Rattle.zone.specs.Physics.Slots.{setSlots, inSlots, withTerms}
+use Rattle.zone.specs.Physics.System.{zoneTwoNodes, areaElTotal, couplings, matrixA, vectorB}
+use Rattle.zone.specs.Physics.CalcTemperatures.{calcTemperatures}
+use Rattle.zone.specs.Physics.HeatBalance.{termsOfKind, heatBalance}
 use Rattle.zone.specs.Physics.Equations.{rowsOf, rightSidesOf}
-use Rattle.zone.specs.Physics.Assembly.{setRows, elementRows, elementRightSides, coupleRow, withGains}
-use Rattle.zone.specs.Physics.System.{zoneTwoNodes, areaElTotal, convectiveSum, elementChains, couplingsOf, elementSides, assemble, denseWith, rightSideWith}
-use Rattle.zone.specs.Physics.CalcTemperatures.{assembleStep, calcTemperatures}
-use Rattle.zone.specs.Physics.Packing.{firstNode, moveAll, toSlots, toNodes}
-use Rattle.zone.specs.Physics.HeatBalance.{addElement, heatBalance}
+use Rattle.zone.specs.Physics.NodeLayout.{firstNode, copyNodes, toSlots, toNodes}
 use Rattle.zone.specs.Calls.State.{stateTest, zoneAndStateTest, slotsOf, stateOf}
-use Rattle.zone.specs.Hour.Demand.{controlTemperature, fracConvGainsHeatCool, wanted, fracUpper, interpolation, interpHeatCoolDemand, demandBy, calcCoolingPotentialFromVentilation, loadedDemand, demandTowards, demandFrom, spaceHeatCoolDemand}
-use Rattle.zone.specs.Calls.Hour.{tested, step, updateIn}
-use lib.Ieee.{add, sub, mul, div, lt, le, eq, ne, ofBits}
-use Rattle.zone.specs.Claims.HouseP.{houseP, headOfP, holds, allHold, table}
+use Rattle.zone.specs.Hour.Demand.{controlTemperature, fracConvGainsHeatCool, wanted, fracUpper, interpHeatCoolDemand, demandRecord, calcCoolingPotentialFromVentilation, shareOrZero, demandForLoad, spaceHeatCoolDemand}
+use Rattle.zone.specs.Calls.Hour.{tested, step, updateTemperatures, demand, delivered, convectiveShare, hourStep}
+use lib.Ieee.{add, sub, mul, div, lt, le, eq, ne, ofBits, toBits, neg}
+use Rattle.zone.specs.Format.Head.{headOf, structureOf, elementsEnd}
+use Rattle.zone.specs.Calls.StartUp.{startUpConditions, allClose, close, pass, settle, initNodeTemps}
+use Rattle.zone.specs.Claims.HouseP.{HousePClaims, houseP, headOfP, hourOfP, allHold, table}
+
+-- what the definitions compute by: to unfold one of these is to unfold what its line names
+unfoldable records1 : Unit {0}
+unfolding noElement noElementHour floatsAt kindOf standardCoefficients hCi addClosed hPliTransparent numberOfNodes nodesOf nodeCount bigEndianFrom bytesOf
+records1 = tt
+
+unfoldable records2 : Unit {0}
+unfolding elementHoursAt conditionsAt openBitsValid hourAndGainsInRange setpointsInRange conditionsTest conditionsOf rowBytes headOf structureOf elementsEnd zoneAt elementsAt
+records2 = tt
+
+unfoldable floats : Unit {0}
+unfolding dec add sub mul div lt le eq ne ofBits toBits neg
+floats = tt
+
+unfoldable solver1 : Unit {0}
+unfolding eachOf eachDown allOf abs isFinite relativeEq closeInDemand validDivisor withinStateBound sum2AddAll termsOf row setRow largerInColumn eliminateRow interchangeRows eliminateColumnBy
+solver1 = tt
+
+unfoldable solver2 : Unit {0}
+unfolding eliminateColumn pivotsValid applyInterchanges forwardStep forwardSubstitution backStep backSubstitution luSolve eliminateChain eliminateChains chainDivisorsValid divisorsValid
+solver2 = tt
+
+unfoldable solver3 : Unit {0}
+unfolding reduceRightSide reduceRightSides backSubstituteChain backSubstituteChains elementWithin nodesWithin setInnerDiagonals gatherDense scatterDense temperatures
+solver3 = tt
+
+unfoldable solver4 : Unit {0}
+unfolding diagOf denseOf divisible temperaturesOf bounded solve isclose
+solver4 = tt
+
+unfoldable checks1 : Unit {0}
+unfolding areaRange pitchRange coefficientRange hPliRange kPliRange fractionRange skyRange deltaRRange irradianceRange gainsRange rateRange temperatureRange heatingSetpointRange
+checks1 = tt
+
+unfoldable checks2 : Unit {0}
+unfolding setpointRange hourLengthRange allIn elementHourInRange elementInRange frontInRange valuesTest countsTest zoneTest eachNeeds
+checks2 = tt
+
+unfoldable physics1 : Unit {0}
+unfolding airProperties densityKgPerM3 calcVentHeatTransferCoeff orMinimum raisedTo cappedAt achReqToReachTemperature setSlots inSlots withTerms rowsOf rightSidesOf
+physics1 = tt
+
+unfoldable physics2 : Unit {0}
+unfolding zoneTwoNodes areaElTotal couplings matrixA vectorB calcTemperatures firstNode
+physics2 = tt
+
+unfoldable physics3 : Unit {0}
+unfolding copyNodes toSlots toNodes termsOfKind sumFrom heatBalance
+physics3 = tt
+
+unfoldable calls1 : Unit {0}
+unfolding stateTest zoneAndStateTest slotsOf stateOf controlTemperature fracConvGainsHeatCool wanted fracUpper interpHeatCoolDemand demandRecord
+calls1 = tt
+
+unfoldable calls2 : Unit {0}
+unfolding calcCoolingPotentialFromVentilation shareOrZero demandForLoad spaceHeatCoolDemand tested step updateTemperatures demand startUpConditions allClose close
+calls2 = tt
+
+unfoldable calls3 : Unit {0}
+unfolding pass settle initNodeTemps delivered convectiveShare hourStep
+calls3 = tt
+
+-- all of them
+unfoldable computed : Unit {0}
+unfolding records1 records2 floats solver1 solver2 solver3 solver4 checks1 checks2 physics1 physics2 physics3 calls1 calls2 calls3
+computed = tt
+
+pub house-p : HousePClaims
+unfolding computed
+house-p = record { head = refl; start-up = refl; balance = _; hour = refl }
 
 pub claim : allHold table ≡ true
-unfolding holds allHold dec eachOf eachDown abs isFinite relativeEq closeInDemand validDivisor withinStateBound sum2AddAll termsOf row setRow largerInColumn eliminateRow interchangeRows eliminateColumnBy eliminateColumn pivotsValid applyInterchanges forwardStep forwardSubstitution backStep backSubstitution luSolve eliminateChain eliminateChains chainDivisorsValid divisorsValid reduceRightSide reduceRightSides backSubstituteChain backSubstituteChains elementWithin nodesWithin setInnerDiagonals factorDense factor gatherDense scatterDense temperatures substitute fastSolver fastSolverRes standardCoefficients heatFlowDirection hCi addClosed hPliTransparent numberOfNodes nodesOf nodeCount bigEndianFrom bytesOf areaRange pitchRange coefficientRange hPliRange kPliRange fractionRange skyRange deltaRRange irradianceRange gainsRange rateRange temperatureRange heatingSetpointRange setpointRange hourLengthRange allIn elementHourInRange arraysInRange tailInRange elementInRange frontInRange elementValuesTest valuesTest treatmentsTest countsTest zoneTest elementHoursAt conditionsAt openBitsValid hourAndGainsInRange setpointsInRange elementHoursTest conditionsTest testedAt conditionsFor conditionsOf air densityKgPerM3 calcVentHeatTransferCoeff orMinimum raisedTo cappedAt achReqToReachTemperature rowBytes elementHoursBytes conditionsBytes setSlots withTerms rowsOf rightSidesOf setRows elementRows elementRightSides coupleRow withGains zoneTwoNodes areaElTotal convectiveSum elementChains couplingsOf elementSides assemble denseWith rightSideWith assembleStep calcTemperatures firstNode moveAll toSlots toNodes addElement heatBalance stateTest zoneAndStateTest slotsOf stateOf controlTemperature fracConvGainsHeatCool wanted fracUpper interpolation interpHeatCoolDemand demandBy calcCoolingPotentialFromVentilation loadedDemand demandTowards demandFrom spaceHeatCoolDemand tested step updateIn updateTemperatures demand add sub mul div lt le eq ne ofBits toBits neg
+unfolding allHold computed
 claim = refl
 
--- the head's bytes are read as this house
-pub head-claim : headOf headOfP ≡ ok (houseP, 180)
-unfolding dec toBits ofBits lt le neg headOf structureOf structureWithin elementsEnd bigEndianFrom kindOf zoneAt elementsAt floatsAt valuesTest frontInRange areaRange coefficientRange temperatureRange heatingSetpointRange setpointRange elementValuesTest elementInRange pitchRange fractionRange skyRange tailInRange arraysInRange allIn kPliRange hPliRange deltaRRange elementHourInRange irradianceRange
-head-claim = refl
+-- what the book counts by
+pub count-of-p : houseP .count ≡ 1
+unfolding computed
+count-of-p = refl
+
+pub nodes-of-p : nodeCount houseP ≡ 3
+unfolding computed
+nodes-of-p = refl
+
+pub head-of-p-length : length headOfP ≡ 180
+unfolding computed
+head-of-p-length = refl
+
+pub hour-of-p-length : length hourOfP ≡ 154
+unfolding computed
+hour-of-p-length = refl

@@ -18,12 +18,15 @@ use Rattle.zone.specs.declared.calls.state.State.{State}
 use Rattle.zone.specs.declared.calls.state.Demand.{Demand}
 use Rattle.zone.specs.declared.calls.state.UpdateAnswer.the-variants as UpdateAnswer
 use Rattle.zone.specs.declared.calls.state.HourAnswer.the-variants as HourAnswer
-use Rattle.zone.specs.Calls.State.{slotsOf}
+use Rattle.zone.specs.Calls.State.{slotsOf, operative}
 use Rattle.zone.specs.Hour.Demand.{spaceHeatCoolDemand}
-use Rattle.zone.specs.Calls.Hour.{HourResult, tested, updateIn, updateTemperatures, demand, meetDemand, hourMet, hourResult, hourStep}
-use Rattle.zone.specs.Calls.StartUp.{startState, close, settle, settleFrom, initNodeTemps}
+use Rattle.zone.specs.Calls.Hour.{HourResult, tested, updateTemperatures, demand, hourStep}
+use Rattle.zone.specs.Calls.StartUp.{startState, close, settle, initNodeTemps}
 use Rattle.zone.specs.Calls.Answers.{demandReply, updateReply, hourStepReply}
 use Rattle.zone.specs.Claims.Refusals.{
+  OperativeRefusal,
+  operativeZone,
+  operativeState,
   HourRefusal,
   hourZone,
   hourState,
@@ -45,7 +48,7 @@ use Rattle.zone.specs.Claims.Refusals.{
   startUpClose,
   startUpLimit,
 }
-use Rattle.zone.proofs.Laws.Refusals.{tested-refuses, step-refuses, demand-refuses, pass-refuses}
+use Rattle.zone.proofs.Laws.Refusals.{before-refuses, tested-refuses, step-refuses, demand-refuses, pass-refuses}
 
 module _ (c : Coefficients) (z : Zone) where
   module _ (s : State) (bytes : List ℕ) where
@@ -55,6 +58,12 @@ module _ (c : Coefficients) (z : Zone) where
     hour-demand : (h : Conditions) → RefusesOnly HourRefusal (spaceHeatCoolDemand c z (slotsOf z s) h)
     hour-demand h = demand-refuses (λ n i p. hourSolve p) c z (slotsOf z s) h hourClose (λ _. hourCooling) hourVentilation
 
+    pub operative-refusals : RefusesOnly OperativeRefusal (operative z s)
+    unfolding operative
+    operative-refusals =
+        bind-refuses _ (before-refuses (λ n i p. operativeZone p) operativeState z s) λ _ _.
+        accepts _
+
     pub demand-refusals : RefusesOnly HourRefusal (demand c z s bytes)
     unfolding demand
     demand-refusals =
@@ -62,7 +71,7 @@ module _ (c : Coefficients) (z : Zone) where
         hour-demand h
 
     pub hour-step-refusals : RefusesOnly HourRefusal (hourStep c z s bytes)
-    unfolding hourStep hourResult hourMet meetDemand
+    unfolding hourStep
     hour-step-refusals =
         bind-refuses _ hour-tested λ h _.
         bind-refuses _ (hour-demand h) λ d _.
@@ -70,7 +79,7 @@ module _ (c : Coefficients) (z : Zone) where
         accepts _
 
     pub update-refusals : (gains fraction ach : Float) → RefusesOnly UpdateRefusal (updateTemperatures c z s bytes gains fraction ach)
-    unfolding updateTemperatures updateIn
+    unfolding updateTemperatures
     update-refusals gains fraction ach =
         bind-refuses _ (tested-refuses (λ n i p. updateZone p) updateState (λ n i p. updateConditions p) z s bytes) λ h _.
         test-refuses (gainsRange gains && fractionRange fraction && rateRange ach) 9 0 _ updateValues λ _.
@@ -84,7 +93,7 @@ module _ (c : Coefficients) (z : Zone) where
       cond-refuses (close z t t′) (accepts t) (settle-refuses n t′)
 
   pub start-up-refusals : RefusesOnly StartUpRefusal (initNodeTemps c z)
-  unfolding initNodeTemps settleFrom
+  unfolding initNodeTemps
   start-up-refusals =
       bind-refuses _ (refuses-also (λ n i p. startUpZone p) (zone-refusals z)) λ _ _.
       bind-refuses _ (settle-refuses (z .«start_up_limit») (slotsOf z (startState z))) λ t _.

@@ -1,9 +1,13 @@
 -- What an accepted hour step tells of its arguments and of the state after it.
-use Prim.Native.Nat.{ℕ, _+_, _*_, _≤_}
-use mathlib.Core.Path.{_≡_, sym, ap, _∙_}
+use Prim.Native.Nat.{ℕ, _+_, _≤_}
+use mathlib.Core.Path.{_≡_, sym, ap, subst, _∙_}
 use mathlib.Core.List.{List}
 use lib.ListN.{length}
-use Rattle.solver.specs.Result.{ok, bind-ok, ok-inj}
+use lib.Ieee.{Float}
+use Rattle.solver.specs.F64.{_+ᶠ_}
+use Rattle.solver.specs.Result.{ok}
+use Rattle.solver.proofs.Laws.Result.{bind-ok, ok-inj}
+use Rattle.zone.specs.Format.Layout.{conditionsLength}
 use Rattle.zone.specs.declared.record.building_element.Coefficients.{Coefficients}
 use Rattle.zone.specs.declared.format.conditions.Conditions.{Conditions}
 use Rattle.zone.specs.declared.record.zone_record.Zone.{Zone}
@@ -13,42 +17,70 @@ use Rattle.zone.proofs.Claims.Conditions as Conditions
 use Rattle.zone.specs.Physics.System.{zoneTwoNodes}
 use Rattle.zone.specs.Physics.CalcTemperatures.{calcTemperatures}
 use Rattle.zone.proofs.Laws.Nodes.{to-nodes-length}
+use Rattle.zone.specs.declared.physics.balance.HeatBalance.{HeatBalance}
 use Rattle.zone.specs.declared.calls.state.State.{State}
 use Rattle.zone.specs.Calls.State.{zoneAndStateTest, slotsOf, stateOf}
-use Rattle.zone.specs.Hour.Demand.{deltaT, spaceHeatCoolDemand}
-use Rattle.zone.specs.Calls.Hour.{tested, step, delivered, totalGains, convectiveShare, meetDemand, HourResult, hourMet, hourResult, hourStep}
+use Rattle.zone.specs.Hour.Demand.{deltaT, gainsHeatCool, spaceHeatCoolDemand}
+use Rattle.zone.specs.Calls.Hour.{tested, step, delivered, convectiveShare, HourResult, hourStep}
 
-module _ (c : Coefficients) (z : Zone) (s : State) (bytes : List ℕ) (r : HourResult) (e : hourStep c z s bytes ≡ ok r) where
-  -- the conditions that it was made with
-  hour : (h : Conditions) × (tested z s bytes ≡ ok h) × (hourResult c z s h ≡ ok r)
-  unfolding hourStep
-  hour = bind-ok (tested z s bytes) _ r e
+-- the temperatures after an accepted step, and its state
+pub record StepMade (c : Coefficients) (z : Zone) (t : List Float) (h : Conditions) (after : State) : Type 0 where
+  pub gains : Float
+  pub fraction : Float
+  pub ach : Float
+  pub temps : List Float
+  pub solved : calcTemperatures c z t h (deltaT h) gains fraction ach ≡ ok temps
+  pub state : stateOf z temps ≡ after
 
-  -- the conditions had their size: refusal 7
-  pub conditions-length : length bytes ≡ 113 + 41 * z .count
-  unfolding tested
-  conditions-length =
-      let t = bind-ok (zoneAndStateTest z s) _ (hour .0) (hour .1) in
-      Conditions.conditions-length z bytes (hour .0) (t .2)
+-- an accepted hour step: its conditions, its demand and the step that meets it
+pub record HourMade (c : Coefficients) (z : Zone) (s : State) (bytes : List ℕ) (r : HourResult) : Type 0 where
+  pub conditions : Conditions
+  pub tests : tested z s bytes ≡ ok conditions
+  pub answered : spaceHeatCoolDemand c z (slotsOf z s) conditions ≡ ok (r .demand)
+  pub met : StepMade c z (slotsOf z s) conditions (r .state)
 
-  -- the zone was tested: refusal 4
-  pub count-few : z .count ≤ 24
-  unfolding tested zoneAndStateTest
-  count-few =
-      let t = bind-ok (zoneAndStateTest z s) _ (hour .0) (hour .1) in
-      let u = bind-ok (zoneTest z) _ (t .0) (t .1) in
-      zone-count z (u .1) .1
+module _ (c : Coefficients) (z : Zone) (s : State) where
+  pub step-made : (h : Conditions) (gains fraction ach : Float) (r : State × HeatBalance) → step c z s h gains fraction ach ≡ ok r
+      → StepMade c z (slotsOf z s) h (r .0)
+  unfolding step
+  step-made h gains fraction ach r e =
+      let t = bind-ok (calcTemperatures c z (slotsOf z s) h (deltaT h) gains fraction ach) _ r e in
+      record { gains = gains; fraction = fraction; ach = ach; temps = t .0; solved = t .1; state = ap (λ x. x .0) (ok-inj (t .2)) }
 
-  -- the state after the hour is a whole array
-  pub temps-length : length (r .state .temps) ≡ 121
-  unfolding hourResult hourMet meetDemand step stateOf
-  temps-length =
-      let h = hour .0 in
-      let d = bind-ok (spaceHeatCoolDemand c z (slotsOf z s) h) _ r (hour .2) in
-      let m = bind-ok (meetDemand c z s h (d .0)) _ r (d .2) in
-      let w = delivered h (d .0) in
-      let g = totalGains h w in
-      let t = bind-ok (calcTemperatures c z (slotsOf z s) h (deltaT h) g (convectiveShare h w g) (d .0 .«ach_cooling»)) _ (m .0) (m .1) in
-      sym (ap (λ x. length (x .state .temps)) (ok-inj (m .2)))
-      ∙ sym (ap (λ x. length (x .0 .temps)) (ok-inj (t .2)))
-      ∙ to-nodes-length (zoneTwoNodes z) (z .count) (t .0)
+  module _ (bytes : List ℕ) (r : HourResult) (e : hourStep c z s bytes ≡ ok r) where
+    pub hour-made : HourMade c z s bytes r
+    unfolding hourStep
+    hour-made =
+        let h = bind-ok (tested z s bytes) _ r e in
+        let d = bind-ok (spaceHeatCoolDemand c z (slotsOf z s) (h .0)) _ r (h .2) in
+        let w = delivered (h .0) (d .0) in
+        let g = gainsHeatCool (h .0) +ᶠ w in
+        let m = bind-ok (step c z s (h .0) g (convectiveShare (h .0) w g) (d .0 .«ach_cooling»)) _ r (d .2) in
+        record {
+          conditions = h .0;
+          tests = h .1;
+          answered = d .1 ∙ ap (λ x. ok (x .demand)) (ok-inj (m .2));
+          met = subst (StepMade c z (slotsOf z s) (h .0)) (ap (λ x. x .state) (ok-inj (m .2))) (step-made (h .0) g (convectiveShare (h .0) w g) (d .0 .«ach_cooling») (m .0) (m .1));
+        }
+
+    -- the conditions had their size: refusal 7
+    pub conditions-length : length bytes ≡ conditionsLength (z .count)
+    unfolding tested
+    conditions-length =
+        let t = bind-ok (zoneAndStateTest z s) _ (hour-made .conditions) (hour-made .tests) in
+        Conditions.conditions-length z bytes (hour-made .conditions) (t .2)
+
+    -- the zone was tested: refusal 4
+    pub count-few : z .count ≤ 24
+    unfolding tested zoneAndStateTest
+    count-few =
+        let t = bind-ok (zoneAndStateTest z s) _ (hour-made .conditions) (hour-made .tests) in
+        let u = bind-ok (zoneTest z) _ (t .0) (t .1) in
+        zone-count z (u .1) .1
+
+    -- the state after the hour is a whole array
+    pub temps-length : length (r .state .temps) ≡ 121
+    unfolding stateOf
+    temps-length =
+        let t = hour-made .met in
+        sym (ap (λ x. length (x .temps)) (t .state)) ∙ to-nodes-length (zoneTwoNodes z) (z .count) (t .temps)

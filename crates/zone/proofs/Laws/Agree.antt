@@ -9,8 +9,8 @@ use Rattle.solver.specs.Sums.{sum2, terms}
 use Rattle.zone.specs.declared.record.building_element.Element.{Element}
 use Rattle.zone.specs.declared.record.building_element.ElementHour.{ElementHour}
 use Rattle.zone.specs.declared.record.building_element.Coefficients.{Coefficients}
-use Rattle.zone.specs.Physics.Slots.{at, withTerms}
-use Rattle.zone.specs.Physics.Assembly.{hCiAt, shareAt, convectiveAt, Chains, elementRows, couple, coupleRow}
+use Rattle.zone.specs.Physics.Slots.{withTerms}
+use Rattle.zone.specs.Inner.Assembly.{at, hCiBy, shareBy, convectiveBy, Chains, elementRows, couple, coupleRow}
 use Rattle.zone.proofs.Laws.Terms.{each-same, terms-same, terms-at}
 
 abbrev pub Agree : ℕ → (f g : ℕ → Float) → Type 0
@@ -24,13 +24,13 @@ module _ (n : ℕ) (f f' g g' : ℕ → Float) where
   pub agree-trans : Agree n f g → Agree n g g' → Agree n f g'
   agree-trans p q e h = p e h ∙ q e h
 
-  pub shares-agree : (total total' : Float) → Agree n f f' → total ≡ total' → Agree n (shareAt f total) (shareAt f' total')
+  pub shares-agree : (total total' : Float) → Agree n f f' → total ≡ total' → Agree n (shareBy f total) (shareBy f' total')
   shares-agree total total' p q e h = rw (p e h, q) refl
 
-  pub h-ci-agree : (c : Coefficients) (t : List Float) → Agree n f f' → Agree n (hCiAt c f t) (hCiAt c f' t)
+  pub h-ci-agree : (c : Coefficients) (t : List Float) → Agree n f f' → Agree n (hCiBy c f t) (hCiBy c f' t)
   h-ci-agree c t p e h = rw (p e h) refl
 
-  pub convective-agree : Agree n f f' → Agree n g g' → Agree n (convectiveAt f g) (convectiveAt f' g')
+  pub convective-agree : Agree n f f' → Agree n g g' → Agree n (convectiveBy f g) (convectiveBy f' g')
   convective-agree p q e h = rw (p e h, q e h) refl
 
 pub sum2-same : (n : ℕ) (f g : ℕ → Float) → Agree n f g → sum2 (terms 0 n f) ≡ sum2 (terms 0 n g)

@@ -2,6 +2,7 @@
 use Prim.Native.Nat.{ℕ}
 use mathlib.Core.Path.{_≡_, sym, ap, _∙_}
 use native.Mathlib.Omega.{arith}
+use lib.Ieee.{Float}
 use Rattle.solver.specs.Result.{Result, ok, refused}
 use Rattle.zone.specs.declared.record.zone_record.Verdict.the-variants.{Accepted, Refused}
 use Rattle.zone.proofs.Laws.HeadAnswers.{apart, same-refusal}
@@ -11,12 +12,14 @@ use Rattle.zone.specs.declared.calls.state.Demand.{Demand}
 use Rattle.zone.specs.declared.calls.state.DemandAnswer.the-variants as DemandAnswer
 use Rattle.zone.specs.declared.calls.state.UpdateAnswer.the-variants as UpdateAnswer
 use Rattle.zone.specs.declared.calls.state.HourAnswer.the-variants as HourAnswer
+use Rattle.zone.specs.declared.calls.state.OperativeReply.{OperativeReply}
+use Rattle.zone.specs.declared.calls.state.OperativeReply.the-variants as OperativeReply
 use Rattle.zone.specs.declared.calls.state.DemandReply.{DemandReply}
 use Rattle.zone.specs.declared.calls.state.UpdateReply.{UpdateReply}
 use Rattle.zone.specs.declared.calls.state.HourStepReply.{HourStepReply}
 use Rattle.zone.specs.declared.calls.state.StartUp.{StartUp}
 use Rattle.zone.specs.Calls.Hour.{HourResult}
-use Rattle.zone.specs.Calls.Answers.{demandReply, updateReply, hourStepReply, startUpReply}
+use Rattle.zone.specs.Calls.Answers.{operativeReply, demandReply, updateReply, hourStepReply, startUpReply}
 
 pub start-no : (d : Result State) (s : StartUp) → s ≡ startUpReply d → (n j : ℕ) → s .verdict ≡ Refused n j → d ≡ refused n j
 start-no (ok a) s e n j f = apart n j (sym (ap (λ x. x .verdict) e) ∙ f)
@@ -27,6 +30,18 @@ start-yes (ok a) s e f = λ i. ok (sym e i .state)
 start-yes (refused m k) s e f = apart m k (sym f ∙ ap (λ x. x .verdict) e)
 
 -- an answer with its values
+
+pub operative-no : (d : Result Float) (x : OperativeReply) → x ≡ operativeReply d → (n j : ℕ) → x ≡ OperativeReply.Refused n j → d ≡ refused n j
+operative-no (ok a) x e n j f = absurd (let z : _≡_ {A = ℕ} 0 1 = cc in omega arith)
+operative-no (refused m k) x e n j f =
+    let q : OperativeReply.Refused m k ≡ OperativeReply.Refused n j = sym e ∙ f in
+    cc
+
+pub operative-yes : (d : Result Float) (x : OperativeReply) → x ≡ operativeReply d → (a : Float) → x ≡ OperativeReply.Accepted a → d ≡ ok a
+operative-yes (ok b) x e a f =
+    let q : OperativeReply.Accepted b ≡ OperativeReply.Accepted a = sym e ∙ f in
+    cc
+operative-yes (refused m k) x e a f = absurd (let z : _≡_ {A = ℕ} 0 1 = cc in omega arith)
 
 module _ (s : State) where
   pub demand-no : (d : Result Demand) (x : DemandReply) → x ≡ demandReply s d → (n j : ℕ) → x .answer ≡ DemandAnswer.Refused n j → d ≡ refused n j

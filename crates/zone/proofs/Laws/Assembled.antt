@@ -1,4 +1,4 @@
--- What an assembled hour holds of its zone: the total area, and which elements have two nodes; and the control temperature from the areas.
+-- The total area of an assembled hour, and the control temperature from the areas.
 use mathlib.Core.Path.{_≡_, refl, ap, _∙_}
 use mathlib.Core.Bool.{Bool, false}
 use mathlib.Core.List.{List}
@@ -12,14 +12,14 @@ use Rattle.zone.specs.declared.record.zone_record.ZoneTemperatureControl
 use Rattle.zone.specs.declared.format.conditions.Conditions.{Conditions}
 use Rattle.zone.specs.declared.hour.time_step.ZoneTerms.{ZoneTerms}
 use Rattle.zone.specs.Record.BuildingElement.{standardCoefficients}
-use Rattle.zone.specs.Physics.Slots.{at, withTerms}
-use Rattle.zone.specs.Physics.Assembly.{Chains, chains}
-use Rattle.zone.specs.Physics.System.{areaElTotal, twoNodesOf, zoneTwoNodes, elementChains, couplingsOf, elementSides, zoneTermsOf, Assembled, assembled, assembledWith, assemble}
-use Rattle.zone.specs.Physics.CalcTemperatures.{assembleStep}
-use Rattle.zone.specs.Physics.TempOperative.{tempOperativeOf, areasOf}
+use Rattle.zone.specs.Physics.Slots.{withTerms}
+use Rattle.zone.specs.Physics.System.{areaElTotal, twoNodesOf}
+use Rattle.zone.specs.Inner.Assembly.{at, Chains, chains}
+use Rattle.zone.specs.Inner.Assembled.{elementChains, couplingsOf, elementSides, zoneTermsOf, Assembled, assembled, assembledWith, assemble, assembleStep}
+use Rattle.zone.specs.Inner.Operative.{tempOperativeOf, areasOf}
 use Rattle.zone.proofs.Laws.Zones.{operative-is}
 use Rattle.zone.specs.Hour.Demand.{deltaT, controlTemperature}
-use Rattle.zone.specs.Hour.Solves.{hourSystem}
+use Rattle.zone.specs.Inner.Solves.{hourSystem}
 use Rattle.zone.proofs.Laws.Ventilation.{control-operative}
 
 abbrev totalIn : Assembled → Float
@@ -27,12 +27,6 @@ totalIn (assembled s twoNodes diag next prev dense b) = s .«area_el_total»
 
 total-with : (s : ZoneTerms) (twoNodes : List Bool) (c : Chains) (dense b : List Float) → totalIn (assembledWith s twoNodes c dense b) ≡ s .«area_el_total»
 total-with s twoNodes (chains diag next prev) dense b = refl
-
-abbrev twoNodesIn : Assembled → List Bool
-twoNodesIn (assembled s twoNodes diag next prev dense b) = twoNodes
-
-two-nodes-with : (s : ZoneTerms) (twoNodes : List Bool) (c : Chains) (dense b : List Float) → twoNodesIn (assembledWith s twoNodes c dense b) ≡ twoNodes
-two-nodes-with s twoNodes (chains diag next prev) dense b = refl
 
 module _ (c : Coefficients) (z : Zone) (hour : Conditions) (dt : Float) (t : List Float) (twoNodes : List Bool) (s : Chains) (dense b : List Float) where
   total-assembled : totalIn (assemble c z hour dt t twoNodes s dense b) ≡ areaElTotal (atMost24 (z .count)) (z .«building_elements»)
@@ -42,22 +36,11 @@ module _ (c : Coefficients) (z : Zone) (hour : Conditions) (dt : Float) (t : Lis
       let es = z .«building_elements» in
       total-with (zoneTermsOf c z hour dt t) (withTerms n (twoNodesOf es) twoNodes) (elementChains c n es (hour .elements) dt t s) (couplingsOf c n es t dense) (elementSides n es (hour .elements) dt t b)
 
-  two-nodes-assembled : twoNodesIn (assemble c z hour dt t twoNodes s dense b) ≡ withTerms (atMost24 (z .count)) (twoNodesOf (z .«building_elements»)) twoNodes
-  unfolding assemble
-  two-nodes-assembled =
-      let n = atMost24 (z .count) in
-      let es = z .«building_elements» in
-      two-nodes-with (zoneTermsOf c z hour dt t) (withTerms n (twoNodesOf es) twoNodes) (elementChains c n es (hour .elements) dt t s) (couplingsOf c n es t dense) (elementSides n es (hour .elements) dt t b)
-
 module _ (z : Zone) (t : List Float) (h : Conditions) (s : ZoneTerms) (twoNodes : List Bool) (diag next prev dense b : List Float)
     (system : assembled s twoNodes diag next prev dense b ≡ hourSystem z t h) where
   pub total-of : s .«area_el_total» ≡ areaElTotal (atMost24 (z .count)) (z .«building_elements»)
   unfolding hourSystem assembleStep
   total-of = ap totalIn system ∙ total-assembled standardCoefficients z h (deltaT h) t (replicate 24 false) (chains (replicate 120 zero64) (replicate 120 zero64) (replicate 120 zero64)) (replicate 625 zero64) (replicate 121 zero64)
-
-  pub two-nodes-of : twoNodes ≡ zoneTwoNodes z
-  unfolding hourSystem assembleStep zoneTwoNodes
-  two-nodes-of = ap twoNodesIn system ∙ two-nodes-assembled standardCoefficients z h (deltaT h) t (replicate 24 false) (chains (replicate 120 zero64) (replicate 120 zero64) (replicate 120 zero64)) (replicate 625 zero64) (replicate 121 zero64)
 
 -- of a zone held by its operative temperature
 pub control-by-areas : (z : Zone) (area : List Float) (total : Float) (t : List Float) →

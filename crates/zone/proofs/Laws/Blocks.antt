@@ -8,27 +8,27 @@ use native.Mathlib.Omega.{arith}
 use lib.ListN.{length, getD, length-set}
 use lib.Ieee.{Float, nan}
 use Rattle.solver.specs.Each.{eachOf}
-use Rattle.zone.specs.Physics.Packing.{move, moveAll}
+use Rattle.zone.specs.Physics.NodeLayout.{move, copyNodes}
 use Rattle.zone.proofs.Laws.Terms.{each-length, store-other, store-at}
 
 module _ (k from to : ℕ) (a : List Float) where
-  move-other : (b : List Float) (q : ℕ) → ((j : ℕ) → j < k → q ≡ to + j → ⊥) → getD (moveAll k from to a b) q nan ≡ getD b q nan
-  unfolding moveAll
+  move-other : (b : List Float) (q : ℕ) → ((j : ℕ) → j < k → q ≡ to + j → ⊥) → getD (copyNodes k from to a b) q nan ≡ getD b q nan
+  unfolding copyNodes
   move-other b q h =
       store-other (λ (j : ℕ). to + j) (λ (j : ℕ). getD a (from + j) nan) nan (k - 0) 0 b q (λ j i l e. h j (omega arith) e)
 
-  move-at : (b : List Float) (j : ℕ) → j < k → to + j < length b → getD (moveAll k from to a b) (to + j) nan ≡ getD a (from + j) nan
-  unfolding moveAll
+  move-at : (b : List Float) (j : ℕ) → j < k → to + j < length b → getD (copyNodes k from to a b) (to + j) nan ≡ getD a (from + j) nan
+  unfolding copyNodes
   move-at b j h hb =
       store-at (λ (j : ℕ). to + j) (λ (j : ℕ). getD a (from + j) nan) nan (k - 0) 0 b j (omega arith) (omega arith) hb (λ m l e. omega arith)
 
-  move-length : (b : List Float) → length (moveAll k from to a b) ≡ length b
-  unfolding moveAll
+  move-length : (b : List Float) → length (copyNodes k from to a b) ≡ length b
+  unfolding copyNodes
   move-length b = each-length (move from to a) (λ j l. length-set l (to + j) (getD a (from + j) nan)) (k - 0) 0 b
 
 module _ (k src dst : ℕ → ℕ) (a : List Float) where
   abbrev pub block : ℕ → List Float → List Float
-  block e b = moveAll (k e) (src e) (dst e) a b
+  block e b = copyNodes (k e) (src e) (dst e) a b
 
   pub blocks-length : (m i : ℕ) (b : List Float) → length (eachOf m i block b) ≡ length b
   blocks-length m i b = each-length block (λ e l. move-length (k e) (src e) (dst e) a l) m i b

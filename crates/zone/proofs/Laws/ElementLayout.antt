@@ -6,12 +6,14 @@ use native.Mathlib.Omega.{arith}
 use borrow.Author.Tests.{leb-true}
 use lib.Dec.{leb}
 use Rattle.solver.proofs.Laws.Tests.{and-true}
-use Rattle.zone.specs.Record.BuildingElement.{isTwoNodes}
-use Rattle.zone.specs.Format.ElementLayout.{kCount, hCount, kindOf, kindValid, maxTreatments, elementSize}
+use Rattle.zone.specs.Format.Layout.{elementArrays, elementHourSize}
+use Rattle.zone.specs.Record.BuildingElement.{isTwoNodes, numberOfNodes}
+use Rattle.zone.specs.Format.ElementLayout.{hCount, kindOf, maxTreatments, elementSize}
+use Rattle.zone.specs.Inner.Format.{kindValid}
 use Rattle.zone.specs.declared.record.building_element.Kind.{Kind}
 
 pub record Shaped (size t kc hc : ℕ) : Type 0 where
-  pub sized : size ≡ 99 + 8 * kc + 8 * hc + 8 * t
+  pub sized : size ≡ elementArrays + 8 * kc + 8 * hc + 8 * t + elementHourSize
   pub few-k : kc ≤ 5
   pub few-h : hc ≤ 4
   pub few-t : t ≤ 4
@@ -21,7 +23,8 @@ shaped-by true t e = record { sized = omega arith; few-k = omega arith; few-h = 
 shaped-by false t e = record { sized = omega arith; few-k = omega arith; few-h = omega arith; few-t = omega arith }
 
 -- of a kind with no more treatments than it has
-pub shaped : (k : Kind) (t : ℕ) → t ≤ maxTreatments k → Shaped (elementSize k t) t (kCount k) (hCount k)
+pub shaped : (k : Kind) (t : ℕ) → t ≤ maxTreatments k → Shaped (elementSize k t) t (numberOfNodes k) (hCount k)
+unfolding numberOfNodes
 shaped k t e = shaped-by (isTwoNodes k) t e
 
 pub treatments-few : (k t : ℕ) → kindValid k t ≡ true → t ≤ maxTreatments (kindOf k)

@@ -13,7 +13,7 @@ module _ (s : List ℕ) where
   head-wrong a b e = rw e
 
   module _ (n : ℕ) (e : structureOf s ≡ ok n) where
-    pub head-accepted : valuesTest (zoneAt s) ≡ ok tt → headOf s ≡ ok (zoneAt s, n)
+    pub head-accepted : valuesTest (zoneAt s) ≡ ok tt → headOf s ≡ ok (record { zone = zoneAt s; length = n })
     unfolding headOf
     head-accepted v = rw (e, v)
 

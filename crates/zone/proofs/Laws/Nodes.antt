@@ -14,17 +14,23 @@ use lib.Ieee.{Float, nan}
 use borrow.Author.Tests.{ltb-true, ltb-false}
 use Rattle.solver.specs.F64.{zero64}
 use Rattle.solver.specs.Each.{each}
+use Rattle.solver.specs.Chain.{outerSlot}
 use Rattle.solver.specs.FastSolver.{atMost24}
-use Rattle.zone.specs.Physics.Packing.{nodesOf, nodesAt, firstNode, firstSlot, toSlotsAt, toNodesAt, toSlots, toNodes}
+use Rattle.zone.specs.Physics.NodeLayout.{nodesAt, firstNode, toSlotsAt, toNodesAt, toSlots, toNodes}
 use Rattle.zone.proofs.Laws.Blocks.{blocks-length, blocks-other, blocks-at, apart}
 
 pub first-next : (twoNodes : List Bool) (e : ℕ) → firstNode twoNodes (e + 1) ≡ firstNode twoNodes e + nodesAt twoNodes e
 unfolding firstNode
 first-next twoNodes e = rw (add-one e) refl
 
-nodes-of-le : (b : Bool) → nodesOf b ≤ 5
-nodes-of-le true = omega arith
-nodes-of-le false = omega arith
+-- two or five nodes, in the last slots of an element
+nodes-by : (e : ℕ) (b : Bool) → 5 * e + 5 - (5 * e + cond b 3 0) ≡ cond b 2 5
+nodes-by e true = omega arith
+nodes-by e false = omega arith
+
+slot-by : (e : ℕ) (b : Bool) → 5 * e + cond b 3 0 ≤ 5 * e + 3
+slot-by e true = omega arith
+slot-by e false = omega arith
 
 at-most-le : (n : ℕ) (b : Bool) → ltb 24 n ≡ b → cond b 24 n ≤ 24
 at-most-le n true h = omega arith
@@ -46,8 +52,14 @@ zeros-at (suc n) zero h = refl
 zeros-at (suc n) (suc q) h = zeros-at n q (omega arith)
 
 module _ (twoNodes : List Bool) where
+  pub nodes-are : (e : ℕ) → nodesAt twoNodes e ≡ cond (getD twoNodes e false) 2 5
+  nodes-are e = nodes-by e (getD twoNodes e false)
+
+  slot-le : (e : ℕ) → outerSlot twoNodes e ≤ 5 * e + 3
+  slot-le e = slot-by e (getD twoNodes e false)
+
   pub nodes-le : (e : ℕ) → nodesAt twoNodes e ≤ 5
-  nodes-le e = nodes-of-le (getD twoNodes e false)
+  nodes-le e = omega arith
 
   pub first-le : (e : ℕ) → firstNode twoNodes e ≤ 5 * e
   unfolding firstNode
@@ -57,10 +69,13 @@ module _ (twoNodes : List Bool) where
       let k = nodes-le e in
       omega arith
 
-  slots-up : (e : ℕ) → firstSlot twoNodes e + nodesAt twoNodes e ≤ firstSlot twoNodes (suc e)
+  -- the code's place of an outer surface
+  pub slot-is : (e k : ℕ) → k ≡ nodesAt twoNodes e → 5 * e + 5 - k ≡ outerSlot twoNodes e
+  slot-is e k h = let l = slot-le e in omega arith
+
+  slots-up : (e : ℕ) → outerSlot twoNodes e + nodesAt twoNodes e ≤ outerSlot twoNodes (suc e)
   slots-up e =
-      let h = nodes-le e in
-      let k = nodes-le (suc e) in
+      let h = slot-le e in
       omega arith
 
   nodes-up : (e : ℕ) → firstNode twoNodes e + nodesAt twoNodes e ≤ firstNode twoNodes (suc e)
@@ -81,15 +96,15 @@ module _ (twoNodes : List Bool) where
   module _ (count : ℕ) where
     -- where the nodes stand once they are in slots
     pub to-slots-at : (t : List Float) (e j : ℕ) → e < atMost24 count → j < nodesAt twoNodes e
-        → getD (toSlots count twoNodes t) (firstSlot twoNodes e + j) nan ≡ getD t (firstNode twoNodes e + j) nan
+        → getD (toSlots count twoNodes t) (outerSlot twoNodes e + j) nan ≡ getD t (firstNode twoNodes e + j) nan
     unfolding toSlots
     to-slots-at t e j he hj =
         let n = atMost24 count in
         let small = at-most-24-le count in
-        let k = nodes-le e in
+        let k = slot-le e in
         let all = each 0 n (toSlotsAt twoNodes t) (replicate 121 zero64) in
-        getD-set-other all 120 (firstSlot twoNodes e + j) (getD t (firstNode twoNodes n) nan) nan (λ z. omega arith)
-        ∙ blocks-at (nodesAt twoNodes) (firstNode twoNodes) (firstSlot twoNodes) t slots-up (n - 0) 0 (replicate 121 zero64) e j
+        getD-set-other all 120 (outerSlot twoNodes e + j) (getD t (firstNode twoNodes n) nan) nan (λ z. omega arith)
+        ∙ blocks-at (nodesAt twoNodes) (firstNode twoNodes) (outerSlot twoNodes) t slots-up (n - 0) 0 (replicate 121 zero64) e j
         (omega arith) (omega arith) hj (simp length-replicate (omega arith))
 
     pub to-slots-air : (t : List Float) → getD (toSlots count twoNodes t) 120 nan ≡ getD t (firstNode twoNodes (atMost24 count)) nan
@@ -97,12 +112,12 @@ module _ (twoNodes : List Bool) where
     to-slots-air t =
         let n = atMost24 count in
         let same : length (each 0 n (toSlotsAt twoNodes t) (replicate 121 zero64)) ≡ 121 =
-        blocks-length (nodesAt twoNodes) (firstNode twoNodes) (firstSlot twoNodes) t (n - 0) 0 (replicate 121 zero64) ∙ length-replicate 121 zero64 in
+        blocks-length (nodesAt twoNodes) (firstNode twoNodes) (outerSlot twoNodes) t (n - 0) 0 (replicate 121 zero64) ∙ length-replicate 121 zero64 in
         getD-set-same (each 0 n (toSlotsAt twoNodes t) (replicate 121 zero64)) 120 (getD t (firstNode twoNodes n) nan) nan (omega arith)
 
     -- and back
     pub to-nodes-at : (s : List Float) (e j : ℕ) → e < atMost24 count → j < nodesAt twoNodes e
-        → getD (toNodes count twoNodes s) (firstNode twoNodes e + j) nan ≡ getD s (firstSlot twoNodes e + j) nan
+        → getD (toNodes count twoNodes s) (firstNode twoNodes e + j) nan ≡ getD s (outerSlot twoNodes e + j) nan
     unfolding toNodes
     to-nodes-at s e j he hj =
         let n = atMost24 count in
@@ -110,14 +125,14 @@ module _ (twoNodes : List Bool) where
         let k = nodes-le e in
         let f = first-le e in
         let before : firstNode twoNodes e + nodesAt twoNodes e ≤ firstNode twoNodes n =
-        apart (nodesAt twoNodes) (firstSlot twoNodes) (firstNode twoNodes) s nodes-up e n he in
+        apart (nodesAt twoNodes) (outerSlot twoNodes) (firstNode twoNodes) s nodes-up e n he in
         getD-set-other (each 0 n (toNodesAt twoNodes s) (replicate 121 zero64)) (firstNode twoNodes n) (firstNode twoNodes e + j) (getD s 120 nan) nan (λ z. omega arith)
-        ∙ blocks-at (nodesAt twoNodes) (firstSlot twoNodes) (firstNode twoNodes) s nodes-up (n - 0) 0 (replicate 121 zero64) e j
+        ∙ blocks-at (nodesAt twoNodes) (outerSlot twoNodes) (firstNode twoNodes) s nodes-up (n - 0) 0 (replicate 121 zero64) e j
         (omega arith) (omega arith) hj (simp length-replicate (omega arith))
 
     nodes-length : (s : List Float) → length (each 0 (atMost24 count) (toNodesAt twoNodes s) (replicate 121 zero64)) ≡ 121
     nodes-length s =
-        blocks-length (nodesAt twoNodes) (firstSlot twoNodes) (firstNode twoNodes) s (atMost24 count - 0) 0 (replicate 121 zero64)
+        blocks-length (nodesAt twoNodes) (outerSlot twoNodes) (firstNode twoNodes) s (atMost24 count - 0) 0 (replicate 121 zero64)
         ∙ length-replicate 121 zero64
 
     pub to-nodes-air : (s : List Float) → getD (toNodes count twoNodes s) (firstNode twoNodes (atMost24 count)) nan ≡ getD s 120 nan
@@ -139,10 +154,10 @@ module _ (twoNodes : List Bool) where
     to-nodes-behind s q h hq =
         let n = atMost24 count in
         getD-set-other (each 0 n (toNodesAt twoNodes s) (replicate 121 zero64)) (firstNode twoNodes n) q (getD s 120 nan) nan (λ z. omega arith)
-        ∙ blocks-other (nodesAt twoNodes) (firstSlot twoNodes) (firstNode twoNodes) s (n - 0) 0 (replicate 121 zero64) q
+        ∙ blocks-other (nodesAt twoNodes) (outerSlot twoNodes) (firstNode twoNodes) s (n - 0) 0 (replicate 121 zero64) q
         (λ e l l' j hj z.
         let before : firstNode twoNodes e + nodesAt twoNodes e ≤ firstNode twoNodes n =
-        apart (nodesAt twoNodes) (firstSlot twoNodes) (firstNode twoNodes) s nodes-up e n (omega arith) in
+        apart (nodesAt twoNodes) (outerSlot twoNodes) (firstNode twoNodes) s nodes-up e n (omega arith) in
         omega arith)
         ∙ zeros-at 121 q hq
 
@@ -174,7 +189,7 @@ module _ (twoNodes : List Bool) where
 
     -- slots to node order and back gives the temperature of each slot that a node has
     pub slots-again : (s : List Float) (e j : ℕ) → e < atMost24 count → j < nodesAt twoNodes e
-        → getD (toSlots count twoNodes (toNodes count twoNodes s)) (firstSlot twoNodes e + j) nan ≡ getD s (firstSlot twoNodes e + j) nan
+        → getD (toSlots count twoNodes (toNodes count twoNodes s)) (outerSlot twoNodes e + j) nan ≡ getD s (outerSlot twoNodes e + j) nan
     slots-again s e j he hj = to-slots-at (toNodes count twoNodes s) e j he hj ∙ to-nodes-at s e j he hj
 
     pub slots-again-air : (s : List Float) → getD (toSlots count twoNodes (toNodes count twoNodes s)) 120 nan ≡ getD s 120 nan

@@ -5,16 +5,16 @@ use mathlib.Core.Bool.{Bool, true, false, _&&_}
 use mathlib.Core.List.{List}
 use native.Mathlib.Omega.{arith}
 use native.Mathlib.Nat.{mod-eq-of-lt, one-mul}
-use borrow.Author.Tests.{le-leb, lt-leb, leb-true}
+use borrow.Author.Tests.{leb-true}
 use lib.Pow.{pow-mono}
 use lib.Dec.{leb}
 use lib.ListN.{length, take, drop, getD}
 use lib.Ieee.{Float, nan}
-use Rattle.solver.specs.Result.{Result, ok, refused, bind-ok, requireAt, require-ok}
-use Rattle.zone.specs.Format.ElementLayout.{maxTreatments}
+use Rattle.solver.specs.Result.{Result, ok, refused, require}
+use Rattle.solver.proofs.Laws.Result.{bind-ok, require-ok}
+use Rattle.zone.specs.Record.Numbers.{structure}
 use Rattle.zone.specs.Check.Ranges.{allIn}
-use Rattle.zone.specs.Check.ZoneTest.{elementInRange, elementValuesTest, treatmentsTest, countsTest, verdictOf}
-use Rattle.zone.specs.declared.record.building_element.Element.{Element}
+use Rattle.zone.specs.Check.ZoneTest.{countValid, countsTest, verdictOf}
 use Rattle.zone.specs.declared.record.zone_record.Zone.{Zone}
 use Rattle.zone.specs.declared.record.zone_record.Verdict.the-variants.{Accepted, Refused}
 use Rattle.zone.proofs.Laws.Lists.{from}
@@ -38,23 +38,6 @@ small-power t h =
 pub byte-below : (b t : ℕ) → b < 256 → 8 ≤ t → b < 2 ^ t
 byte-below b t h r = omega (arith, pow-mono {i = 8} {j = t} r)
 
-module _ (es : List Element) (d : Element) (i n : ℕ) (h : i < n) (r : n ≤ length es) where
-  pub element-out : elementInRange (getD es i d) ≡ false → elementValuesTest (drop i (take n es)) (i + 1) ≡ refused 5 (i + 1)
-  unfolding elementValuesTest
-  element-out e = rw (from es i n d h r, e)
-
-  pub element-in : elementInRange (getD es i d) ≡ true → elementValuesTest (drop i (take n es)) (i + 1) ≡ elementValuesTest (drop (i + 1) (take n es)) (i + 1 + 1)
-  unfolding elementValuesTest
-  element-in e = rw (from es i n d h r, e)
-
-  pub many : maxTreatments (getD es i d .kind) < getD es i d .treatments → treatmentsTest (drop i (take n es)) (i + 1) ≡ refused 4 (i + 1)
-  unfolding treatmentsTest
-  many e = rw (from es i n d h r, lt-leb (getD es i d .treatments) (maxTreatments (getD es i d .kind)) e)
-
-  pub few : getD es i d .treatments ≤ maxTreatments (getD es i d .kind) → treatmentsTest (drop i (take n es)) (i + 1) ≡ treatmentsTest (drop (i + 1) (take n es)) (i + 1 + 1)
-  unfolding treatmentsTest
-  few e = rw (from es i n d h r, le-leb (getD es i d .treatments) (maxTreatments (getD es i d .kind)) e)
-
 -- what a verdict tells of the test that gave it
 pub verdict-accepted : (r : Result (Unit {0})) → verdictOf r ≡ Accepted → r ≡ ok tt
 verdict-accepted (ok tt) e = refl
@@ -71,5 +54,5 @@ count-few a n e = leb-true n 24 (and-true a (leb n 24) e .1)
 pub counts-few : (z : Zone) → countsTest z ≡ ok tt → z .count ≤ 24
 unfolding countsTest
 counts-few z e =
-    let b = bind-ok (requireAt (leb 1 (z .count) && leb (z .count) 24) 4 0) _ tt e in
-    count-few (leb 1 (z .count)) (z .count) (require-ok (leb 1 (z .count) && leb (z .count) 24) 4 0 (b .0) (b .1))
+    let b = bind-ok (require (countValid (z .count)) structure) _ tt e in
+    count-few (leb 1 (z .count)) (z .count) (require-ok (countValid (z .count)) structure 0 (b .0) (b .1))

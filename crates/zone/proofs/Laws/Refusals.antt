@@ -1,7 +1,8 @@
--- What the tests, a demand and a pass of start-up are refused with: by every family that allows what they are made of.
+-- Why a solve and a demand are refused; and what the tests, a demand, a step and a pass of start-up are refused with, by every family that allows
+-- what they are made of.
 use Prim.Native.Nat.{ℕ, _*_}
 use mathlib.Core.Path.{_≡_, refl, sym, _∙_}
-use mathlib.Core.Bool.{Bool, true, false, not, _&&_}
+use mathlib.Core.Bool.{Bool, true, false, cond, not, _&&_}
 use mathlib.Core.List.{List}
 use native.Mathlib.Omega.{arith}
 use borrow.Author.Tests.{le-ltb}
@@ -10,10 +11,11 @@ use lib.ListN.{take}
 use lib.Ieee.{Float, nan, inf, fin, up, down, ne, lt}
 use Rattle.solver.specs.F64.{_-ᶠ_, zero64}
 use Rattle.solver.specs.Closeness.{closeInDemand}
-use Rattle.solver.specs.Result.{Result, bind, require}
-use Rattle.solver.specs.Refusals.{RefusesOnly, accepts, refuses, SolveRefusal}
+use Rattle.solver.specs.FastSolver.{divisible, temperaturesOf, bounded, solve}
+use Rattle.solver.specs.Result.{Result, ok, bind, require, requireAt}
+use Rattle.solver.specs.Refusals.{RefusesOnly, accepts, refuses, SolveRefusal, divisor, temperature}
 use Rattle.solver.proofs.Laws.Signs.{never}
-use Rattle.solver.proofs.Laws.Refusals.{bind-refuses, cond-refuses, require-refuses, test-refuses, refuses-also}
+use Rattle.solver.proofs.Laws.Refusals.{bind-refuses, require-refuses, refuses-also}
 use Rattle.zone.specs.declared.record.building_element.Coefficients.{Coefficients}
 use Rattle.zone.specs.declared.record.zone_record.Zone.{Zone}
 use Rattle.zone.specs.declared.format.conditions.Conditions.{Conditions}
@@ -23,112 +25,128 @@ use Rattle.zone.specs.Record.BuildingElement.{nodeCount}
 use Rattle.zone.specs.Claims.HeadRefusals.{ZoneRefusal, ConditionsRefusal}
 use Rattle.zone.proofs.Claims.HeadRefusals.{zone-refusals, conditions-refusals}
 use Rattle.zone.specs.Physics.CalcTemperatures.{calcTemperatures}
-use Rattle.zone.proofs.Laws.SolveRefusals.{calc-refuses}
 use Rattle.zone.specs.declared.calls.state.State.{State}
-use Rattle.zone.specs.declared.calls.state.AchToTriggerHeating.{AchToTriggerHeating}
-use Rattle.zone.specs.declared.hour.windows.ZoneTemperatures.{ZoneTemperatures}
-use Rattle.zone.specs.declared.hour.windows.Ventilated.{Ventilated}
-use Rattle.zone.specs.declared.hour.load.Wanted.{Wanted}
-use Rattle.zone.specs.declared.hour.load.Wanted.the-variants.{Neither, Towards}
+use Rattle.zone.specs.declared.hour.windows.VentilationChoice.{VentilationChoice}
+use Rattle.zone.specs.declared.hour.load.HeatCoolLoad.{HeatCoolLoad}
+use Rattle.zone.specs.declared.hour.load.HeatCoolLoad.the-variants.{NoLoad, Toward}
 use Rattle.zone.specs.Calls.State.{allWithinStateBound, stateTest, zoneAndStateTest, slotsOf}
 use Rattle.zone.specs.Calls.Hour.{tested, step}
-use Rattle.zone.specs.Hour.Demand.{
-  windowsCool,
-  interpHeatCoolDemand,
-  zoneTemperatures,
-  coolByWindows,
-  withChoice,
-  chooseRate,
-  calcCoolingPotentialFromVentilation,
-  loadedDemand,
-  demandTowards,
-  demandFrom,
-  spaceHeatCoolDemand,
-}
+use Rattle.zone.specs.Physics.Slots.{air}
+use Rattle.zone.specs.Hour.Demand.{deltaT, controlTemperature, achTarget, wanted, interpHeatCoolDemand, temperaturesWith, freeTemperatures, calcCoolingPotentialFromVentilation, demandForLoad, spaceHeatCoolDemand}
+use Rattle.zone.specs.Claims.Reasons.{stepMatrix, stepRightSide, SolveReason, divisorAt, temperatureAt, Tried, DemandSolve, atTarget, atOpen, between, loaded, DemandReason, coolingBelow, ventilationBelow, inSolve, withoutEffect}
 use Rattle.zone.specs.Calls.StartUp.{startUpConditions, pass}
 
 module _ {P : ℕ → ℕ → Type 0} where
-  -- the zone's 4, 5, the state's 6, the conditions' 7, 8, 9
+  -- the zone's 4, 5, the state's 6
+  pub before-refuses : ((n i : ℕ) → ZoneRefusal n i → P n i) → P 6 0 → (z : Zone) (s : State) → RefusesOnly P (zoneAndStateTest z s)
+  unfolding zoneAndStateTest stateTest
+  before-refuses zone six z s =
+      bind-refuses _ (refuses-also zone (zone-refusals z)) λ _ _.
+      require-refuses (eqb (s .nodes) (nodeCount z) && allWithinStateBound (take (s .nodes) (s .temps))) 6 0 six
+
+  -- and the conditions' 7, 8, 9
   pub tested-refuses :
       ((n i : ℕ) → ZoneRefusal n i → P n i) → P 6 0 → ((n i : ℕ) → ConditionsRefusal n i → P n i)
       → (z : Zone) (s : State) (bytes : List ℕ) → RefusesOnly P (tested z s bytes)
-  unfolding tested zoneAndStateTest stateTest
+  unfolding tested
   tested-refuses zone six conditions z s bytes =
-      bind-refuses _
-      (bind-refuses _ (refuses-also zone (zone-refusals z)) λ _ _.
-      require-refuses (eqb (s .nodes) (nodeCount z) && allWithinStateBound (take (s .nodes) (s .temps))) 6 0 six) λ _ _.
+      bind-refuses _ (before-refuses zone six z s) λ _ _.
       refuses-also conditions (conditions-refusals z bytes)
 
--- a test that has to fail
+-- a test that has to fail, and what comes after it, where it fails
 unless-refuses :
-    {P : ℕ → ℕ → Type 0} {B : Type 0} (test : Bool) (number : ℕ) (f : Unit {0} → Result B) → (test ≡ true → P number 0) → RefusesOnly P (f tt)
-    → RefusesOnly P (bind (require (not test) number) f)
+    {P : ℕ → ℕ → Type 0} {B : Type 0} (test : Bool) (number : ℕ) (f : Unit {0} → Result B) → (test ≡ true → P number 0)
+    → (test ≡ false → RefusesOnly P (f tt)) → RefusesOnly P (bind (require (not test) number) f)
 unless-refuses true number f p q = refuses (p refl)
-unless-refuses false number f p q = q
+unless-refuses false number f p q = q refl
 
-module _ {P : ℕ → ℕ → Type 0} (solve : (n i : ℕ) → SolveRefusal n i → P n i) (c : Coefficients) (z : Zone) (t : List Float) (h : Conditions) where
-  pub solve-refuses : (dt gains fraction ach : Float) → RefusesOnly P (calcTemperatures c z t h dt gains fraction ach)
-  solve-refuses dt gains fraction ach = refuses-also solve (calc-refuses c z t h dt gains fraction ach)
+-- a test that has to hold, and what comes after it, where it holds
+pub because :
+    {P : ℕ → ℕ → Type 0} {B : Type 0} (test : Bool) (number index : ℕ) (f : Unit {0} → Result B) → (test ≡ false → P number index)
+    → (test ≡ true → RefusesOnly P (f tt)) → RefusesOnly P (bind (requireAt test number index) f)
+because true number index f p q = q refl
+because false number index f p q = refuses (p refl)
 
-  cool-refuses : (target tempFree ach : Float) (trigger : AchToTriggerHeating) → RefusesOnly P (coolByWindows c z t h target tempFree ach trigger)
-  unfolding coolByWindows
-  cool-refuses target tempFree ach trigger = bind-refuses _ (solve-refuses _ _ _ ach) λ extra _. accepts _
+-- a choice: its first part starts where the test holds, its second where it fails
+pub choice-refuses :
+    {P : ℕ → ℕ → Type 0} {A : Type 0} (test : Bool) {x y : Result A} → (test ≡ true → RefusesOnly P x) → (test ≡ false → RefusesOnly P y)
+    → RefusesOnly P (cond test x y)
+choice-refuses true p q = p refl
+choice-refuses false p q = q refl
 
-  choice-refuses : (target windows : Float) (free ventMax : ZoneTemperatures) → RefusesOnly P (withChoice c z t h target windows free ventMax)
-  unfolding withChoice
-  choice-refuses target windows free ventMax = cond-refuses (windowsCool h free ventMax) (cool-refuses target _ _ _) (accepts _)
+-- ---- why
 
-  choose-refuses : (target windows : Float) (free : ZoneTemperatures) → RefusesOnly P (chooseRate c z t h target windows free)
-  unfolding chooseRate
-  choose-refuses target windows free = bind-refuses _ (solve-refuses _ _ _ windows) λ ventMax _. choice-refuses target windows free _
-
-  potential-refuses : (free : ZoneTemperatures) (a : AirChangesPerHourArgument) → RefusesOnly P (calcCoolingPotentialFromVentilation c z t h free a)
-  unfolding calcCoolingPotentialFromVentilation
-  potential-refuses free (Cooling ach) = accepts _
-  potential-refuses free (TargetAndWindowsOpen target windows) = cond-refuses (ne windows target) (choose-refuses target windows free) (accepts _)
-
-  module _ (fourteen : P 14 0) where
-    interpolation-refuses : (dt setpoint load free upper : Float) → RefusesOnly P (interpHeatCoolDemand dt setpoint load free upper)
-    unfolding interpHeatCoolDemand
-    interpolation-refuses dt setpoint load free upper =
-        test-refuses (not (closeInDemand (upper -ᶠ free) zero64)) 14 0 _ fourteen λ _.
-        accepts _
-
-    loaded-refuses : (v : Ventilated) (setpoint load fraction : Float) → RefusesOnly P (loadedDemand c z t h v setpoint load fraction)
-    unfolding loadedDemand
-    loaded-refuses v setpoint load fraction =
-        bind-refuses _ (solve-refuses _ _ _ _) λ upper _.
-        bind-refuses _ (interpolation-refuses _ _ _ _ _) λ kWh _.
-        accepts _
-
-    towards-refuses : (v : Ventilated) (w : Wanted) → RefusesOnly P (demandTowards c z t h v w)
-    unfolding demandTowards
-    towards-refuses v Neither = accepts _
-    towards-refuses v (Towards setpoint load fraction) = loaded-refuses v setpoint load fraction
-
-    from-refuses : (free : ZoneTemperatures) → RefusesOnly P (demandFrom c z t h free)
-    unfolding demandFrom
-    from-refuses free =
-        bind-refuses _ (potential-refuses free (h .«ach_args»)) λ v _.
-        towards-refuses v _
-
-    -- 10, where it can be, 11, then 12, 13, 14
-    pub demand-refuses : (lt (h .«temp_setpnt_cool») (h .«temp_setpnt_heat») ≡ true → P 10 0) → P 11 0 → RefusesOnly P (spaceHeatCoolDemand c z t h)
-    unfolding spaceHeatCoolDemand
-    demand-refuses ten eleven =
-        unless-refuses (lt (h .«temp_setpnt_cool») (h .«temp_setpnt_heat»)) 10 _ ten
-        (test-refuses (not (lt (h .«temp_setpnt_cool_vent») (h .«temp_setpnt_heat»))) 11 0 _ eleven λ _.
-        bind-refuses _ (solve-refuses _ _ _ _) λ free _.
-        from-refuses (zoneTemperatures z free))
-
--- one time step
-pub step-refuses :
-    {P : ℕ → ℕ → Type 0} (solve : (n i : ℕ) → SolveRefusal n i → P n i) (c : Coefficients) (z : Zone) (s : State) (h : Conditions)
-    (gains fraction ach : Float) → RefusesOnly P (step c z s h gains fraction ach)
-unfolding step
-step-refuses solve c z s h gains fraction ach =
-    bind-refuses _ (solve-refuses solve c z (slotsOf z s) h _ gains fraction ach) λ t _.
+pub solve-reasons : (c : Coefficients) (z : Zone) (t : List Float) (h : Conditions) (gains fraction ach : Float)
+    → RefusesOnly (SolveReason c z t h gains fraction ach) (calcTemperatures c z t h (deltaT h) gains fraction ach)
+unfolding calcTemperatures solve
+solve-reasons c z t h gains fraction ach =
+    let a = stepMatrix c z t h ach in
+    let b = stepRightSide c z t h gains fraction ach in
+    because (divisible a) 12 0 _ divisorAt λ d.
+    because (bounded a (temperaturesOf a b)) 13 0 _ (temperatureAt d) λ _.
     accepts _
+
+module _ (c : Coefficients) (z : Zone) (t : List Float) (h : Conditions) where
+  solves : {gains fraction ach : Float} → DemandSolve c z t h gains fraction ach → RefusesOnly (DemandReason c z t h) (temperaturesWith c z t h gains fraction ach)
+  solves {gains} {fraction} {ach} s = refuses-also (λ n i p. inSolve s p) (solve-reasons c z t h gains fraction ach)
+
+  potential-reasons : (free : List Float) (a : AirChangesPerHourArgument) → h .«ach_args» ≡ a → freeTemperatures c z t h (achTarget a) ≡ ok free
+      → RefusesOnly (DemandReason c z t h) (calcCoolingPotentialFromVentilation c z t h free a)
+  unfolding calcCoolingPotentialFromVentilation
+  potential-reasons free (Cooling ach) e f = accepts _
+  potential-reasons free (TargetAndWindowsOpen target windowsOpen) e f =
+      choice-refuses (ne windowsOpen target)
+      (λ o.
+      bind-refuses _ (solves (atOpen e o)) λ ventMax v.
+      choice-refuses
+      (lt (controlTemperature z ventMax) (controlTemperature z free) && lt (h .«temp_setpnt_cool_vent») (controlTemperature z free) && lt (h .«avg_air_supply_temp») (air free))
+      (λ u. bind-refuses _ (solves (between e o f v u)) λ extra _. accepts _) λ _. accepts _)
+      λ _. accepts _
+
+  towards-reasons : (free : List Float) (v : VentilationChoice) (w : HeatCoolLoad) → freeTemperatures c z t h (achTarget (h .«ach_args»)) ≡ ok free
+      → calcCoolingPotentialFromVentilation c z t h free (h .«ach_args») ≡ ok v → wanted (z .«useful_area») h (v .«temp_free») ≡ w
+      → RefusesOnly (DemandReason c z t h) (demandForLoad c z t h v w)
+  unfolding demandForLoad interpHeatCoolDemand
+  towards-reasons free v NoLoad f e w = accepts _
+  towards-reasons free v (Toward setpoint load fraction) f e w =
+      let tried : Tried c z t h v setpoint load fraction = record { free = free; solved = f; chosen = e; towards = w } in
+      bind-refuses _ (solves (loaded tried)) λ upper u.
+      bind-refuses _ (unless-refuses (closeInDemand (controlTemperature z upper -ᶠ v .«temp_free») zero64) 14 _ (λ k. withoutEffect tried u k) λ _. accepts _) λ kWh _.
+      accepts _
+
+  pub demand-reasons : RefusesOnly (DemandReason c z t h) (spaceHeatCoolDemand c z t h)
+  unfolding spaceHeatCoolDemand
+  demand-reasons =
+      unless-refuses (lt (h .«temp_setpnt_cool») (h .«temp_setpnt_heat»)) 10 _ coolingBelow λ k.
+      unless-refuses (lt (h .«temp_setpnt_cool_vent») (h .«temp_setpnt_heat»)) 11 _ (ventilationBelow k) λ _.
+      bind-refuses _ (solves atTarget) λ free f.
+      bind-refuses _ (potential-reasons free (h .«ach_args») refl f) λ v e.
+      towards-reasons free v (wanted (z .«useful_area») h (v .«temp_free»)) f e refl
+
+-- ---- which numbers
+
+module _ {P : ℕ → ℕ → Type 0} (by-solve : (n i : ℕ) → SolveRefusal n i → P n i) (c : Coefficients) (z : Zone) where
+  solve-number : {t : List Float} {h : Conditions} {gains fraction ach : Float} (n i : ℕ) → SolveReason c z t h gains fraction ach n i → P n i
+  solve-number n i (divisorAt _) = by-solve 12 0 divisor
+  solve-number n i (temperatureAt _ _) = by-solve 13 0 temperature
+
+  -- 10, where it can be, 11, then 12, 13, 14
+  pub demand-refuses : (t : List Float) (h : Conditions) → P 14 0 → (lt (h .«temp_setpnt_cool») (h .«temp_setpnt_heat») ≡ true → P 10 0) → P 11 0
+      → RefusesOnly P (spaceHeatCoolDemand c z t h)
+  demand-refuses t h fourteen ten eleven = refuses-also number (demand-reasons c z t h)
+    where
+      number : (n i : ℕ) → DemandReason c z t h n i → P n i
+      number n i (coolingBelow e) = ten e
+      number n i (ventilationBelow k e) = eleven
+      number n i (inSolve s p) = solve-number n i p
+      number n i (withoutEffect l e k) = fourteen
+
+  -- one time step
+  pub step-refuses : (s : State) (h : Conditions) (gains fraction ach : Float) → RefusesOnly P (step c z s h gains fraction ach)
+  unfolding step
+  step-refuses s h gains fraction ach =
+      bind-refuses _ (refuses-also solve-number (solve-reasons c z (slotsOf z s) h gains fraction ach)) λ t _.
+      accepts _
 
 -- no float is below itself
 lt-itself : (x : Float) → lt x x ≡ false
@@ -144,9 +162,9 @@ pub pass-refuses :
     {P : ℕ → ℕ → Type 0} → P 11 0 → ((n i : ℕ) → SolveRefusal n i → P n i) → P 14 0
     → (c : Coefficients) (z : Zone) (t : List Float) → RefusesOnly P (pass c z t)
 unfolding pass startUpConditions
-pass-refuses {P} eleven solve fourteen c z t =
-    bind-refuses _ (demand-refuses solve c z t (startUpConditions z) fourteen no-ten eleven) λ d _.
-    solve-refuses solve c z t (startUpConditions z) _ _ _ _
+pass-refuses {P} eleven by-solve fourteen c z t =
+    bind-refuses _ (demand-refuses by-solve c z t (startUpConditions z) fourteen no-ten eleven) λ d _.
+    refuses-also (solve-number by-solve c z) (solve-reasons c z t (startUpConditions z) _ _ _)
   where
     no-ten : lt (z .«temp_setpnt_init») (z .«temp_setpnt_init») ≡ true → P 10 0
     no-ten e = never (sym (lt-itself (z .«temp_setpnt_init»)) ∙ e)

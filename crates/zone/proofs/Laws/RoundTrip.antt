@@ -9,7 +9,7 @@ use lib.ListN.{take, drop, length, getD, length-drop}
 use lib.Seq.{take-suc, getD-drop, take-add, drop-drop, drop-cons}
 use lib.Ieee.{Float, nan, inf, fin, binary64, isNan, le, lt, eq}
 use lib.Ieee.Bits.{toBits-ofBits}
-use Rattle.zone.specs.Format.Bytes.{bigEndianFrom, bigEndian, numAt, floatAt, bytesOf}
+use Rattle.zone.specs.Format.Bytes.{Bytes, bigEndianFrom, bigEndian, numAt, floatAt, bytesOf}
 use Rattle.zone.specs.Format.Decode.{floatsAt}
 use Rattle.zone.specs.Format.Encode.{floatBytes, rowBytes}
 use Rattle.solver.proofs.Laws.Tests.{and-true}
@@ -18,10 +18,6 @@ pub bigEndian-snoc : (n : ℕ) (bs : List ℕ) (b : ℕ) → bigEndianFrom n (bs
 unfolding bigEndianFrom
 bigEndian-snoc n [] b = refl
 bigEndian-snoc n (x ∷ bs) b = bigEndian-snoc (n * 256 + x) bs b
-
--- every number of a list is a byte
-abbrev pub Bytes : List ℕ → Type 0
-Bytes s = (i : ℕ) → getD s i 0 < 256
 
 grown : (k n b : ℕ) → n < 256 ^ k → b < 256 → n * 256 + b < 256 ^ suc k
 grown k n b h hb = rw pow-step (omega arith)

@@ -3,13 +3,14 @@ use Prim.Native.Nat.{ℕ, suc, zero, _+_, _*_, _<_, _≤_}
 use mathlib.Core.Path.{_≡_, refl, sym, ap, _∙_}
 use mathlib.Core.List.{List, _∷_}
 use native.Mathlib.Omega.{arith}
-use borrow.Author.Tests.{le-leb}
 use lib.ListN.{take, drop, length, getD, take-append-drop, length-drop}
 use lib.Seq.{take-append-le, drop-append-le, getD-take, length-take-le}
 use lib.Ieee.{binary64, ofBits}
 use Rattle.solver.specs.Result.{ok}
+use Rattle.zone.specs.Format.Layout.{countIn, firstElement, elementArrays, openByte, elementHourSize}
 use Rattle.zone.specs.Format.Bytes.{bigEndian, numAt, floatAt}
-use Rattle.zone.specs.Format.ElementLayout.{kCount, hCount, kindOf, sizeAt, kindAt, treatmentsAt}
+use Rattle.zone.specs.Record.BuildingElement.{numberOfNodes}
+use Rattle.zone.specs.Format.ElementLayout.{hCount, kindOf, sizeAt, kindAt, treatmentsAt}
 use Rattle.zone.specs.Format.Decode.{floatsAt, elementHourAt, elementWith, elementAt, elementsAt, zoneAt}
 use Rattle.zone.specs.Format.Head.{elementsEnd}
 use Rattle.zone.specs.declared.record.building_element.Kind.{Kind}
@@ -26,10 +27,6 @@ part-front a n at k h r =
     ∙ ap (take k) (drop-append-le at (take n a) (drop n a) (omega arith))
     ∙ take-append-le k (drop at (take n a)) (drop n a) room
 
-pub whole-back : (s : List ℕ) (end left i p q : ℕ) → Whole s end left i p q → elementsEnd s end (suc left) i p ≡ ok q
-unfolding elementsEnd
-whole-back s end left i p q w = rw (le-leb (p + 2) end (w .front), w .kind-valid, le-leb (p + sizeAt s p) end (w .rest)) (w .on)
-
 module _ (a b : List ℕ) (n : ℕ) (e : take n a ≡ take n b) (ha : n ≤ length a) (hb : n ≤ length b) where
   pub byte-same : (i : ℕ) → i < n → getD a i 0 ≡ getD b i 0
   byte-same i h = sym (getD-take n a i 0 h) ∙ ap (λ (l : List ℕ). getD l i 0) e ∙ getD-take n b i 0 h
@@ -45,7 +42,7 @@ module _ (a b : List ℕ) (n : ℕ) (e : take n a ≡ take n b) (ha : n ≤ leng
   floats-same at zero h = refl
   floats-same at (suc k) h = rw (float-same at (omega arith), floats-same (at + 8) k (omega arith))
 
-  pub hour-same : (at : ℕ) → at + 41 ≤ n → elementHourAt a at ≡ elementHourAt b at
+  pub hour-same : (at : ℕ) → at + elementHourSize ≤ n → elementHourAt a at ≡ elementHourAt b at
   hour-same at h =
       rw (
         float-same at (omega arith),
@@ -53,10 +50,10 @@ module _ (a b : List ℕ) (n : ℕ) (e : take n a ≡ take n b) (ha : n ≤ leng
         float-same (at + 16) (omega arith),
         float-same (at + 24) (omega arith),
         float-same (at + 32) (omega arith),
-        byte-same (at + 40) (omega arith),
+        byte-same (at + openByte) (omega arith),
       )
 
-  with-same : (p : ℕ) (kind : Kind) (t kc hc : ℕ) → p + (99 + 8 * kc + 8 * hc + 8 * t) ≤ n → elementWith a p kind t kc hc ≡ elementWith b p kind t kc hc
+  with-same : (p : ℕ) (kind : Kind) (t kc hc : ℕ) → p + (elementArrays + 8 * kc + 8 * hc + 8 * t + elementHourSize) ≤ n → elementWith a p kind t kc hc ≡ elementWith b p kind t kc hc
   with-same p kind t kc hc h =
       rw (
         float-same (p + 2) (omega arith),
@@ -66,10 +63,10 @@ module _ (a b : List ℕ) (n : ℕ) (e : take n a ≡ take n b) (ha : n ≤ leng
         float-same (p + 34) (omega arith),
         float-same (p + 42) (omega arith),
         float-same (p + 50) (omega arith),
-        floats-same (p + 58) kc (omega arith),
-        floats-same (p + 58 + 8 * kc) hc (omega arith),
-        floats-same (p + 58 + 8 * kc + 8 * hc) t (omega arith),
-        hour-same (p + 58 + 8 * kc + 8 * hc + 8 * t) (omega arith),
+        floats-same (p + elementArrays) kc (omega arith),
+        floats-same (p + elementArrays + 8 * kc) hc (omega arith),
+        floats-same (p + elementArrays + 8 * kc + 8 * hc) t (omega arith),
+        hour-same (p + elementArrays + 8 * kc + 8 * hc + 8 * t) (omega arith),
       )
 
   pub element-same : (left i p q : ℕ) → Whole a n left i p q → elementAt a p ≡ elementAt b p
@@ -77,26 +74,12 @@ module _ (a b : List ℕ) (n : ℕ) (e : take n a ≡ take n b) (ha : n ≤ leng
       let k = kindAt a p in
       let t = treatmentsAt a p in
       let f = shaped k t (treatments-few (getD a p 0) t (w .kind-valid)) in
-      with-same p k t (kCount k) (hCount k) (omega (arith, f .sized, w .rest))
-      ∙ ap (λ (x : ℕ). elementWith b p (kindOf x) t (kCount (kindOf x)) (hCount (kindOf x))) (byte-same p (omega (arith, w .front)))
-      ∙ ap (λ (x : ℕ). elementWith b p (kindAt b p) x (kCount (kindAt b p)) (hCount (kindAt b p))) (byte-same (p + 1) (omega (arith, w .front)))
+      with-same p k t (numberOfNodes k) (hCount k) (omega (arith, f .sized, w .rest))
+      ∙ ap (λ (x : ℕ). elementWith b p (kindOf x) t (numberOfNodes (kindOf x)) (hCount (kindOf x))) (byte-same p (omega (arith, w .front)))
+      ∙ ap (λ (x : ℕ). elementWith b p (kindAt b p) x (numberOfNodes (kindAt b p)) (hCount (kindAt b p))) (byte-same (p + 1) (omega (arith, w .front)))
 
   size-same : (p : ℕ) → p + 2 ≤ n → sizeAt a p ≡ sizeAt b p
   size-same p h = rw (byte-same p (omega arith), byte-same (p + 1) (omega arith))
-
-  pub end-same : (left i p q : ℕ) → elementsEnd a n left i p ≡ ok q → elementsEnd b n left i p ≡ ok q
-  unfolding elementsEnd
-  end-same zero i p q h = h
-  end-same (suc left) i p q h =
-      let w = whole-of a n left i p q h in
-      let z = size-same p (w .front) in
-      whole-back b n left i p q
-      (record {
-        front = w .front;
-        kind-valid = rw (← byte-same p (omega (arith, w .front)), ← byte-same (p + 1) (omega (arith, w .front))) (w .kind-valid);
-        rest = omega (arith, z, w .rest);
-        on = rw (← z) (end-same left (i + 1) (p + sizeAt a p) q (w .on));
-      })
 
   pub elements-same : (left i p q : ℕ) → elementsEnd a n left i p ≡ ok q → elementsAt a p left ≡ elementsAt b p left
   unfolding elementsAt
@@ -105,11 +88,11 @@ module _ (a b : List ℕ) (n : ℕ) (e : take n a ≡ take n b) (ha : n ≤ leng
       let w = whole-of a n left i p q h in
       rw (← size-same p (w .front), elements-same left (i + 1) (p + sizeAt a p) q (w .on)) (ap (λ (x : Element). x ∷ elementsAt b (p + sizeAt a p) left) (element-same left i p q w))
 
-  pub zone-same : 57 ≤ n → elementsEnd a n (getD a 6 0) 0 57 ≡ ok n → zoneAt a ≡ zoneAt b
+  pub zone-same : firstElement ≤ n → elementsEnd a n (countIn a) 0 firstElement ≡ ok n → zoneAt a ≡ zoneAt b
   unfolding zoneAt
   zone-same h w =
       rw (
-        elements-same (getD a 6 0) 0 57 n w,
+        elements-same (countIn a) 0 firstElement n w,
         byte-same 5 (omega arith),
         byte-same 6 (omega arith),
         num-same 7 2 (omega arith),

@@ -8,19 +8,18 @@ use lib.ListN.{replicate}
 use lib.Ieee.{Float}
 use Rattle.solver.specs.Result.{Result, ok, refused}
 use Rattle.solver.specs.declared.system.Solved.{Solved}
-use Rattle.solver.specs.FastSolver.{factored, factor, solved, substitute, solvedOrRefused, solvedRes}
+use Rattle.solver.specs.Inner.Factored.{factored, factor, solved, substitute, solvedOrRefused, solvedRes}
 use Rattle.solver.proofs.Laws.Solver.{substitute-number}
 use Rattle.zone.specs.declared.record.zone_record.Zone.{Zone}
 use Rattle.zone.specs.declared.format.conditions.Conditions.{Conditions}
 use Rattle.zone.specs.Record.BuildingElement.{standardCoefficients}
 use Rattle.zone.specs.declared.hour.time_step.ZoneTerms.{ZoneTerms}
 use Rattle.zone.specs.Physics.Ventilation.{calcVentHeatTransferCoeff}
-use Rattle.zone.specs.Physics.System.{assembled, denseWith, rightSideWith}
-use Rattle.zone.specs.Physics.CalcTemperatures.{matrixOf}
+use Rattle.zone.specs.Inner.Assembled.{assembled, denseWith, rightSideWith, matrixOf}
 use Rattle.zone.proofs.Laws.Steps.{calc-12, calc-13, calc-ok}
 use Rattle.solver.specs.F64.{_+ᶠ_}
 use Rattle.zone.specs.Hour.Demand.{deltaT, gainsHeatCool, gainsUpper, fracConvGainsHeatCool, fracUpper, temperaturesWith}
-use Rattle.zone.specs.Hour.Solves.{hourSystem, factorsAt, FreeAt}
+use Rattle.zone.specs.Inner.Solves.{hourSystem, factorsAt, FreeAt}
 
 -- an answer by its number
 solved-refused′ : (n : ℕ) (l : List Float) (x : Result (List Float)) → solvedOrRefused n l ≡ x → (n ≡ 0 → ⊥) → x ≡ refused n 0

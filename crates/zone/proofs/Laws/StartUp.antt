@@ -8,7 +8,8 @@ use lib.ListN.{length, getD, set, take, drop, drop-of-length-le}
 use lib.Ieee.{Float, nan, lt}
 use Rattle.solver.specs.F64.{dec, zero64}
 use Rattle.solver.specs.Closeness as Closeness
-use Rattle.solver.specs.Result.{Result, ok, refused, bind-ok, require}
+use Rattle.solver.specs.Result.{Result, ok, refused, bind, require}
+use Rattle.solver.proofs.Laws.Result.{bind-ok}
 use Rattle.solver.proofs.Laws.Fill.{fill-next, fill-done}
 use Rattle.solver.proofs.Laws.Parts.{drop-next}
 use Rattle.zone.specs.declared.record.building_element.Element.{Element}
@@ -28,15 +29,16 @@ use Rattle.zone.specs.declared.calls.state.DemandAnswer.{DemandAnswer}
 use Rattle.zone.specs.declared.calls.state.DemandAnswer.the-variants as DemandAnswer
 use Rattle.zone.specs.declared.calls.state.StartUp.{StartUp}
 use Rattle.zone.specs.declared.calls.state.AchToTriggerHeating.the-variants.{Absent}
-use Rattle.zone.specs.declared.hour.windows.ZoneTemperatures.{ZoneTemperatures}
-use Rattle.zone.specs.declared.hour.windows.Ventilated.{Ventilated}
+use Rattle.zone.specs.declared.hour.windows.VentilationChoice.{VentilationChoice}
 use Rattle.zone.specs.Calls.State.{slotsOf, stateOf}
-use Rattle.zone.specs.Hour.Demand.{achTarget, zoneTemperatures, freeTemperatures, temperaturesWith, ventilated, calcCoolingPotentialFromVentilation, wanted, demandFrom, spaceHeatCoolDemand}
+use Rattle.zone.specs.Hour.Demand.{achTarget, controlTemperature, freeTemperatures, temperaturesWith, ventilated, calcCoolingPotentialFromVentilation, wanted, spaceHeatCoolDemand}
 use Rattle.zone.specs.Calls.Hour.{delivered}
-use Rattle.zone.specs.Calls.StartUp.{firstHour, startUpConditions, startState, allClose, close, pass, settle, settleFrom, initNodeTemps}
+use Rattle.zone.specs.Calls.StartUp.{firstHour, startUpConditions, startState, allClose, close, pass, settle, initNodeTemps}
 use Rattle.zone.specs.Calls.Answers.{startUpReply}
-use Rattle.zone.specs.Hour.Solves.{demandAnswer, verdictRes}
-use Rattle.zone.proofs.Laws.Demand.{demand-refused, demand-accepted, towards-rate}
+use Rattle.zone.specs.Inner.Solves.{verdictRes}
+use Rattle.zone.specs.declared.hour.hour.Meeting.the-variants.{Alone}
+use Rattle.zone.specs.Inner.Hour.{answerWith, hourSolved}
+use Rattle.zone.proofs.Laws.Demand.{towards-rate}
 use Rattle.zone.proofs.Laws.Hour.{res-accepted, res-refused}
 
 -- ---- the first hours: one more is stored, all are stored
@@ -76,28 +78,23 @@ close-second a b i h = rw (drop-of-length-le b h) (close-empty (drop i a))
 -- ---- a pass
 
 -- the demand of a fixed rate chooses that rate
-potential-rate : (z : Zone) (t : List Float) (h : Conditions) (ach : Float) (free : ZoneTemperatures) (v : Ventilated)
+potential-rate : (z : Zone) (t : List Float) (h : Conditions) (ach : Float) (free : List Float) (v : VentilationChoice)
     → calcCoolingPotentialFromVentilation standardCoefficients z t h free (Cooling ach) ≡ ok v → v .«ach_cooling» ≡ ach
 unfolding calcCoolingPotentialFromVentilation
 potential-rate z t h ach free v e =
-    let p : ventilated (free .«temp_control») ach Absent ≡ v = cc in
-    sym (ap (λ (y : Ventilated). y .«ach_cooling») p)
+    let p : ventilated (controlTemperature z free) ach Absent ≡ v = cc in
+    sym (ap (λ (y : VentilationChoice). y .«ach_cooling») p)
 
-module _ (z : Zone) (t : List Float) (h : Conditions) (ach : Float) (fixed : h .«ach_args» ≡ Cooling ach) where
-  from-rate : (free : ZoneTemperatures) (d : Demand) → demandFrom standardCoefficients z t h free ≡ ok d → d .«ach_cooling» ≡ ach
-  unfolding demandFrom
-  from-rate free d e =
-      let v = bind-ok (calcCoolingPotentialFromVentilation standardCoefficients z t h free (h .«ach_args»)) _ d e in
-      towards-rate z t h (v .0) (wanted (z .«useful_area») h (v .0 .«temp_free»)) d (v .2)
-      ∙ potential-rate z t h ach free (v .0) (sym (ap (λ (a : AirChangesPerHourArgument). calcCoolingPotentialFromVentilation standardCoefficients z t h free a) fixed) ∙ v .1)
-
-  pub fixed-rate : (d : Demand) → spaceHeatCoolDemand standardCoefficients z t h ≡ ok d → d .«ach_cooling» ≡ ach
-  unfolding spaceHeatCoolDemand
-  fixed-rate d e =
-      let ten = bind-ok (require (not (lt (h .«temp_setpnt_cool») (h .«temp_setpnt_heat»))) 10) _ d e in
-      let eleven = bind-ok (require (not (lt (h .«temp_setpnt_cool_vent») (h .«temp_setpnt_heat»))) 11) _ d (ten .2) in
-      let free = bind-ok (freeTemperatures standardCoefficients z t h (achTarget (h .«ach_args»))) _ d (eleven .2) in
-      from-rate (zoneTemperatures z (free .0)) d (free .2)
+pub fixed-rate : (z : Zone) (t : List Float) (h : Conditions) (ach : Float) → h .«ach_args» ≡ Cooling ach
+    → (d : Demand) → spaceHeatCoolDemand standardCoefficients z t h ≡ ok d → d .«ach_cooling» ≡ ach
+unfolding spaceHeatCoolDemand
+fixed-rate z t h ach fixed d e =
+    let ten = bind-ok (require (not (lt (h .«temp_setpnt_cool») (h .«temp_setpnt_heat»))) 10) _ d e in
+    let eleven = bind-ok (require (not (lt (h .«temp_setpnt_cool_vent») (h .«temp_setpnt_heat»))) 11) _ d (ten .2) in
+    let free = bind-ok (freeTemperatures standardCoefficients z t h (achTarget (h .«ach_args»))) _ d (eleven .2) in
+    let v = bind-ok (calcCoolingPotentialFromVentilation standardCoefficients z t h (free .0) (h .«ach_args»)) _ d (free .2) in
+    towards-rate z t h (v .0) (wanted (z .«useful_area») h (v .0 .«temp_free»)) d (v .2)
+    ∙ potential-rate z t h ach (free .0) (v .0) (sym (ap (λ (a : AirChangesPerHourArgument). calcCoolingPotentialFromVentilation standardCoefficients z t h (free .0) a) fixed) ∙ v .1)
 
 start-rate : (z : Zone) (h : Conditions) → h ≡ startUpConditions z → h .«ach_args» ≡ Cooling zero64
 unfolding startUpConditions
@@ -107,21 +104,32 @@ start-fraction : (z : Zone) (h : Conditions) → h ≡ startUpConditions z → h
 unfolding startUpConditions
 start-fraction z h e = ap (λ (y : Conditions). y .«frac_convective_heat») e
 
-module _ (z : Zone) (t : List Float) (h : Conditions) (h-is : h ≡ startUpConditions z) (a : DemandAnswer) (asked : a ≡ demandAnswer (spaceHeatCoolDemand standardCoefficients z t h)) where
-  pub pass-refused : (n i : ℕ) → a ≡ DemandAnswer.Refused n i → refused n i ≡ pass standardCoefficients z t
-  unfolding pass
-  pass-refused n i e =
-      let w : spaceHeatCoolDemand standardCoefficients z t h ≡ refused n i = demand-refused _ a n i asked e in
-      rw (← h-is, w) refl
+module _ (z : Zone) (t : List Float) (h : Conditions) (h-is : h ≡ startUpConditions z) (before : List Float) where
+  pass-solved : pass standardCoefficients z t ≡ bind (hourSolved z t h Alone before) λ u. ok (u .1)
+  unfolding pass hourSolved
+  pass-solved = go (spaceHeatCoolDemand standardCoefficients z t h) refl
+    where
+      last : (d : Demand) → spaceHeatCoolDemand standardCoefficients z t h ≡ ok d → (y : Result (List Float))
+          → temperaturesWith standardCoefficients z t h (delivered h d) (dec 4 1) zero64 ≡ y
+          → temperaturesWith standardCoefficients z t h (delivered h d) (h .«frac_convective_heat») (d .«ach_cooling») ≡ y
+          → pass standardCoefficients z t ≡ bind (hourSolved z t h Alone before) λ u. ok (u .1)
+      last d p (ok after) q r = rw (← h-is, p, q, r) refl
+      last d p (refused n i) q r = rw (← h-is, p, q, r) refl
 
-  pub pass-solved : (d : Demand) (w fraction : Float) (x : Result (List Float)) → a ≡ DemandAnswer.Accepted d → w ≡ delivered h d → fraction ≡ h .«frac_convective_heat»
-      → x ≡ temperaturesWith standardCoefficients z t h w fraction (d .«ach_cooling») → x ≡ pass standardCoefficients z t
-  unfolding pass
-  pass-solved d w fraction x e w-is f-is p =
-      let u : spaceHeatCoolDemand standardCoefficients z t h ≡ ok d = demand-accepted _ a d asked e in
-      let g : h .«frac_convective_heat» ≡ dec 4 1 = start-fraction z h h-is in
-      let k : d .«ach_cooling» ≡ zero64 = fixed-rate z t h zero64 (start-rate z h h-is) d u in
-      p ∙ rw (← h-is, u, w-is, f-is, g, k) refl
+      go : (x : Result Demand) → spaceHeatCoolDemand standardCoefficients z t h ≡ x → pass standardCoefficients z t ≡ bind (hourSolved z t h Alone before) λ u. ok (u .1)
+      go (ok d) p =
+          last d p _
+          (ap (λ (f : Float). temperaturesWith standardCoefficients z t h (delivered h d) f zero64) (sym (start-fraction z h h-is))
+          ∙ ap (temperaturesWith standardCoefficients z t h (delivered h d) (h .«frac_convective_heat»)) (sym (fixed-rate z t h zero64 (start-rate z h h-is) d p)))
+          refl
+      go (refused n i) p = rw (← h-is, p) refl
+
+  module _ (after : List Float) (a : DemandAnswer) (solved : answerWith a after ≡ hourSolved z t h Alone before) where
+    pub pass-refused : (n i : ℕ) → a ≡ DemandAnswer.Refused n i → refused n i ≡ pass standardCoefficients z t
+    pass-refused n i e = rw (pass-solved, ← solved, e) refl
+
+    pub pass-accepted : (d : Demand) → a ≡ DemandAnswer.Accepted d → ok after ≡ pass standardCoefficients z t
+    pass-accepted d e = rw (pass-solved, ← solved, e) refl
 
 -- ---- the passes
 
@@ -130,18 +138,18 @@ settle-start z limit t₀ t p = let e : limit - 0 ≡ limit = omega arith in rw 
 
 module _ (z : Zone) (limit : ℕ) (t₀ t : List Float) (passes : ℕ)
     (left : settle standardCoefficients z limit t₀ ≡ settle standardCoefficients z (limit - passes) t) where
-  pub settle-15 : (r : StartUp) → limit ≤ passes → r ≡ startUpReply (refused 15 0) → r ≡ startUpReply (settleFrom standardCoefficients z limit t₀)
-  unfolding settleFrom settle
+  pub settle-15 : (r : StartUp) → limit ≤ passes → r ≡ startUpReply (refused 15 0) → r ≡ startUpReply (bind (settle standardCoefficients z limit t₀) λ u. ok (stateOf z u))
+  unfolding settle
   settle-15 r h p = let e : limit - passes ≡ 0 = omega arith in rw (left, e) p
 
   module _ (more : passes < limit) (v : Verdict) (after : List Float) (passed : verdictRes v after ≡ pass standardCoefficients z t) where
-    pub settle-refused : (n i : ℕ) (r : StartUp) → v ≡ Verdict.Refused n i → r ≡ startUpReply (refused n i) → r ≡ startUpReply (settleFrom standardCoefficients z limit t₀)
-    unfolding settleFrom settle
+    pub settle-refused : (n i : ℕ) (r : StartUp) → v ≡ Verdict.Refused n i → r ≡ startUpReply (refused n i) → r ≡ startUpReply (bind (settle standardCoefficients z limit t₀) λ u. ok (stateOf z u))
+    unfolding settle
     settle-refused n i r e p = rw (left, one-left limit passes more, res-refused v after (pass standardCoefficients z t) passed n i e) p
 
     module _ (good : v ≡ Verdict.Accepted) (test : Bool) (tested : test ≡ close z t after) where
-      pub settle-settled : (r : StartUp) → test ≡ true → r ≡ startUpReply (ok (stateOf z t)) → r ≡ startUpReply (settleFrom standardCoefficients z limit t₀)
-      unfolding settleFrom settle
+      pub settle-settled : (r : StartUp) → test ≡ true → r ≡ startUpReply (ok (stateOf z t)) → r ≡ startUpReply (bind (settle standardCoefficients z limit t₀) λ u. ok (stateOf z u))
+      unfolding settle
       settle-settled r k p = rw (left, one-left limit passes more, res-accepted v after (pass standardCoefficients z t) passed good, ← tested, k) p
 
       pub settle-next : test ≡ false → settle standardCoefficients z limit t₀ ≡ settle standardCoefficients z (limit - (passes + 1)) after
@@ -153,7 +161,7 @@ module _ (z : Zone) (v : Verdict) (zone : v ≡ verdictOf (zoneTest z)) (r : Sta
   unfolding initNodeTemps
   start-refused n i e p = let w : zoneTest z ≡ refused n i = verdict-refused (zoneTest z) n i (sym zone ∙ e) in rw w p
 
-  pub start-settle : v ≡ Verdict.Accepted → r ≡ startUpReply (settleFrom standardCoefficients z (z .«start_up_limit») (slotsOf z (startState z)))
+  pub start-settle : v ≡ Verdict.Accepted → r ≡ startUpReply (bind (settle standardCoefficients z (z .«start_up_limit») (slotsOf z (startState z))) λ u. ok (stateOf z u))
       → r ≡ startUpReply (initNodeTemps standardCoefficients z)
   unfolding initNodeTemps
   start-settle e p = rw (verdict-accepted (zoneTest z) (sym zone ∙ e)) p

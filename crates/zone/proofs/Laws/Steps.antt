@@ -7,15 +7,17 @@ use Prim.Native.Nat.{ℕ}
 use lib.ListN.{replicate}
 use lib.Ieee.{Float}
 use Rattle.solver.specs.Result.{ok, refused}
-use Rattle.solver.specs.FastSolver.{factored, factor, solved, substitute, fastSolverRes}
+use Rattle.solver.specs.FastSolver.{solve}
+use Rattle.solver.specs.Inner.Factored.{factored, factor, solved, substitute}
 use Rattle.solver.proofs.Laws.Solver.{solver-12, solver-13, solver-ok}
 use Rattle.zone.specs.declared.record.building_element.Coefficients.{Coefficients}
 use Rattle.zone.specs.declared.format.conditions.Conditions.{Conditions}
 use Rattle.zone.specs.declared.record.zone_record.Zone.{Zone}
 use Rattle.zone.specs.declared.hour.time_step.ZoneTerms.{ZoneTerms}
 use Rattle.zone.specs.Physics.Ventilation.{calcVentHeatTransferCoeff}
-use Rattle.zone.specs.Physics.System.{assembled, rightSideWith}
-use Rattle.zone.specs.Physics.CalcTemperatures.{assembleStep, matrixOf, calcTemperatures}
+use Rattle.zone.specs.Physics.CalcTemperatures.{calcTemperatures}
+use Rattle.zone.specs.Inner.Assembled.{assembled, rightSideWith, assembleStep, matrixOf}
+use Rattle.zone.proofs.Laws.System.{matrix-is, right-side-is}
 
 module _ (c : Coefficients) (z : Zone) («temp_prev» : List Float) (hour : Conditions) («delta_t» : Float)
     (s : ZoneTerms) (twoNodes : List Bool) (diag next prev dense b : List Float)
@@ -27,9 +29,9 @@ module _ (c : Coefficients) (z : Zone) («temp_prev» : List Float) (hour : Cond
     factored number diag' dense' interchanges
     ≡ factor (matrixOf (assembled s twoNodes diag next prev dense b) «h_ve») (replicate 25 0)) where
   calc-is : calcTemperatures c z «temp_prev» hour «delta_t» «gains_heat_cool» «f_hc_c» ach
-      ≡ fastSolverRes (matrixOf (assembled s twoNodes diag next prev dense b) «h_ve») (rightSideWith s «h_ve» «gains_heat_cool» «f_hc_c» b)
+      ≡ solve (matrixOf (assembled s twoNodes diag next prev dense b) «h_ve») (rightSideWith s «h_ve» «gains_heat_cool» «f_hc_c» b)
   unfolding calcTemperatures
-  calc-is = rw (← assembled-is, ← h-ve-is) refl
+  calc-is = rw (← h-ve-is, ← matrix-is c z «temp_prev» hour «delta_t» «h_ve», ← right-side-is c z «temp_prev» hour «delta_t» «gains_heat_cool» «f_hc_c» «h_ve», ← assembled-is) refl
 
   -- `factor_rate` gives another number than 0
   pub calc-12 : (number ≡ 0 → ⊥) → calcTemperatures c z «temp_prev» hour «delta_t» «gains_heat_cool» «f_hc_c» ach ≡ refused 12 0
@@ -42,9 +44,9 @@ module _ (c : Coefficients) (z : Zone) («temp_prev» : List Float) (hour : Cond
     -- `solve_load` gives another number than 0
     pub calc-13 : (last ≡ 0 → ⊥) → calcTemperatures c z «temp_prev» hour «delta_t» «gains_heat_cool» «f_hc_c» ach ≡ refused 13 0
     calc-13 k =
-        calc-is ∙ solver-13 _ (rightSideWith s «h_ve» «gains_heat_cool» «f_hc_c» b) diag' dense' interchanges number after last factored-is factored-well solved-is k
+        calc-is ∙ solver-13 _ (rightSideWith s «h_ve» «gains_heat_cool» «f_hc_c» b) diag' dense' interchanges number factored-is factored-well after last solved-is k
 
     -- both give 0
     pub calc-ok : last ≡ 0 → calcTemperatures c z «temp_prev» hour «delta_t» «gains_heat_cool» «f_hc_c» ach ≡ ok after
     calc-ok k =
-        calc-is ∙ solver-ok _ (rightSideWith s «h_ve» «gains_heat_cool» «f_hc_c» b) diag' dense' interchanges number after last factored-is factored-well solved-is k
+        calc-is ∙ solver-ok _ (rightSideWith s «h_ve» «gains_heat_cool» «f_hc_c» b) diag' dense' interchanges number factored-is factored-well after last solved-is k

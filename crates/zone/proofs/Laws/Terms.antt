@@ -1,7 +1,7 @@
 -- Loops and lists whose turns or entries are functions of a number.
 use mathlib.Core.Path.{_≡_, refl, ap, subst, _∙_}
 use mathlib.Core.Logic.{⊎-elim}
-use mathlib.Core.List.{List, _∷_}
+use mathlib.Core.List.{List, [], _∷_}
 use Prim.Native.Nat.{ℕ, zero, suc, _+_, _-_, _≤_, _<_}
 use native.Mathlib.Nat.{eq-or-lt-of-le}
 use native.Mathlib.Omega.{arith}
@@ -11,6 +11,12 @@ use lib.Ieee.{Float}
 use Rattle.solver.specs.Each.{eachOf, each}
 use Rattle.solver.specs.Sums.{termsOf, terms}
 use Rattle.zone.specs.Physics.Slots.{withTerms}
+
+-- what stands in a list does not depend on what a read past its end would give
+pub read-same : {A : Type 0} (l : List A) (i : ℕ) (d d' : A) → i < length l → getD l i d ≡ getD l i d'
+read-same [] i d d' h = absurd (omega arith)
+read-same (a ∷ l) zero d d' h = refl
+read-same (a ∷ l) (suc i) d d' h = read-same l i d d' (omega arith)
 
 module _ {A : Type 0} (f g : ℕ → A → A) where
   same-of : (k i : ℕ) (s : A) → ((j : ℕ) → j < i + k → (s : A) → f j s ≡ g j s) → eachOf k i f s ≡ eachOf k i g s

@@ -13,13 +13,15 @@ use Rattle.solver.specs.FastSolver.{atMost24}
 use Rattle.zone.specs.declared.record.building_element.Element.{Element}
 use Rattle.zone.specs.declared.record.zone_record.Zone.{Zone}
 use Rattle.zone.specs.Record.BuildingElement.{numberOfNodes, nodesOf, nodeCount}
-use Rattle.zone.specs.Physics.Slots.{at, element}
+use Rattle.zone.specs.Physics.Slots.{element}
 use Rattle.zone.specs.Physics.System.{areaOf, areaElTotal, twoNodesOf, zoneTwoNodes}
-use Rattle.zone.specs.Physics.Packing.{nodesAt, firstNode}
-use Rattle.zone.specs.Physics.TempOperative.{radiantAt, tempOperativeOf, tempOperative, areasOf}
+use Rattle.zone.specs.Physics.TempOperative.{tempOperative}
+use Rattle.zone.specs.Inner.Assembly.{at}
+use Rattle.zone.specs.Inner.Operative.{radiantAt, tempOperativeOf, areasOf}
+use Rattle.zone.specs.Physics.NodeLayout.{nodesAt, firstNode}
 use Rattle.zone.proofs.Laws.Terms.{terms-at}
 use Rattle.zone.proofs.Laws.Agree.{Agree, stored, sum2-same}
-use Rattle.zone.proofs.Laws.Nodes.{at-most-24-le}
+use Rattle.zone.proofs.Laws.Nodes.{at-most-24-le, nodes-are}
 
 module _ (z : Zone) where
   areas-agree : Agree (atMost24 (z .count)) (at (areasOf z)) (areaOf (z .«building_elements»))
@@ -54,6 +56,11 @@ module _ (z : Zone) where
       ∙ ap (λ (x : Float). tempOperativeOf (atMost24 (z .count)) (at (areasOf z)) x t) total-is
       ∙ operative-is t
 
+module _ (z : Zone) where
+  pub two-nodes-at : (e : ℕ) → e < atMost24 (z .count) → getD (zoneTwoNodes z) e false ≡ twoNodesOf (z .«building_elements») e
+  unfolding zoneTwoNodes
+  two-nodes-at e h = terms-at (twoNodesOf (z .«building_elements»)) false (atMost24 (z .count)) (replicate 24 false) e h (at-most-24-le (z .count))
+
 -- one element more
 nodes-next : (es : List Element) (i : ℕ) → i < length es → nodesOf (take (suc i) es) ≡ nodesOf (take i es) + numberOfNodes (element es i .kind)
 unfolding nodesOf
@@ -61,18 +68,40 @@ nodes-next [] i h = absurd (omega arith)
 nodes-next (e ∷ es) zero h = omega arith
 nodes-next (e ∷ es) (suc i) h = let k = nodes-next es i (omega arith) in omega (arith, k)
 
-module _ (z : Zone) (whole : length (z .«building_elements») ≡ 24) where
-  two-nodes-at : (e : ℕ) → e < atMost24 (z .count) → getD (zoneTwoNodes z) e false ≡ twoNodesOf (z .«building_elements») e
-  unfolding zoneTwoNodes
-  two-nodes-at e h = terms-at (twoNodesOf (z .«building_elements»)) false (atMost24 (z .count)) (replicate 24 false) e h (at-most-24-le (z .count))
+module _ (z : Zone) where
+  -- no more nodes than the flags count
+  nodes-le : (es : List Element) (i n : ℕ) → n ≡ numberOfNodes (element es i .kind) → nodesOf (take (suc i) es) ≤ nodesOf (take i es) + n
+  unfolding nodesOf
+  nodes-le [] i n h = omega arith
+  nodes-le (e ∷ es) zero n h = omega arith
+  nodes-le (e ∷ es) (suc i) n h = let k = nodes-le es i n h in omega (arith, k)
 
+  first-le-count : (e : ℕ) → e ≤ atMost24 (z .count) → nodesOf (take e (z .«building_elements»)) ≤ firstNode (zoneTwoNodes z) e
+  unfolding firstNode nodesOf numberOfNodes
+  first-le-count zero h = omega arith
+  first-le-count (suc e) h =
+      let k : nodesAt (zoneTwoNodes z) e ≡ numberOfNodes (element (z .«building_elements») e .kind) =
+      nodes-are (zoneTwoNodes z) e ∙ ap (λ (b : Bool). cond {A = ℕ} b 2 5) (two-nodes-at z e (omega arith)) in
+      let before = first-le-count e (omega arith) in
+      let next = nodes-le (z .«building_elements») e (nodesAt (zoneTwoNodes z) e) k in
+      omega (arith, before, next)
+
+  pub node-count-le : z .count ≤ 24 → nodeCount z ≤ firstNode (zoneTwoNodes z) (atMost24 (z .count)) + 1
+  unfolding nodeCount
+  node-count-le h =
+      let e : atMost24 (z .count) ≡ z .count = rw (le-ltb 24 (z .count) h) refl in
+      let k = first-le-count (atMost24 (z .count)) (omega arith) in
+      let same : nodesOf (take (z .count) (z .«building_elements»)) ≡ nodesOf (take (atMost24 (z .count)) (z .«building_elements»)) = rw e refl in
+      omega (arith, k, same)
+
+module _ (z : Zone) (whole : length (z .«building_elements») ≡ 24) where
   first-is : (e : ℕ) → e ≤ atMost24 (z .count) → firstNode (zoneTwoNodes z) e ≡ nodesOf (take e (z .«building_elements»))
   unfolding firstNode nodesOf numberOfNodes
   first-is zero h = refl
   first-is (suc e) h =
       let small = at-most-24-le (z .count) in
       let k : nodesAt (zoneTwoNodes z) e ≡ numberOfNodes (element (z .«building_elements») e .kind) =
-      ap (λ (b : Bool). cond {A = ℕ} b 2 5) (two-nodes-at e (omega arith)) in
+      nodes-are (zoneTwoNodes z) e ∙ ap (λ (b : Bool). cond {A = ℕ} b 2 5) (two-nodes-at z e (omega arith)) in
       let before = first-is e (omega arith) in
       let next = nodes-next (z .«building_elements») e (omega arith) in
       omega (arith, k, before, next)

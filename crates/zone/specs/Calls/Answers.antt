@@ -1,5 +1,6 @@
 -- What the functions answer: the enums' cases with document 01's numbers and values. A refusal hands back the state that was given.
 use lib.ListN.{replicate}
+use lib.Ieee.{Float}
 use Rattle.solver.specs.F64.{zero64}
 use Rattle.solver.specs.Result.{Result, ok, refused}
 use Rattle.zone.specs.declared.record.zone_record.Verdict.the-variants.{Accepted, Refused}
@@ -9,11 +10,18 @@ use Rattle.zone.specs.declared.calls.state.Demand.{Demand}
 use Rattle.zone.specs.declared.calls.state.DemandAnswer.the-variants as DemandAnswer
 use Rattle.zone.specs.declared.calls.state.UpdateAnswer.the-variants as UpdateAnswer
 use Rattle.zone.specs.declared.calls.state.HourAnswer.the-variants as HourAnswer
+use Rattle.zone.specs.declared.calls.state.OperativeReply.{OperativeReply}
+use Rattle.zone.specs.declared.calls.state.OperativeReply.the-variants as OperativeReply
 use Rattle.zone.specs.declared.calls.state.DemandReply.{DemandReply}
 use Rattle.zone.specs.declared.calls.state.UpdateReply.{UpdateReply}
 use Rattle.zone.specs.declared.calls.state.HourStepReply.{HourStepReply}
 use Rattle.zone.specs.declared.calls.state.StartUp.{StartUp}
 use Rattle.zone.specs.Calls.Hour.{HourResult}
+
+-- a value alone: no state is handed on
+abbrev pub operativeReply : Result Float → OperativeReply
+operativeReply (ok x) = OperativeReply.Accepted x
+operativeReply (refused number index) = OperativeReply.Refused number index
 
 -- demand changes no state
 abbrev pub demandReply : State → Result Demand → DemandReply

@@ -1,14 +1,14 @@
 -- Update, demand and hour step of document 01: the tests in the paper's order, then the calculation.
 use Prim.Native.Nat.{ℕ}
-use mathlib.Core.Bool.{cond, _&&_}
+use mathlib.Core.Bool.{_&&_}
 use mathlib.Core.List.{List}
 use lib.Ieee.{Float}
-use Rattle.solver.specs.F64.{_+ᶠ_, _*ᶠ_, _/ᶠ_, dec, zero64}
+use Rattle.solver.specs.F64.{_+ᶠ_, _*ᶠ_, _/ᶠ_, dec}
 use Rattle.solver.specs.Result.{Result, ok, bind, require}
-use Rattle.solver.specs.Closeness.{closeInDemand}
 use Rattle.zone.specs.declared.record.building_element.Coefficients.{Coefficients}
 use Rattle.zone.specs.declared.record.zone_record.Zone.{Zone}
 use Rattle.zone.specs.declared.format.conditions.Conditions.{Conditions}
+use Rattle.zone.specs.Record.Numbers.{conditionsValue}
 use Rattle.zone.specs.Check.Ranges.{gainsRange, fractionRange, rateRange}
 use Rattle.zone.specs.Format.Conditions.{conditionsOf}
 use Rattle.zone.specs.declared.physics.balance.HeatBalance.{HeatBalance}
@@ -17,7 +17,7 @@ use Rattle.zone.specs.Physics.HeatBalance.{heatBalance}
 use Rattle.zone.specs.declared.calls.state.State.{State}
 use Rattle.zone.specs.declared.calls.state.Demand.{Demand}
 use Rattle.zone.specs.Calls.State.{zoneAndStateTest, slotsOf, stateOf}
-use Rattle.zone.specs.Hour.Demand.{deltaT, gainsHeatCool, spaceHeatCoolDemand}
+use Rattle.zone.specs.Hour.Demand.{deltaT, gainsHeatCool, shareOrZero, spaceHeatCoolDemand}
 
 -- the tests that demand, update and hour step share: the zone's 4, 5, then 6, then the conditions' 7, 8, 9
 unfoldable pub tested : Zone → State → List ℕ → Result Conditions
@@ -32,17 +32,12 @@ step c z s h gains fraction ach =
     bind (calcTemperatures c z (slotsOf z s) h dt gains fraction ach) λ t.
     ok (stateOf z t, heatBalance c z (slotsOf z s) h dt gains fraction ach t)
 
--- its own gains, fraction and rate are tested in 9, after the conditions, index 0; then the step
-unfoldable pub updateIn : Coefficients → Zone → State → Conditions → (gains fraction ach : Float) → Result (State × HeatBalance)
-updateIn c z s h gains fraction ach =
-    bind (require (gainsRange gains && fractionRange fraction && rateRange ach) 9) λ _.
-    step c z s h gains fraction ach
-
--- `update_temperatures`
+-- `update_temperatures`: its own gains, fraction and rate are tested in 9, after the conditions, index 0; then the step
 unfoldable pub updateTemperatures : Coefficients → Zone → State → List ℕ → (gains fraction ach : Float) → Result (State × HeatBalance)
 updateTemperatures c z s bytes gains fraction ach =
     bind (tested z s bytes) λ h.
-    updateIn c z s h gains fraction ach
+    bind (require (gainsRange gains && fractionRange fraction && rateRange ach) conditionsValue) λ _.
+    step c z s h gains fraction ach
 
 -- demand, from a state and the conditions' bytes
 unfoldable pub demand : Coefficients → Zone → State → List ℕ → Result Demand
@@ -56,21 +51,9 @@ demand c z s bytes =
 unfoldable pub delivered : Conditions → Demand → Float
 delivered h d = (d .«space_heat_demand» +ᶠ d .«space_cool_demand») *ᶠ dec 1000 0 /ᶠ h .«delta_t_h»
 
--- total g
-abbrev pub totalGains : Conditions → Float → Float
-totalGains h w = gainsHeatCool h +ᶠ w
-
--- the convective share of g, 0 where g is close to 0
-unfoldable pub convectiveShare : Conditions → Float → Float → Float
-convectiveShare h w g =
-    cond (closeInDemand g zero64) zero64
-    ((h .«gains_heat_cool_convective» +ᶠ w *ᶠ h .«frac_convective_heat») /ᶠ g)
-
-unfoldable pub meetDemand : Coefficients → Zone → State → Conditions → Demand → Result (State × HeatBalance)
-meetDemand c z s h d =
-    let w = delivered h d in
-    let g = totalGains h w in
-    step c z s h g (convectiveShare h w g) (d .«ach_cooling»)
+-- the convective share of the total gains g, 0 where g is close to 0
+unfoldable pub convectiveShare : Conditions → (w g : Float) → Float
+convectiveShare h w g = shareOrZero (h .«gains_heat_cool_convective» +ᶠ w *ᶠ h .«frac_convective_heat») g
 
 -- the demand, the state after the hour, and the heat balance
 pub record HourResult : Type 0 where
@@ -78,17 +61,11 @@ pub record HourResult : Type 0 where
   pub state : State
   pub balance : HeatBalance
 
-unfoldable pub hourMet : Coefficients → Zone → State → Conditions → Demand → Result HourResult
-hourMet c z s h d =
-    bind (meetDemand c z s h d) λ r.
-    ok (record { demand = d; state = r .0; balance = r .1 })
-
-unfoldable pub hourResult : Coefficients → Zone → State → Conditions → Result HourResult
-hourResult c z s h =
-    bind (spaceHeatCoolDemand c z (slotsOf z s) h) λ d.
-    hourMet c z s h d
-
 unfoldable pub hourStep : Coefficients → Zone → State → List ℕ → Result HourResult
 hourStep c z s bytes =
     bind (tested z s bytes) λ h.
-    hourResult c z s h
+    bind (spaceHeatCoolDemand c z (slotsOf z s) h) λ d.
+    let w = delivered h d in
+    let g = gainsHeatCool h +ᶠ w in
+    bind (step c z s h g (convectiveShare h w g) (d .«ach_cooling»)) λ r.
+    ok (record { demand = d; state = r .0; balance = r .1 })

@@ -14,6 +14,7 @@ use Rattle.zone.specs.declared.record.zone_record.Zone.{Zone}
 use Rattle.zone.specs.declared.format.conditions.Conditions.{Conditions}
 use Rattle.zone.specs.declared.format.conditions.AirChangesPerHourArgument.the-variants.{Cooling}
 use Rattle.zone.specs.Record.BuildingElement.{nodeCount}
+use Rattle.zone.specs.Record.Numbers.{notSettled}
 use Rattle.zone.specs.Check.ZoneTest.{zoneTest}
 use Rattle.zone.specs.Physics.CalcTemperatures.{calcTemperatures}
 use Rattle.zone.specs.declared.calls.state.State.{State}
@@ -73,18 +74,13 @@ module _ (c : Coefficients) (z : Zone) where
 
   -- the pass that settles does not store its temperatures; a limit of n allows n passes, then 15
   unfoldable pub settle : (limit : ℕ) → List Float → Result (List Float)
-  settle zero t = refused 15 0
+  settle zero t = refused notSettled 0
   settle (suc n) t =
       bind (pass t) λ t′.
       cond (close z t t′) (ok t) (settle n t′)
 
-  -- from the temperatures before the first pass
-  unfoldable pub settleFrom : (limit : ℕ) → List Float → Result State
-  settleFrom limit t₀ =
-      bind (settle limit t₀) λ t.
-      ok (stateOf z t)
-
   unfoldable pub initNodeTemps : Result State
   initNodeTemps =
       bind (zoneTest z) λ _.
-      settleFrom (z .«start_up_limit») (slotsOf z (startState z))
+      bind (settle (z .«start_up_limit») (slotsOf z (startState z))) λ t.
+      ok (stateOf z t)

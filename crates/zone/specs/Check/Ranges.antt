@@ -1,6 +1,6 @@
 -- Document 01, "Ranges, all finite": each range once. A comparison with a NaN is false, so a NaN lies in none.
 use Prim.Native.Nat.{ℕ, _^_}
-use mathlib.Core.Bool.{Bool, true, cond, _&&_}
+use mathlib.Core.Bool.{Bool, true, _&&_}
 use mathlib.Core.List.{List, [], _∷_}
 use lib.Dec.{ltb, leb}
 use lib.Ieee.{Float, neg, lt, le}
@@ -13,10 +13,6 @@ fromTo low high x = le low x && le x high
 -- above low, to high
 abbrev pub aboveTo : (low high : Float) → Float → Bool
 aboveTo low high x = lt low x && le x high
-
--- either of the two
-abbrev pub inside : (strict : Bool) (low high : Float) → Float → Bool
-inside strict low high x = cond strict (lt low x) (le low x) && le x high
 
 -- areas and volume above 0 to 100,000
 unfoldable pub areaRange : Float → Bool

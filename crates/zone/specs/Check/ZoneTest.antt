@@ -4,15 +4,23 @@ use mathlib.Core.Bool.{Bool, _&&_}
 use mathlib.Core.List.{List, [], _∷_}
 use lib.ListN.{take}
 use lib.Dec.{leb}
-use lib.Ieee.{Float}
-use Rattle.solver.specs.Result.{Result, ok, refused, bind, requireAt}
-use Rattle.zone.specs.Format.ElementLayout.{kCount, hCount, maxTreatments}
+use Rattle.solver.specs.Result.{Result, ok, refused, bind, require, requireAt}
+use Rattle.zone.specs.Record.Numbers.{structure, zoneValue}
+use Rattle.zone.specs.Record.BuildingElement.{numberOfNodes}
+use Rattle.zone.specs.Format.ElementLayout.{hCount, treatmentsValid}
 use Rattle.zone.specs.Check.Ranges.{areaRange, pitchRange, coefficientRange, hPliRange, kPliRange, fractionRange, skyRange, deltaRRange, irradianceRange, temperatureRange, heatingSetpointRange, setpointRange, limitRange, allIn, openWithin}
 use Rattle.zone.specs.declared.record.building_element.ElementHour.{ElementHour}
 use Rattle.zone.specs.declared.record.building_element.Element.{Element}
 use Rattle.zone.specs.declared.record.zone_record.Zone.{Zone}
 use Rattle.zone.specs.declared.record.zone_record.Verdict.{Verdict}
 use Rattle.zone.specs.declared.record.zone_record.Verdict.the-variants.{Accepted, Refused}
+
+-- each of a list passes a test, or the first that does not is refused; the first of the list has this index
+unfoldable pub eachNeeds : {A : Type 0} → (A → Bool) → (number : ℕ) → List A → (index : ℕ) → Result (Unit {0})
+eachNeeds test number [] i = ok tt
+eachNeeds test number (a ∷ as′) i =
+    bind (requireAt (test a) number i) λ _.
+    eachNeeds test number as′ (i + 1)
 
 -- the values of an hour's part of an element, but for the open byte
 unfoldable pub elementHourInRange : ElementHour → Bool
@@ -22,17 +30,6 @@ elementHourInRange h =
     && irradianceRange (h .«i_sol_dif»)
     && fractionRange (h .«f_sh_dir»)
     && fractionRange (h .«f_sh_dif»)
-
--- the first kc of k_pli, the first hc of h_pli and the first t of delta_r
-unfoldable pub arraysInRange : (kc hc t : ℕ) (k h d : List Float) → Bool
-arraysInRange kc hc t k h d = allIn kPliRange (take kc k) && allIn hPliRange (take hc h) && allIn deltaRRange (take t d)
-
--- the arrays, the first hour's part and its open byte
-unfoldable pub tailInRange : Element → Bool
-tailInRange e =
-    arraysInRange (kCount (e .kind)) (hCount (e .kind)) (e .treatments) (e .«k_pli») (e .«h_pli») (e .«delta_r»)
-    && elementHourInRange (e .«first_hour»)
-    && openWithin (e .treatments) (e .«first_hour» .«treatments_open»)
 
 -- every value that a head would hold of an element
 unfoldable pub elementInRange : Element → Bool
@@ -44,7 +41,11 @@ elementInRange e =
     && coefficientRange (e .«h_ri»)
     && fractionRange (e .«solar_absorption_coeff»)
     && skyRange (e .«therm_rad_to_sky»)
-    && tailInRange e
+    && (allIn kPliRange (take (numberOfNodes (e .kind)) (e .«k_pli»))
+    && allIn hPliRange (take (hCount (e .kind)) (e .«h_pli»))
+    && allIn deltaRRange (take (e .treatments) (e .«delta_r»))
+    && elementHourInRange (e .«first_hour»)
+    && openWithin (e .treatments) (e .«first_hour» .«treatments_open»))
 
 -- the limit and the six floats
 unfoldable pub frontInRange : Zone → Bool
@@ -57,31 +58,24 @@ frontInRange z =
     && heatingSetpointRange (z .«temp_setpnt_init»)
     && setpointRange (z .«temp_setpnt_cool_vent_init»)
 
--- elements of which the first has index i: the first with a value out of range
-unfoldable pub elementValuesTest : List Element → (i : ℕ) → Result (Unit {0})
-elementValuesTest [] i = ok tt
-elementValuesTest (e ∷ es) i =
-    bind (requireAt (elementInRange e) 5 i) λ _.
-    elementValuesTest es (i + 1)
-
 -- the first value out of range, in the order of a head's bytes: 5
 unfoldable pub valuesTest : Zone → Result (Unit {0})
 valuesTest z =
-    bind (requireAt (frontInRange z) 5 0) λ _.
-    elementValuesTest (take (z .count) (z .«building_elements»)) 1
+    bind (require (frontInRange z) zoneValue) λ _.
+    eachNeeds elementInRange zoneValue (take (z .count) (z .«building_elements»)) 1
 
--- elements of which the first has index i: the first with more treatments than its kind has
-unfoldable pub treatmentsTest : List Element → (i : ℕ) → Result (Unit {0})
-treatmentsTest [] i = ok tt
-treatmentsTest (e ∷ es) i =
-    bind (requireAt (leb (e .treatments) (maxTreatments (e .kind))) 4 i) λ _.
-    treatmentsTest es (i + 1)
+-- "element count n (1 to 24)"
+abbrev pub countValid : ℕ → Bool
+countValid n = leb 1 n && leb n 24
+
+abbrev pub elementTreatmentsValid : Element → Bool
+elementTreatmentsValid e = treatmentsValid (e .kind) (e .treatments)
 
 -- count and treatments: 4
 unfoldable pub countsTest : Zone → Result (Unit {0})
 countsTest z =
-    bind (requireAt (leb 1 (z .count) && leb (z .count) 24) 4 0) λ _.
-    treatmentsTest (take (z .count) (z .«building_elements»)) 1
+    bind (require (countValid (z .count)) structure) λ _.
+    eachNeeds elementTreatmentsValid structure (take (z .count) (z .«building_elements»)) 1
 
 unfoldable pub zoneTest : Zone → Result (Unit {0})
 zoneTest z =

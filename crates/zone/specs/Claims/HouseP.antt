@@ -1,95 +1,78 @@
--- House P: the marked rows of document 01, in one table under one claim, by computing; and its head of 180 bytes. The definitions are those
--- that the contracts cite. The hour's conditions go in as bytes; the house is a record, which head-claim shows to be what its head is read as (the
--- house of the row with 12 is a record only).
+-- House P: the marked rows of document 01 in one table under one claim, by computing; its head, start-up and hour. House and hours are bytes,
+-- read by the definitions that the contracts cite.
 use Prim.Native.Nat.{ℕ}
+use mathlib.Core.Path.{_≡_}
 use mathlib.Core.Bool.{Bool, true, false, _&&_}
-use mathlib.Core.List.{List, [], _∷_}
+use mathlib.Core.List.{List, [], _∷_, _++_}
 use lib.ListN.{getD, replicate}
 use lib.Dec.{eqb}
 use lib.Ieee.{Float, binary64, nan, neg, toBits}
 use Rattle.solver.specs.F64.{dec, zero64, one64}
 use Rattle.solver.specs.Result.{Result, ok, refused}
-use Rattle.zone.specs.declared.record.building_element.Element.{Element}
-use Rattle.zone.specs.declared.record.building_element.ElementHour.{ElementHour}
-use Rattle.zone.specs.declared.record.building_element.Kind.the-variants.{Transparent}
+use Rattle.zone.specs.Record.BuildingElement.{standardCoefficients, hCi}
+use Rattle.zone.specs.Format.Decode.{zoneAt}
+use Rattle.zone.specs.Format.Head.{headOf}
+use Rattle.zone.specs.Format.Encode.{rowBytes}
+use Rattle.zone.specs.Physics.Ventilation.{achReqToReachTemperature}
+use Rattle.zone.specs.Calls.Hour.{updateTemperatures, demand, hourStep}
+use Rattle.zone.specs.Calls.StartUp.{initNodeTemps}
 use Rattle.zone.specs.declared.record.zone_record.Zone.{Zone}
-use Rattle.zone.specs.declared.record.zone_record.ZoneTemperatureControlBasis.the-variants.{Air}
-use Rattle.zone.specs.declared.format.conditions.Conditions.{Conditions}
-use Rattle.zone.specs.declared.format.conditions.AirChangesPerHourArgument.the-variants.{Cooling}
-use Rattle.zone.specs.Record.BuildingElement.{standardCoefficients}
-use Rattle.zone.specs.Format.Decode.{noElement}
-use Rattle.zone.specs.Format.Encode.{conditionsBytes}
 use Rattle.zone.specs.declared.physics.balance.HeatBalance.{HeatBalance}
 use Rattle.zone.specs.declared.calls.state.State.{State}
 use Rattle.zone.specs.declared.calls.state.Demand.{Demand}
-use Rattle.zone.specs.Calls.Hour.{updateTemperatures, demand}
-use Rattle.zone.specs.Record.BuildingElement.{hCi}
-use Rattle.zone.specs.Physics.Ventilation.{achReqToReachTemperature}
+use Rattle.zone.specs.declared.calls.state.AchToTriggerHeating.the-variants.{Absent}
 
--- every temperature is 20, no sun
-abbrev part : ElementHour
-part = record { «temp_ext» = dec 20 0; «i_sol_dir» = zero64; «i_sol_dif» = zero64; «f_sh_dir» = one64; «f_sh_dif» = one64; «treatments_open» = 0 }
+-- 1.4 × 10^32: no ventilation control
+abbrev noControl : Float
+noControl = dec 140000000000000000000000000000000 0
 
-abbrev window : (k h_ce : Float) → Element
-window k h_ce =
-    record {
-      kind = Transparent;
-      treatments = 0;
-      area = one64;
-      pitch = dec 90 0;
-      «h_ce» = h_ce;
-      «h_re» = zero64;
-      «h_ri» = zero64;
-      «solar_absorption_coeff» = zero64;
-      «therm_rad_to_sky» = zero64;
-      «k_pli» = zero64 ∷ k ∷ zero64 ∷ zero64 ∷ zero64 ∷ [];
-      «h_pli» = one64 ∷ zero64 ∷ zero64 ∷ zero64 ∷ [];
-      «delta_r» = replicate 4 zero64;
-      «first_hour» = part;
-    }
+-- an hour's part of its element: 20, no irradiance, shading 1; no treatment is open
+abbrev part : List ℕ
+part = rowBytes (dec 20 0 ∷ zero64 ∷ zero64 ∷ one64 ∷ one64 ∷ []) ++ (0 ∷ [])
 
-abbrev house : (k h_ce bridges usefulArea : Float) → Zone
-house k h_ce bridges usefulArea =
-    record {
-      «temp_setpnt_basis» = Air;
-      count = 1;
-      «start_up_limit» = 10;
-      «useful_area» = usefulArea;
-      volume = dec 100 0;
-      «tb_heat_trans_coeff» = bridges;
-      «temp_ext_air_init» = dec 20 0;
-      «temp_setpnt_init» = dec 20 0;
-      «temp_setpnt_cool_vent_init» = dec 140000000000000000000000000000000 0;
-      «building_elements» = window k h_ce ∷ replicate 23 noElement;
-    }
+-- length, version, air basis, one element, limit 10; useful area, volume, bridges, first external, set and ventilation temperature; a Transparent
+-- with no treatments: area, pitch, h_ce, h_re, h_ri, absorption, sky, k_pli, h_pli; its first hour
+abbrev head : (k h_ce bridges usefulArea : Float) → List ℕ
+head k h_ce bridges usefulArea =
+    (0 ∷ 0 ∷ 0 ∷ 176 ∷ 1 ∷ 0 ∷ 1 ∷ 0 ∷ 10 ∷ [])
+    ++ (rowBytes (usefulArea ∷ dec 100 0 ∷ bridges ∷ dec 20 0 ∷ dec 20 0 ∷ noControl ∷ [])
+    ++ ((4 ∷ 0 ∷ [])
+    ++ (rowBytes (one64 ∷ dec 90 0 ∷ h_ce ∷ zero64 ∷ zero64 ∷ zero64 ∷ zero64 ∷ zero64 ∷ k ∷ one64 ∷ [])
+    ++ part)))
+
+abbrev pub headOfP : List ℕ
+headOfP = head (dec 3600 0) one64 (dec 430625 4) (dec 36 0)
 
 abbrev pub houseP : Zone
-houseP = house (dec 3600 0) one64 (dec 430625 4) (dec 36 0)
+houseP = zoneAt headOfP
 
+-- "P with k 0, 0, h_ce 0, bridges 0, useful area 1e-20"
 abbrev singular : Zone
-singular = house zero64 zero64 zero64 (dec 1 20)
+singular = zoneAt (head zero64 zero64 zero64 (dec 1 20))
 
-abbrev hour : (heat cool : Float) → Conditions
+-- the hour: length, external, no gains, fractions 1, setpoints, no ventilation control, supply, no gains; fixed rate 0
+abbrev hour : (heat cool : Float) → List ℕ
 hour heat cool =
-    record {
-      «delta_t_h» = one64;
-      «temp_ext_air» = dec 20 0;
-      «gains_internal» = zero64;
-      «gains_solar» = zero64;
-      «frac_convective_heat» = one64;
-      «frac_convective_cool» = one64;
-      «temp_setpnt_heat» = heat;
-      «temp_setpnt_cool» = cool;
-      «temp_setpnt_cool_vent» = dec 140000000000000000000000000000000 0;
-      «avg_air_supply_temp» = dec 20 0;
-      «gains_heat_cool_convective» = zero64;
-      «gains_heat_cool_radiative» = zero64;
-      «ach_args» = Cooling zero64;
-      elements = replicate 24 part;
-    }
+    rowBytes (one64 ∷ dec 20 0 ∷ zero64 ∷ zero64 ∷ one64 ∷ one64 ∷ heat ∷ cool ∷ noControl ∷ dec 20 0 ∷ zero64 ∷ zero64 ∷ [])
+    ++ (0 ∷ (rowBytes (zero64 ∷ zero64 ∷ []) ++ part))
 
-abbrev twenty : State
+abbrev pub hourOfP : List ℕ
+hourOfP = hour (dec 20 0) (dec 24 0)
+
+abbrev pub twenty : State
 twenty = record { nodes = 3; temps = dec 20 0 ∷ dec 20 0 ∷ dec 20 0 ∷ replicate 118 zero64 }
+
+abbrev pub noDemand : Demand
+noDemand = record { «space_heat_demand» = zero64; «space_cool_demand» = zero64; «ach_cooling» = zero64; «ach_to_trigger_heating» = Absent }
+
+-- its head is 180 bytes; start-up finds 20, 20, 20; an hour with setpoints 20 and 24 wants nothing and leaves them; its heat balance is left open here
+pub record HousePClaims : Type 0 where
+  pub head : headOf headOfP ≡ ok (record { zone = houseP; length = 180 })
+  pub start-up : initNodeTemps standardCoefficients houseP ≡ ok twenty
+  pub balance : HeatBalance
+  pub hour : hourStep standardCoefficients houseP twenty hourOfP ≡ ok (record { demand = noDemand; state = twenty; balance = balance })
+
+-- ---- the table
 
 abbrev same : Float → Float → Bool
 same x y = eqb (toBits binary64 x) (toBits binary64 y)
@@ -98,78 +81,53 @@ abbrev demandIs : (heating cooling : Float) → Result Demand → Bool
 demandIs heating cooling (ok d) = same (d .«space_heat_demand») heating && same (d .«space_cool_demand») cooling
 demandIs heating cooling (refused _ _) = false
 
+-- the number, and no index
 abbrev refusedWith : {A : Type 0} → ℕ → Result A → Bool
 refusedWith n (ok _) = false
-refusedWith n (refused k _) = eqb k n
+refusedWith n (refused k i) = eqb k n && eqb i 0
+
+abbrev isTwenty : State → ℕ → Bool
+isTwenty s i = same (getD (s .temps) i nan) (dec 20 0)
 
 abbrev allTwenty : Result (State × HeatBalance) → Bool
-allTwenty (ok r) =
-    eqb (r .0 .nodes) 3
-    && same (getD (r .0 .temps) 0 nan) (dec 20 0)
-    && same (getD (r .0 .temps) 1 nan) (dec 20 0)
-    && same (getD (r .0 .temps) 2 nan) (dec 20 0)
+allTwenty (ok r) = eqb (r .0 .nodes) 3 && isTwenty (r .0) 0 && isTwenty (r .0) 1 && isTwenty (r .0) 2
 allTwenty (refused _ _) = false
 
--- an update with no gains, fraction 0 and rate 0
-abbrev updateReply : Zone → Result (State × HeatBalance)
-updateReply z = updateTemperatures standardCoefficients z twenty (conditionsBytes 1 (hour (dec 20 0) (dec 24 0))) zero64 zero64 zero64
+-- free temperatures: an update with no gains, fraction 0 and rate 0
+abbrev updated : Zone → Result (State × HeatBalance)
+updated z = updateTemperatures standardCoefficients z twenty hourOfP zero64 zero64 zero64
 
+-- demand at setpoints
 abbrev asked : Zone → (heat cool : Float) → Result Demand
-asked z heat cool = demand standardCoefficients z twenty (conditionsBytes 1 (hour heat cool))
+asked z heat cool = demand standardCoefficients z twenty (hour heat cool)
 
--- the head, 180 bytes: front; useful area, volume, bridges; three temperatures; kind and treatments; area, pitch, h_ce, h_re; h_ri,
--- absorption, sky; k_pli, h_pli; the first hour
-abbrev pub headOfP : List ℕ
-headOfP =
-    0 ∷ 0 ∷ 0 ∷ 176 ∷ 1 ∷ 0 ∷ 1 ∷ 0 ∷ 10 ∷
-    64 ∷ 66 ∷ 0 ∷ 0 ∷ 0 ∷ 0 ∷ 0 ∷ 0 ∷ 64 ∷ 89 ∷ 0 ∷ 0 ∷ 0 ∷ 0 ∷ 0 ∷ 0 ∷ 64 ∷ 69 ∷ 136 ∷ 0 ∷ 0 ∷ 0 ∷ 0 ∷ 0 ∷
-    64 ∷ 52 ∷ 0 ∷ 0 ∷ 0 ∷ 0 ∷ 0 ∷ 0 ∷ 64 ∷ 52 ∷ 0 ∷ 0 ∷ 0 ∷ 0 ∷ 0 ∷ 0 ∷ 70 ∷ 155 ∷ 156 ∷ 49 ∷ 151 ∷ 7 ∷ 154 ∷ 32 ∷
-    4 ∷ 0 ∷
-    63 ∷ 240 ∷ 0 ∷ 0 ∷ 0 ∷ 0 ∷ 0 ∷ 0 ∷ 64 ∷ 86 ∷ 128 ∷ 0 ∷ 0 ∷ 0 ∷ 0 ∷ 0 ∷ 63 ∷ 240 ∷ 0 ∷ 0 ∷ 0 ∷ 0 ∷ 0 ∷ 0 ∷ 0 ∷ 0 ∷ 0 ∷ 0 ∷ 0 ∷ 0 ∷ 0 ∷ 0 ∷
-    0 ∷ 0 ∷ 0 ∷ 0 ∷ 0 ∷ 0 ∷ 0 ∷ 0 ∷ 0 ∷ 0 ∷ 0 ∷ 0 ∷ 0 ∷ 0 ∷ 0 ∷ 0 ∷ 0 ∷ 0 ∷ 0 ∷ 0 ∷ 0 ∷ 0 ∷ 0 ∷ 0 ∷
-    0 ∷ 0 ∷ 0 ∷ 0 ∷ 0 ∷ 0 ∷ 0 ∷ 0 ∷ 64 ∷ 172 ∷ 32 ∷ 0 ∷ 0 ∷ 0 ∷ 0 ∷ 0 ∷ 63 ∷ 240 ∷ 0 ∷ 0 ∷ 0 ∷ 0 ∷ 0 ∷ 0 ∷
-    64 ∷ 52 ∷ 0 ∷ 0 ∷ 0 ∷ 0 ∷ 0 ∷ 0 ∷ 0 ∷ 0 ∷ 0 ∷ 0 ∷ 0 ∷ 0 ∷ 0 ∷ 0 ∷
-    0 ∷ 0 ∷ 0 ∷ 0 ∷ 0 ∷ 0 ∷ 0 ∷ 0 ∷ 63 ∷ 240 ∷ 0 ∷ 0 ∷ 0 ∷ 0 ∷ 0 ∷ 0 ∷ 63 ∷ 240 ∷ 0 ∷ 0 ∷ 0 ∷ 0 ∷ 0 ∷ 0 ∷
-    0 ∷ []
+-- h_ci of a pitch, where air and surface have one temperature
+abbrev hCiOfPitch : (pitch : Float) → Float
+hCiOfPitch pitch = hCi standardCoefficients pitch (dec 20 0) (dec 20 0)
 
-pub data Row : Type 0 where
-  -- h_ci of a pitch, where air and surface have one temperature
-  hCiRow : (pitch expected : Float) → Row
-  -- the rate for a target, operative and air both 24 at the first rate and 16 at the second, supply 8
-  achRow : (target achMin achMax expected : Float) → Row
-  -- free temperatures 20, 20, 20
-  freeRow : Row
-  -- setpoints, heating and cooling
-  demandRow : (heat cool heating cooling : Float) → Row
-  refusedRow : (heat cool : Float) (number : ℕ) → Row
-  singularRow : (number : ℕ) → Row
+-- the rate for a target, operative and air both 24 at the first rate and 16 at the second, supply 8
+abbrev rateFor : (target achMin achMax : Float) → Float
+rateFor target achMin achMax = achReqToReachTemperature target achMin achMax (dec 24 0) (dec 16 0) (dec 24 0) (dec 16 0) (dec 8 0)
 
-unfoldable pub holds : Row → Bool
-holds (hCiRow pitch x) = same (hCi standardCoefficients pitch (dec 20 0) (dec 20 0)) x
-holds (achRow target achMin achMax x) = same (achReqToReachTemperature target achMin achMax (dec 24 0) (dec 16 0) (dec 24 0) (dec 16 0) (dec 8 0)) x
-holds freeRow = allTwenty (updateReply houseP)
-holds (demandRow heat cool heating cooling) = demandIs heating cooling (asked houseP heat cool)
-holds (refusedRow heat cool n) = refusedWith n (asked houseP heat cool)
-holds (singularRow n) = refusedWith n (asked singular (dec 20 0) (dec 24 0)) && refusedWith n (updateReply singular)
-
-unfoldable pub allHold : List Row → Bool
+unfoldable pub allHold : List Bool → Bool
 allHold [] = true
-allHold (r ∷ rs) = holds r && allHold rs
+allHold (row ∷ rows) = row && allHold rows
 
-abbrev pub table : List Row
+abbrev pub table : List Bool
 table =
-    freeRow
-    ∷ demandRow (dec 20 0) (dec 24 0) zero64 zero64
-    ∷ demandRow (dec 21 0) (dec 24 0) (dec 144 3) zero64
-    ∷ demandRow (dec 15 0) (dec 19 0) zero64 (neg (dec 144 3))
-    ∷ refusedRow (dec 22 0) (dec 21 0) 10
-    ∷ singularRow 12
-    ∷ hCiRow (dec 60 0) (dec 25 1)
-    ∷ hCiRow (dec 120 0) (dec 25 1)
-    ∷ hCiRow (dec 599 1) (dec 50 1)
-    ∷ hCiRow (dec 1201 1) (dec 7 1)
-    ∷ achRow (dec 24 0) (dec 1 0) (dec 5 0) (dec 1 0)
-    ∷ achRow (dec 16 0) (dec 1 0) (dec 5 0) (dec 5 0)
-    ∷ achRow (dec 8 0) (dec 1 0) (dec 5 0) (dec 5 0)
-    ∷ achRow (dec 24 0) (dec 2 0) (dec 1 0) (dec 1 0)
+    allTwenty (updated houseP)
+    ∷ demandIs zero64 zero64 (asked houseP (dec 20 0) (dec 24 0))
+    ∷ demandIs (dec 144 3) zero64 (asked houseP (dec 21 0) (dec 24 0))
+    ∷ demandIs zero64 (neg (dec 144 3)) (asked houseP (dec 15 0) (dec 19 0))
+    ∷ refusedWith 10 (asked houseP (dec 22 0) (dec 21 0))
+    ∷ refusedWith 12 (asked singular (dec 20 0) (dec 24 0))
+    ∷ refusedWith 12 (updated singular)
+    ∷ same (hCiOfPitch (dec 60 0)) (dec 25 1)
+    ∷ same (hCiOfPitch (dec 120 0)) (dec 25 1)
+    ∷ same (hCiOfPitch (dec 599 1)) (dec 50 1)
+    ∷ same (hCiOfPitch (dec 1201 1)) (dec 7 1)
+    ∷ same (rateFor (dec 24 0) (dec 1 0) (dec 5 0)) (dec 1 0)
+    ∷ same (rateFor (dec 16 0) (dec 1 0) (dec 5 0)) (dec 5 0)
+    ∷ same (rateFor (dec 8 0) (dec 1 0) (dec 5 0)) (dec 5 0)
+    ∷ same (rateFor (dec 24 0) (dec 2 0) (dec 1 0)) (dec 1 0)
     ∷ []

@@ -1,37 +1,62 @@
--- Document 01, "Refused, operation by operation": which numbers and indices demand, hour step, update and start-up can be refused with.
-use Prim.Native.Nat.{ℕ}
-use Rattle.solver.specs.Refusals.{SolveRefusal}
+-- Document 01, "Refused, operation by operation": which numbers and indices operative temperature, demand, hour step, update and start-up can be refused with.
+use Prim.Native.Nat.{ℕ, _≤_}
+use mathlib.Core.List.{List}
+use lib.Ieee.{Float}
+use Rattle.solver.specs.Refusals.{RefusesOnly, SolveRefusal}
+use Rattle.zone.specs.declared.record.building_element.Coefficients.{Coefficients}
+use Rattle.zone.specs.declared.record.zone_record.Zone.{Zone}
+use Rattle.zone.specs.declared.calls.state.State.{State}
+use Rattle.zone.specs.Calls.State.{operative}
+use Rattle.zone.specs.Calls.Hour.{demand, hourStep, updateTemperatures}
+use Rattle.zone.specs.Calls.StartUp.{initNodeTemps}
+use Rattle.zone.specs.Record.Numbers.{stateInvalid, conditionsValue, coolingBelowHeating, ventilationBelowHeating, noEffect, notSettled}
 use Rattle.zone.specs.Claims.HeadRefusals.{ZoneRefusal, ConditionsRefusal}
+
+-- the operative temperature: the zone's 4, 5, then the state's 6
+pub data OperativeRefusal : (number index : ℕ) → Type 0 where
+  operativeZone : {number index : ℕ} → ZoneRefusal number index → OperativeRefusal number index
+  operativeState : OperativeRefusal stateInvalid 0
 
 -- "Demand and hour step"
 pub data HourRefusal : (number index : ℕ) → Type 0 where
   -- the zone's 4, 5
   hourZone : {number index : ℕ} → ZoneRefusal number index → HourRefusal number index
   -- "state of wrong node count or with a value not finite or beyond ±1e6"
-  hourState : HourRefusal 6 0
+  hourState : HourRefusal stateInvalid 0
   -- 7, 8, 9
   hourConditions : {number index : ℕ} → ConditionsRefusal number index → HourRefusal number index
   -- "cooling below heating setpoint"
-  hourCooling : HourRefusal 10 0
+  hourCooling : HourRefusal coolingBelowHeating 0
   -- "ventilation below heating"
-  hourVentilation : HourRefusal 11 0
+  hourVentilation : HourRefusal ventilationBelowHeating 0
   -- "then per solve": 12, 13
   hourSolve : {number index : ℕ} → SolveRefusal number index → HourRefusal number index
   -- "last, loaded and free temperature differ by something close to 0"
-  hourClose : HourRefusal 14 0
+  hourClose : HourRefusal noEffect 0
 
 -- "Update: 6 to 9, its own gains, fraction and rate tested in 9 after the conditions, index 0, then 12, 13."
 pub data UpdateRefusal : (number index : ℕ) → Type 0 where
   updateZone : {number index : ℕ} → ZoneRefusal number index → UpdateRefusal number index
-  updateState : UpdateRefusal 6 0
+  updateState : UpdateRefusal stateInvalid 0
   updateConditions : {number index : ℕ} → ConditionsRefusal number index → UpdateRefusal number index
-  updateValues : UpdateRefusal 9 0
+  updateValues : UpdateRefusal conditionsValue 0
   updateSolve : {number index : ℕ} → SolveRefusal number index → UpdateRefusal number index
 
 -- "Start-up: 11, 12, 13, 14 from its solves; 15 when the limit passes without settling." Not 10: its two setpoints are one.
 pub data StartUpRefusal : (number index : ℕ) → Type 0 where
   startUpZone : {number index : ℕ} → ZoneRefusal number index → StartUpRefusal number index
-  startUpVentilation : StartUpRefusal 11 0
+  startUpVentilation : StartUpRefusal ventilationBelowHeating 0
   startUpSolve : {number index : ℕ} → SolveRefusal number index → StartUpRefusal number index
-  startUpClose : StartUpRefusal 14 0
-  startUpLimit : StartUpRefusal 15 0
+  startUpClose : StartUpRefusal noEffect 0
+  startUpLimit : StartUpRefusal notSettled 0
+
+-- "an index for 4, 5, 9 (element from 1, 0 if none)": an element of this zone
+abbrev pub OfZone : Zone → (number index : ℕ) → Type 0
+OfZone z number index = index ≤ z .count
+
+pub record IndicesOfZone (c : Coefficients) (z : Zone) : Type 0 where
+  pub operatives : (s : State) → RefusesOnly (OfZone z) (operative z s)
+  pub demands : (s : State) (bytes : List ℕ) → RefusesOnly (OfZone z) (demand c z s bytes)
+  pub hourSteps : (s : State) (bytes : List ℕ) → RefusesOnly (OfZone z) (hourStep c z s bytes)
+  pub updates : (s : State) (bytes : List ℕ) (gains fraction ach : Float) → RefusesOnly (OfZone z) (updateTemperatures c z s bytes gains fraction ach)
+  pub startUp : RefusesOnly (OfZone z) (initNodeTemps c z)

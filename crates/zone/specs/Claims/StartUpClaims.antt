@@ -4,10 +4,14 @@ use mathlib.Core.Path.{_≡_}
 use mathlib.Core.Bool.{true, false}
 use mathlib.Core.List.{List}
 use lib.Ieee.{Float}
-use Rattle.solver.specs.Result.{ok}
+use Rattle.solver.specs.Result.{ok, refused}
 use Rattle.zone.specs.declared.record.building_element.Coefficients.{Coefficients}
 use Rattle.zone.specs.declared.record.zone_record.Zone.{Zone}
-use Rattle.zone.specs.Calls.StartUp.{close, pass}
+use Rattle.zone.specs.declared.calls.state.State.{State}
+use Rattle.zone.specs.Record.Numbers.{notSettled}
+use Rattle.zone.specs.Check.ZoneTest.{zoneTest}
+use Rattle.zone.specs.Calls.State.{slotsOf, stateOf}
+use Rattle.zone.specs.Calls.StartUp.{close, pass, startState, initNodeTemps}
 
 module _ (c : Coefficients) (z : Zone) where
   -- n passes lead from one vector to another; none of them is refused, and none settles
@@ -27,3 +31,24 @@ module _ (c : Coefficients) (z : Zone) where
     pub fewer : passes < limit
     pub unsettled : Unsettled passes t u
     pub settles : Settles u
+
+  -- start-up's own passes: as many as the zone's limit, from the temperatures before the first
+  abbrev pub LimitUnsettled : List Float → Type 0
+  LimitUnsettled u = Unsettled (z .«start_up_limit») (slotsOf z (startState z)) u
+
+  abbrev pub SettledInLimit : List Float → Type 0
+  SettledInLimit u = SettledAt (z .«start_up_limit») (slotsOf z (startState z)) u
+
+  -- "15 means that no pass up to the limit settled", and if none does, 15 is the answer
+  abbrev pub StartUp15 : Type 0
+  StartUp15 = (j : ℕ) → initNodeTemps c z ≡ refused notSettled j → (u : List Float) × LimitUnsettled u
+
+  abbrev pub StartUpIs15 : Type 0
+  StartUpIs15 = (u : List Float) → zoneTest z ≡ ok tt → LimitUnsettled u → initNodeTemps c z ≡ refused notSettled 0
+
+  -- an accepted start-up is settled, and settled temperatures are its answer
+  abbrev pub StartUpSettled : Type 0
+  StartUpSettled = (s : State) → initNodeTemps c z ≡ ok s → (u : List Float) × SettledInLimit u × (stateOf z u ≡ s)
+
+  abbrev pub StartUpIsSettled : Type 0
+  StartUpIsSettled = (u : List Float) → zoneTest z ≡ ok tt → SettledInLimit u → initNodeTemps c z ≡ ok (stateOf z u)

@@ -1,8 +1,12 @@
 -- Numbers and floats as bytes, the highest byte first.
-use Prim.Native.Nat.{ℕ, suc, zero, _+_, _*_, _/_, _%_}
+use Prim.Native.Nat.{ℕ, suc, zero, _+_, _*_, _/_, _%_, _<_}
 use mathlib.Core.List.{List, [], _∷_, _++_}
-use lib.ListN.{take, drop}
+use lib.ListN.{take, drop, getD}
 use lib.Ieee.{Float, binary64, ofBits}
+
+-- every number of a list is a byte
+abbrev pub Bytes : List ℕ → Type 0
+Bytes s = (i : ℕ) → getD s i 0 < 256
 
 -- the number that bytes spell behind a number that was read already
 unfoldable pub bigEndianFrom : ℕ → List ℕ → ℕ

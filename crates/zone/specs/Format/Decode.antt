@@ -6,10 +6,11 @@ use lib.ListN.{getD, replicate}
 use lib.Dec.{eqb}
 use lib.Ieee.{Float}
 use Rattle.solver.specs.F64.{zero64}
-use Rattle.zone.specs.Format.Bytes.{numAt, floatAt}
-use Rattle.zone.specs.Format.ElementLayout.{kCount, hCount, kindAt, treatmentsAt, sizeAt}
+use Rattle.zone.specs.Format.Bytes.{floatAt}
+use Rattle.zone.specs.Format.Layout.{basisIn, countIn, limitIn, zoneFloats, firstElement, elementFloats, elementArrays, openByte}
+use Rattle.zone.specs.Record.BuildingElement.{numberOfNodes}
+use Rattle.zone.specs.Format.ElementLayout.{hCount, kindAt, treatmentsAt, sizeAt}
 use Rattle.zone.specs.declared.record.building_element.Kind.{Kind}
-use Rattle.zone.specs.declared.record.building_element.Kind.the-variants.{Opaque}
 use Rattle.zone.specs.declared.record.building_element.ElementHour.{ElementHour}
 use Rattle.zone.specs.declared.record.building_element.Element.{Element}
 use Rattle.zone.specs.declared.record.zone_record.Zone.{Zone}
@@ -25,107 +26,69 @@ floatsAt bs at (suc n) = floatAt bs at ∷ floatsAt bs (at + 8) n
 abbrev pub arrayAt : (size : ℕ) → List ℕ → (at count : ℕ) → List Float
 arrayAt size bs at n = floatsAt bs at n ++ replicate (size - n) zero64
 
--- an hour's part of an element, 41 bytes
+-- an hour's part of an element
 abbrev pub elementHourAt : List ℕ → (at : ℕ) → ElementHour
 elementHourAt bs at =
-    record {
-      «temp_ext» = floatAt bs at;
-      «i_sol_dir» = floatAt bs (at + 8);
-      «i_sol_dif» = floatAt bs (at + 16);
-      «f_sh_dir» = floatAt bs (at + 24);
-      «f_sh_dif» = floatAt bs (at + 32);
-      «treatments_open» = getD bs (at + 40) 0;
-    }
+    let f : ℕ → Float = λ i. floatAt bs (at + 8 * i) in
+    record { «temp_ext» = floatAt bs at; «i_sol_dir» = f 1; «i_sol_dif» = f 2; «f_sh_dir» = f 3; «f_sh_dif» = f 4; «treatments_open» = getD bs (at + openByte) 0 }
+
+-- the hour's part of no element: what no bytes are read as
+unfoldable pub noElementHour : ElementHour
+noElementHour = elementHourAt [] 0
 
 -- the element at p, of a kind with t treatments, kc of k_pli and hc of h_pli
 abbrev pub elementWith : List ℕ → (p : ℕ) → Kind → (t kc hc : ℕ) → Element
 elementWith bs p k t kc hc =
+    let f : ℕ → Float = λ i. floatAt bs (p + (elementFloats + 8 * i)) in
     record {
       kind = k;
       treatments = t;
-      area = floatAt bs (p + 2);
-      pitch = floatAt bs (p + 10);
-      «h_ce» = floatAt bs (p + 18);
-      «h_re» = floatAt bs (p + 26);
-      «h_ri» = floatAt bs (p + 34);
-      «solar_absorption_coeff» = floatAt bs (p + 42);
-      «therm_rad_to_sky» = floatAt bs (p + 50);
-      «k_pli» = arrayAt 5 bs (p + 58) kc;
-      «h_pli» = arrayAt 4 bs (p + 58 + 8 * kc) hc;
-      «delta_r» = arrayAt 4 bs (p + 58 + 8 * kc + 8 * hc) t;
-      «first_hour» = elementHourAt bs (p + 58 + 8 * kc + 8 * hc + 8 * t);
+      area = f 0;
+      pitch = f 1;
+      «h_ce» = f 2;
+      «h_re» = f 3;
+      «h_ri» = f 4;
+      «solar_absorption_coeff» = f 5;
+      «therm_rad_to_sky» = f 6;
+      «k_pli» = arrayAt 5 bs (p + elementArrays) kc;
+      «h_pli» = arrayAt 4 bs (p + elementArrays + 8 * kc) hc;
+      «delta_r» = arrayAt 4 bs (p + elementArrays + 8 * kc + 8 * hc) t;
+      «first_hour» = elementHourAt bs (p + elementArrays + 8 * kc + 8 * hc + 8 * t);
     }
 
 abbrev pub elementAt : List ℕ → (p : ℕ) → Element
-elementAt bs p = elementWith bs p (kindAt bs p) (treatmentsAt bs p) (kCount (kindAt bs p)) (hCount (kindAt bs p))
+elementAt bs p = elementWith bs p (kindAt bs p) (treatmentsAt bs p) (numberOfNodes (kindAt bs p)) (hCount (kindAt bs p))
 
 -- so many elements from p on
 unfoldable pub elementsAt : List ℕ → (p count : ℕ) → List Element
 elementsAt bs p zero = []
 elementsAt bs p (suc n) = elementAt bs p ∷ elementsAt bs (p + sizeAt bs p) n
 
--- what stands in a place of no element
-abbrev pub noElementHour : ElementHour
-noElementHour =
-    record {
-      «temp_ext» = zero64;
-      «i_sol_dir» = zero64;
-      «i_sol_dif» = zero64;
-      «f_sh_dir» = zero64;
-      «f_sh_dif» = zero64;
-      «treatments_open» = 0;
-    }
-
-abbrev pub noElement : Element
-noElement =
-    record {
-      kind = Opaque;
-      treatments = 0;
-      area = zero64;
-      pitch = zero64;
-      «h_ce» = zero64;
-      «h_re» = zero64;
-      «h_ri» = zero64;
-      «solar_absorption_coeff» = zero64;
-      «therm_rad_to_sky» = zero64;
-      «k_pli» = replicate 5 zero64;
-      «h_pli» = replicate 4 zero64;
-      «delta_r» = replicate 4 zero64;
-      «first_hour» = noElementHour;
-    }
+-- what stands in a place of no element: what no bytes are read as
+unfoldable pub noElement : Element
+noElement = elementAt [] 0
 
 -- 0 air, 1 operative
 abbrev pub basisOf : ℕ → ZoneTemperatureControlBasis
 basisOf b = cond (eqb b 0) Air Operative
 
--- the zone of a head: length 4, version 1, basis 1, count 1, limit 2, six floats, then from byte 57 on the elements
+-- the zone of a head
 unfoldable pub zoneAt : List ℕ → Zone
 zoneAt bs =
+    let f : ℕ → Float = λ i. floatAt bs (zoneFloats + 8 * i) in
     record {
-      «temp_setpnt_basis» = basisOf (getD bs 5 0);
-      count = getD bs 6 0;
-      «start_up_limit» = numAt bs 7 2;
-      «useful_area» = floatAt bs 9;
-      volume = floatAt bs 17;
-      «tb_heat_trans_coeff» = floatAt bs 25;
-      «temp_ext_air_init» = floatAt bs 33;
-      «temp_setpnt_init» = floatAt bs 41;
-      «temp_setpnt_cool_vent_init» = floatAt bs 49;
-      «building_elements» = elementsAt bs 57 (getD bs 6 0) ++ replicate (24 - getD bs 6 0) noElement;
+      «temp_setpnt_basis» = basisOf (basisIn bs);
+      count = countIn bs;
+      «start_up_limit» = limitIn bs;
+      «useful_area» = f 0;
+      volume = f 1;
+      «tb_heat_trans_coeff» = f 2;
+      «temp_ext_air_init» = f 3;
+      «temp_setpnt_init» = f 4;
+      «temp_setpnt_cool_vent_init» = f 5;
+      «building_elements» = elementsAt bs firstElement (countIn bs) ++ replicate (24 - countIn bs) noElement;
     }
 
 -- what stands beside a refusal
 unfoldable pub noZone : Zone
-noZone =
-    record {
-      «temp_setpnt_basis» = Air;
-      count = 0;
-      «start_up_limit» = 0;
-      «useful_area» = zero64;
-      volume = zero64;
-      «tb_heat_trans_coeff» = zero64;
-      «temp_ext_air_init» = zero64;
-      «temp_setpnt_init» = zero64;
-      «temp_setpnt_cool_vent_init» = zero64;
-      «building_elements» = replicate 24 noElement;
-    }
+noZone = zoneAt []

@@ -16,6 +16,10 @@ kPli e i = getD (e .«k_pli») i nan
 abbrev pub hPli : Element → ℕ → Float
 hPli e i = getD (e .«h_pli») i nan
 
+-- the sun on an outer surface: diffuse and direct irradiance, each by its shading
+abbrev pub solarIrradiance : ElementHour → Float
+solarIrradiance h = h .«i_sol_dif» *ᶠ h .«f_sh_dif» +ᶠ h .«i_sol_dir» *ᶠ h .«f_sh_dir»
+
 module _ (e : Element) («delta_t» : Float) where
   -- (41): outer surface
   abbrev pub outerDiagonal : (k h : Float) → Float
@@ -64,10 +68,10 @@ module _ (e : Element) («delta_t» : Float) where
   outerRightSide h k t =
       k /ᶠ «delta_t» *ᶠ t
       +ᶠ (e .«h_ce» +ᶠ e .«h_re») *ᶠ h .«temp_ext»
-      +ᶠ e .«solar_absorption_coeff» *ᶠ (h .«i_sol_dif» *ᶠ h .«f_sh_dif» +ᶠ h .«i_sol_dir» *ᶠ h .«f_sh_dir»)
+      +ᶠ e .«solar_absorption_coeff» *ᶠ solarIrradiance h
       -ᶠ e .«therm_rad_to_sky»
 
-  -- of (40); and of (39), to which `withGains` adds the gains
+  -- of (40); and of (39), to which System's `rightSidesAt` adds the gains
   abbrev pub capacityTerm : (k t : Float) → Float
   capacityTerm k t = k /ᶠ «delta_t» *ᶠ t
 

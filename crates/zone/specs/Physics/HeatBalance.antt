@@ -1,10 +1,11 @@
 -- The heat balance of a time step, in W: 7, 4 and 14 values in the Rust's order, from the temperatures before (`temp_prev`) and after it
 -- (`vector_x`), in their slots.
-use Prim.Native.Nat.{ℕ}
-use mathlib.Core.List.{List}
+use Prim.Native.Nat.{ℕ, zero, suc}
+use mathlib.Core.Bool.{Bool, cond, _||_}
+use mathlib.Core.List.{List, [], _∷_}
+use lib.Dec.{eqb}
 use lib.Ieee.{Float, neg}
-use Rattle.solver.specs.F64.{_+ᶠ_, _-ᶠ_, _*ᶠ_, _/ᶠ_, zero64, one64}
-use Rattle.solver.specs.Each.{each}
+use Rattle.solver.specs.F64.{_+ᶠ_, _-ᶠ_, _*ᶠ_, _/ᶠ_, one64}
 use Rattle.solver.specs.Sums.{sumFrom0, terms}
 use Rattle.solver.specs.FastSolver.{atMost24}
 use Rattle.zone.specs.declared.record.building_element.Kind.{Kind}
@@ -18,13 +19,13 @@ use Rattle.zone.specs.declared.physics.balance.HeatBalanceAirNode.{HeatB
 use Rattle.zone.specs.declared.physics.balance.HeatBalanceInternalBoundary.{HeatBalanceInternalBoundary}
 use Rattle.zone.specs.declared.physics.balance.HeatBalanceExternalBoundary.{HeatBalanceExternalBoundary}
 use Rattle.zone.specs.declared.physics.balance.HeatBalance.{HeatBalance}
-use Rattle.zone.specs.declared.physics.fabric.FabricSums.{FabricSums}
+use Rattle.zone.specs.Format.Encode.{kindNumber}
 use Rattle.zone.specs.Physics.Ventilation.{calcVentHeatTransferCoeff}
 use Rattle.zone.specs.Physics.Slots.{air, innerSurface, outerSurface, element, elementHour}
-use Rattle.zone.specs.Physics.Assembly.{hCiAt}
-use Rattle.zone.specs.Physics.System.{areaOf, pitchOf, twoNodesOf}
+use Rattle.zone.specs.Physics.Equations.{solarIrradiance}
+use Rattle.zone.specs.Physics.System.{areaOf, zoneTwoNodes, hCiAt, cInt}
 
--- at the air node; `c_int` is the heat capacity of the air, `temp_internal` the air's temperature after the step
+-- at the air node; `temp_internal` is the air's temperature after the step
 abbrev pub airNode :
     Coefficients → («c_int» «h_ve» «tb_heat_trans_coeff» : Float) → Conditions → («delta_t» «gains_heat_cool» «f_hc_c» «temp_prev» «temp_internal» : Float)
     → HeatBalanceAirNode
@@ -48,7 +49,7 @@ airNode c «c_int» «h_ve» «tb_heat_trans_coeff» hour «delta_t» «gains_he
 -- at the internal boundary: h_ci is that of the temperatures before the step
 abbrev pub convectiveLossAt : Coefficients → List Element → («temp_prev» «vector_x» : List Float) → ℕ → Float
 convectiveLossAt c es «temp_prev» «vector_x» e =
-    areaOf es e *ᶠ (hCiAt c (pitchOf es) «temp_prev» e *ᶠ (air «vector_x» -ᶠ innerSurface «vector_x» e))
+    areaOf es e *ᶠ (hCiAt c es «temp_prev» e *ᶠ (air «vector_x» -ᶠ innerSurface «vector_x» e))
 
 abbrev pub internalBoundary : Coefficients → (convective : Float) → Conditions → («gains_heat_cool» «f_hc_c» : Float) → HeatBalanceInternalBoundary
 internalBoundary c convective hour «gains_heat_cool» «f_hc_c» =
@@ -61,77 +62,58 @@ internalBoundary c convective hour «gains_heat_cool» «f_hc_c» =
 
 -- at the external boundary, of one element with outer surface temperature t
 module _ (e : Element) (h : ElementHour) (t : Float) where
+  abbrev pub convectiveHeat : Float
+  convectiveHeat = e .area *ᶠ e .«h_ce» *ᶠ (h .«temp_ext» -ᶠ t)
+
+  abbrev pub radiativeHeat : Float
+  radiativeHeat = e .area *ᶠ e .«h_re» *ᶠ (h .«temp_ext» -ᶠ t)
+
   abbrev pub solarHeat : Float
-  solarHeat = e .area *ᶠ e .«solar_absorption_coeff» *ᶠ (h .«i_sol_dif» *ᶠ h .«f_sh_dif» +ᶠ h .«i_sol_dir» *ᶠ h .«f_sh_dir»)
+  solarHeat = e .area *ᶠ e .«solar_absorption_coeff» *ᶠ solarIrradiance h
 
   abbrev pub skyHeat : Float
   skyHeat = e .area *ᶠ neg (e .«therm_rad_to_sky»)
 
-  -- for the sum of its kind
+  -- for the sum of its kind: the first product is grouped otherwise than in `convectiveHeat`
   abbrev pub fabricExt : Float
-  fabricExt =
-      e .area *ᶠ (e .«h_ce» *ᶠ (h .«temp_ext» -ᶠ t))
-      +ᶠ e .area *ᶠ e .«h_re» *ᶠ (h .«temp_ext» -ᶠ t)
-      +ᶠ solarHeat
-      +ᶠ skyHeat
+  fabricExt = e .area *ᶠ (e .«h_ce» *ᶠ (h .«temp_ext» -ᶠ t)) +ᶠ radiativeHeat +ᶠ solarHeat +ᶠ skyHeat
 
-  -- for the four sums over all kinds
-  abbrev pub addBoundary : FabricSums → FabricSums
-  addBoundary s =
-      record {
-        convective = s .convective +ᶠ e .area *ᶠ e .«h_ce» *ᶠ (h .«temp_ext» -ᶠ t);
-        radiative = s .radiative +ᶠ e .area *ᶠ e .«h_re» *ᶠ (h .«temp_ext» -ᶠ t);
-        sol = s .sol +ᶠ solarHeat;
-        sky = s .sky +ᶠ skyHeat;
-        opaque = s .opaque;
-        transparent = s .transparent;
-        ground = s .ground;
-        ztc = s .ztc;
-        ztu = s .ztu;
-      }
+abbrev pub isKind : (kind k : Kind) → Bool
+isKind kind k = eqb (kindNumber k) (kindNumber kind)
 
--- a party wall counts with the unconditioned spaces
-abbrev pub addKind : Kind → Float → FabricSums → FabricSums
-addKind Opaque x s =
-    record { convective = s .convective; radiative = s .radiative; sol = s .sol; sky = s .sky; opaque = s .opaque +ᶠ x; transparent = s .transparent; ground = s .ground; ztc = s .ztc; ztu = s .ztu }
-addKind AdjacentConditionedSpace x s =
-    record { convective = s .convective; radiative = s .radiative; sol = s .sol; sky = s .sky; opaque = s .opaque; transparent = s .transparent; ground = s .ground; ztc = s .ztc +ᶠ x; ztu = s .ztu }
-addKind AdjacentUnconditionedSpaceSimple x s =
-    record { convective = s .convective; radiative = s .radiative; sol = s .sol; sky = s .sky; opaque = s .opaque; transparent = s .transparent; ground = s .ground; ztc = s .ztc; ztu = s .ztu +ᶠ x }
-addKind Ground x s =
-    record { convective = s .convective; radiative = s .radiative; sol = s .sol; sky = s .sky; opaque = s .opaque; transparent = s .transparent; ground = s .ground +ᶠ x; ztc = s .ztc; ztu = s .ztu }
-addKind Transparent x s =
-    record { convective = s .convective; radiative = s .radiative; sol = s .sol; sky = s .sky; opaque = s .opaque; transparent = s .transparent +ᶠ x; ground = s .ground; ztc = s .ztc; ztu = s .ztu }
-addKind PartyWall x s =
-    record { convective = s .convective; radiative = s .radiative; sol = s .sol; sky = s .sky; opaque = s .opaque; transparent = s .transparent; ground = s .ground; ztc = s .ztc; ztu = s .ztu +ᶠ x }
+module _ (z : Zone) (hour : Conditions) («vector_x» : List Float) where
+  -- one of these, of element e
+  abbrev pub heatAt : (Element → ElementHour → Float → Float) → ℕ → Float
+  heatAt heat e = heat (element (z .«building_elements») e) (elementHour (hour .elements) e) (outerSurface (zoneTwoNodes z) «vector_x» e)
 
-unfoldable pub addElement : Element → ElementHour → (t : Float) → FabricSums → FabricSums
-addElement e h t s = addKind (e .kind) (fabricExt e h t) (addBoundary e h t s)
+  -- of n elements from element e on, the terms of those whose kind counts
+  unfoldable pub termsOfKind : (counts : Kind → Bool) → (n e : ℕ) → List Float
+  termsOfKind counts zero e = []
+  termsOfKind counts (suc n) e =
+      let rest = termsOfKind counts n (suc e) in
+      cond (counts (element (z .«building_elements») e .kind)) (heatAt fabricExt e ∷ rest) rest
 
-abbrev pub noFabric : FabricSums
-noFabric =
-    record { convective = zero64; radiative = zero64; sol = zero64; sky = zero64; opaque = zero64; transparent = zero64; ground = zero64; ztc = zero64; ztu = zero64 }
-
-abbrev pub addElementAt : List Element → List ElementHour → («vector_x» : List Float) → ℕ → FabricSums → FabricSums
-addElementAt es hours «vector_x» e s = addElement (element es e) (elementHour hours e) (outerSurface (twoNodesOf es e) «vector_x» e) s
-
-abbrev pub externalBoundary : FabricSums → HeatBalanceAirNode → Conditions → («gains_heat_cool» : Float) → HeatBalanceExternalBoundary
-externalBoundary s a hour «gains_heat_cool» =
+-- nine sums from 0; a party wall counts with the unconditioned spaces
+abbrev pub externalBoundary : Zone → Conditions → («vector_x» : List Float) → HeatBalanceAirNode → («gains_heat_cool» : Float) → HeatBalanceExternalBoundary
+externalBoundary z hour «vector_x» a «gains_heat_cool» =
+    let n = atMost24 (z .count) in
+    let overAll : (Element → ElementHour → Float → Float) → Float = λ heat. sumFrom0 (terms 0 n (heatAt z hour «vector_x» heat)) in
+    let ofKind : (Kind → Bool) → Float = λ counts. sumFrom0 (termsOfKind z hour «vector_x» counts n 0) in
     record {
       «solar_gains» = hour .«gains_solar»;
       «internal_gains» = hour .«gains_internal»;
       «heating_or_cooling_system_gains» = «gains_heat_cool»;
       «thermal_bridges» = a .«thermal_bridges»;
       «infiltration_ventilation» = a .«infiltration_ventilation»;
-      «fabric_ext_air_convective» = s .convective;
-      «fabric_ext_air_radiative» = s .radiative;
-      «fabric_ext_sol» = s .sol;
-      «fabric_ext_sky» = s .sky;
-      «opaque_fabric_ext» = s .opaque;
-      «transparent_fabric_ext» = s .transparent;
-      «ground_fabric_ext» = s .ground;
-      «ztc_fabric_ext» = s .ztc;
-      «ztu_fabric_ext» = s .ztu;
+      «fabric_ext_air_convective» = overAll convectiveHeat;
+      «fabric_ext_air_radiative» = overAll radiativeHeat;
+      «fabric_ext_sol» = overAll solarHeat;
+      «fabric_ext_sky» = overAll skyHeat;
+      «opaque_fabric_ext» = ofKind (isKind Opaque);
+      «transparent_fabric_ext» = ofKind (isKind Transparent);
+      «ground_fabric_ext» = ofKind (isKind Ground);
+      «ztc_fabric_ext» = ofKind (isKind AdjacentConditionedSpace);
+      «ztu_fabric_ext» = ofKind (λ k. isKind AdjacentUnconditionedSpaceSimple k || isKind PartyWall k);
     }
 
 unfoldable pub heatBalance :
@@ -141,11 +123,10 @@ heatBalance c z «temp_prev» hour «delta_t» «gains_heat_cool» «f_hc_c» ac
     let n = atMost24 (z .count) in
     let es = z .«building_elements» in
     let «h_ve» = calcVentHeatTransferCoeff (z .volume) ach in
-    let a = airNode c (c .«k_m_int» *ᶠ z .«useful_area») «h_ve» (z .«tb_heat_trans_coeff») hour «delta_t» «gains_heat_cool» «f_hc_c» (air «temp_prev») (air «vector_x») in
+    let a = airNode c (cInt c z) «h_ve» (z .«tb_heat_trans_coeff») hour «delta_t» «gains_heat_cool» «f_hc_c» (air «temp_prev») (air «vector_x») in
     record {
       «air_node» = a;
       «internal_boundary» =
           internalBoundary c (sumFrom0 (terms 0 n (convectiveLossAt c es «temp_prev» «vector_x»))) hour «gains_heat_cool» «f_hc_c»;
-      «external_boundary» =
-          externalBoundary (each 0 n (addElementAt es (hour .elements) «vector_x») noFabric) a hour «gains_heat_cool»;
+      «external_boundary» = externalBoundary z hour «vector_x» a «gains_heat_cool»;
     }

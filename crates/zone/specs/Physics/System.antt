@@ -1,34 +1,28 @@
--- The system of one time step, from coefficients, zone, the hour's conditions, the step's length in seconds and the temperatures before it
--- (in their slots); then from the ventilation coefficient, the gains of heating or cooling and their convective fraction.
+-- The system of one time step, BS EN ISO 52016-1, (38) to (41), from coefficients, zone, the temperatures before the step (in their slots), the hour's
+-- conditions and the step's length in seconds. Each operation rounds once, in this order.
 use Prim.Native.Nat.{ℕ}
 use mathlib.Core.Bool.{Bool, false}
 use mathlib.Core.List.{List}
-use lib.ListN.{set, replicate}
-use lib.Ieee.{Float}
-use Rattle.solver.specs.F64.{_+ᶠ_, _-ᶠ_, _*ᶠ_, _/ᶠ_, one64}
+use lib.ListN.{getD, set, replicate}
+use lib.Ieee.{Float, nan, neg}
+use Rattle.solver.specs.F64.{_+ᶠ_, _-ᶠ_, _*ᶠ_, _/ᶠ_, zero64, one64}
 use Rattle.solver.specs.Each.{each}
 use Rattle.solver.specs.Rows.{setEntry}
 use Rattle.solver.specs.Sums.{sum2, terms}
 use Rattle.solver.specs.FastSolver.{atMost24}
+use Rattle.solver.specs.declared.system.Matrix.{Matrix}
 use Rattle.zone.specs.declared.record.building_element.Element.{Element}
-use Rattle.zone.specs.declared.record.building_element.ElementHour.{ElementHour}
 use Rattle.zone.specs.declared.record.building_element.Coefficients.{Coefficients}
 use Rattle.zone.specs.declared.format.conditions.Conditions.{Conditions}
 use Rattle.zone.specs.declared.record.zone_record.Zone.{Zone}
-use Rattle.zone.specs.Record.BuildingElement.{isTwoNodes}
-use Rattle.zone.specs.declared.hour.time_step.ZoneTerms.{ZoneTerms}
-use Rattle.zone.specs.Physics.Slots.{air, element, withTerms}
-use Rattle.zone.specs.Physics.Assembly.{hCiAt, shareAt, convectiveAt, Chains, chains, elementRows, elementRightSides, coupleRow, withGains}
+use Rattle.zone.specs.declared.physics.equations.Rows.{Rows}
+use Rattle.zone.specs.Record.BuildingElement.{isTwoNodes, hCi}
+use Rattle.zone.specs.Physics.Slots.{air, innerSurface, elementSlots, element, elementHour, withTerms, inSlots}
+use Rattle.zone.specs.Physics.Equations.{rowsOf, rightSidesOf}
 
 -- of element e
 abbrev pub areaOf : List Element → ℕ → Float
 areaOf es e = element es e .area
-
-abbrev pub pitchOf : List Element → ℕ → Float
-pitchOf es e = element es e .pitch
-
-abbrev pub hRiOf : List Element → ℕ → Float
-hRiOf es e = element es e .«h_ri»
 
 abbrev pub twoNodesOf : List Element → ℕ → Bool
 twoNodesOf es e = isTwoNodes (element es e .kind)
@@ -37,96 +31,87 @@ twoNodesOf es e = isTwoNodes (element es e .kind)
 unfoldable pub zoneTwoNodes : Zone → List Bool
 zoneTwoNodes z = withTerms (atMost24 (z .count)) (twoNodesOf (z .«building_elements»)) (replicate 24 false)
 
--- the total area of the first n elements
+-- the total area of the first n elements, and the share of element e
 unfoldable pub areaElTotal : ℕ → List Element → Float
 areaElTotal n es = sum2 (terms 0 n (areaOf es))
 
-module _ (c : Coefficients) (n : ℕ) (es : List Element) where
-  -- (38): the sum of area × h_ci
-  unfoldable pub convectiveSum : List Float → Float
-  convectiveSum t = sum2 (terms 0 n (convectiveAt (areaOf es) (hCiAt c (pitchOf es) t)))
+abbrev pub shareOf : ℕ → List Element → ℕ → Float
+shareOf n es e = areaOf es e /ᶠ areaElTotal n es
 
-  -- (41), (40), (39)
-  unfoldable pub elementChains : List ElementHour → («delta_t» : Float) → List Float → Chains → Chains
-  elementChains hours «delta_t» t s =
-      each 0 n (elementRows es hours «delta_t» (hCiAt c (pitchOf es) t) (shareAt (areaOf es) (areaElTotal n es))) s
+-- h_ci of element e, from the temperatures before the step, and its term of the zone's convective sum
+abbrev pub hCiAt : Coefficients → List Element → List Float → ℕ → Float
+hCiAt c es t e = hCi c (element es e .pitch) (air t) (innerSurface t e)
 
-  unfoldable pub couplingsOf : List Float → List Float → List Float
-  couplingsOf t m =
-      each 0 n (coupleRow n (areaOf es) (hRiOf es) (hCiAt c (pitchOf es) t) (shareAt (areaOf es) (areaElTotal n es))) m
+abbrev pub convectiveAt : Coefficients → List Element → List Float → ℕ → Float
+convectiveAt c es t e = areaOf es e *ᶠ hCiAt c es t e
 
--- the right sides of (41), (40), (39), but for the gains
-unfoldable pub elementSides : ℕ → List Element → List ElementHour → («delta_t» : Float) → List Float → List Float → List Float
-elementSides n es hours «delta_t» t b = each 0 n (elementRightSides es hours «delta_t» t) b
+-- the heat capacity of the air and of what stands in the zone, in J / K
+abbrev pub cInt : Coefficients → Zone → Float
+cInt c z = c .«k_m_int» *ᶠ z .«useful_area»
 
--- (38): the terms that neither rate nor load changes, and those of the gains
-abbrev pub zoneTermsOf : Coefficients → Zone → Conditions → («delta_t» : Float) → List Float → ZoneTerms
-zoneTermsOf c z hour «delta_t» t =
-    let n = atMost24 (z .count) in
-    record {
-      n = n;
-      «area_el_total» = areaElTotal n (z .«building_elements»);
-      «c_int_per_delta_t» = c .«k_m_int» *ᶠ z .«useful_area» /ᶠ «delta_t»;
-      convective = convectiveSum c n (z .«building_elements») t;
-      «tb_heat_trans_coeff» = z .«tb_heat_trans_coeff»;
-      «temp_int_air» = air t;
-      «temp_ext_air» = hour .«temp_ext_air»;
-      «avg_supply_temp» = hour .«avg_air_supply_temp»;
-      «gains_internal» = hour .«gains_internal»;
-      «gains_solar» = hour .«gains_solar»;
-      «f_int_c» = c .«f_int_c»;
-      «f_sol_c» = c .«f_sol_c»;
-    }
+module _ (c : Coefficients) (z : Zone) («temp_prev» : List Float) (hour : Conditions) («delta_t» : Float) where
+  -- (41), (40), (39) of element e
+  abbrev pub rowsAt : ℕ → Rows
+  rowsAt e =
+      let n = atMost24 (z .count) in
+      let es = z .«building_elements» in
+      rowsOf (element es e) «delta_t» (elementHour (hour .elements) e .«treatments_open») (hCiAt c es «temp_prev» e) (shareOf n es e)
 
--- what the systems of one time step share: the zone's terms; which elements have two nodes; of each slot the coefficients of its own temperature,
--- of the next and of the previous slot's; the couplings between inner surfaces with zone column and zone row; the right sides but for the gains
-pub data Assembled : Type 0 where
-  assembled : (s : ZoneTerms) (twoNodes : List Bool) (diag next prev dense b : List Float) → Assembled
+  -- (39), row i: the couplings with the other inner surfaces, 0 less the share of element k times this element's h_ri; then the zone
+  -- column, and the entry in the zone row (38). (On the diagonal comes `innerDiagonal`, adjusted by its chain's elimination.)
+  unfoldable pub couplings : ℕ → List Float → List Float
+  couplings i m =
+      let n = atMost24 (z .count) in
+      let es = z .«building_elements» in
+      let «h_ci» = hCiAt c es «temp_prev» i in
+      setEntry n i (neg (areaOf es i) *ᶠ «h_ci»)
+      (setEntry i n (neg «h_ci») (each 0 n (λ k. setEntry i k (zero64 -ᶠ shareOf n es k *ᶠ element es i .«h_ri»)) m))
 
-abbrev pub assembledWith : ZoneTerms → List Bool → Chains → (dense b : List Float) → Assembled
-assembledWith s twoNodes (chains diag next prev) dense b = assembled s twoNodes diag next prev dense b
+  -- (38): the zone's own coefficient, at a ventilation coefficient
+  abbrev pub zoneDiagonal : («h_ve» : Float) → Float
+  zoneDiagonal «h_ve» =
+      cInt c z /ᶠ «delta_t»
+      +ᶠ sum2 (terms 0 (atMost24 (z .count)) (convectiveAt c (z .«building_elements») «temp_prev»))
+      +ᶠ «h_ve»
+      +ᶠ z .«tb_heat_trans_coeff»
 
--- written into lists that are given, all zero in `calcTemperatures`
-unfoldable pub assemble :
-    Coefficients → Zone → Conditions → («delta_t» : Float) → List Float
-    → (twoNodes : List Bool) → Chains → (dense b : List Float) → Assembled
-assemble c z hour «delta_t» t twoNodes s dense b =
-    let n = atMost24 (z .count) in
-    let es = z .«building_elements» in
-    assembledWith
-    (zoneTermsOf c z hour «delta_t» t)
-    (withTerms n (twoNodesOf es) twoNodes)
-    (elementChains c n es (hour .elements) «delta_t» t s)
-    (couplingsOf c n es t dense)
-    (elementSides n es (hour .elements) «delta_t» t b)
+  -- the coefficients of all temperatures; a slot that no node has holds 0.0
+  unfoldable pub matrixA : («h_ve» : Float) → Matrix
+  matrixA «h_ve» =
+      let n = atMost24 (z .count) in
+      record {
+        n = n;
+        «two_nodes» = zoneTwoNodes z;
+        diag = inSlots n (λ e. rowsAt e .diag) (replicate 120 zero64);
+        next = inSlots n (λ e. rowsAt e .next) (replicate 120 zero64);
+        prev = inSlots n (λ e. rowsAt e .prev) (replicate 120 zero64);
+        dense = setEntry n n (zoneDiagonal «h_ve») (each 0 n couplings (replicate 625 zero64));
+      }
 
--- (38): the zone's own coefficient, and it in its place
-abbrev pub zoneDiagonal : ZoneTerms → («h_ve» : Float) → Float
-zoneDiagonal s «h_ve» = s .«c_int_per_delta_t» +ᶠ s .convective +ᶠ «h_ve» +ᶠ s .«tb_heat_trans_coeff»
+  module _ («gains_heat_cool» «f_hc_c» : Float) where
+    -- (39): the gains that go to each m2 of inner surface
+    abbrev pub gainsPerArea : Float
+    gainsPerArea =
+        ((one64 -ᶠ c .«f_int_c») *ᶠ hour .«gains_internal»
+        +ᶠ (one64 -ᶠ c .«f_sol_c») *ᶠ hour .«gains_solar»
+        +ᶠ (one64 -ᶠ «f_hc_c») *ᶠ «gains_heat_cool»)
+        /ᶠ areaElTotal (atMost24 (z .count)) (z .«building_elements»)
 
-unfoldable pub denseWith : ZoneTerms → («h_ve» : Float) → List Float → List Float
-denseWith s «h_ve» dense = setEntry (atMost24 (s .n)) (atMost24 (s .n)) (zoneDiagonal s «h_ve») dense
+    -- the right sides of (41), (40), (39) of element e: `gainsPerArea` goes to the inner surface
+    abbrev pub rightSidesAt : ℕ → List Float
+    rightSidesAt e =
+        let b = rightSidesOf (element (z .«building_elements») e) «delta_t» (elementHour (hour .elements) e) (elementSlots «temp_prev» e) in
+        set b 4 (getD b 4 nan +ᶠ gainsPerArea)
 
-module _ (s : ZoneTerms) where
-  -- (39): the gains that go to each m2 of inner surface
-  abbrev pub gainsPerArea : («gains_heat_cool» «f_hc_c» : Float) → Float
-  gainsPerArea «gains_heat_cool» «f_hc_c» =
-      ((one64 -ᶠ s .«f_int_c») *ᶠ s .«gains_internal»
-      +ᶠ (one64 -ᶠ s .«f_sol_c») *ᶠ s .«gains_solar»
-      +ᶠ (one64 -ᶠ «f_hc_c») *ᶠ «gains_heat_cool»)
-      /ᶠ s .«area_el_total»
+    -- (38): the right side
+    abbrev pub zoneRightSide : («h_ve» : Float) → Float
+    zoneRightSide «h_ve» =
+        cInt c z /ᶠ «delta_t» *ᶠ air «temp_prev»
+        +ᶠ «h_ve» *ᶠ hour .«avg_air_supply_temp»
+        +ᶠ z .«tb_heat_trans_coeff» *ᶠ hour .«temp_ext_air»
+        +ᶠ c .«f_int_c» *ᶠ hour .«gains_internal»
+        +ᶠ c .«f_sol_c» *ᶠ hour .«gains_solar»
+        +ᶠ «f_hc_c» *ᶠ «gains_heat_cool»
 
-  -- (38): the right side
-  abbrev pub zoneRightSide : («h_ve» «gains_heat_cool» «f_hc_c» : Float) → Float
-  zoneRightSide «h_ve» «gains_heat_cool» «f_hc_c» =
-      s .«c_int_per_delta_t» *ᶠ s .«temp_int_air»
-      +ᶠ «h_ve» *ᶠ s .«avg_supply_temp»
-      +ᶠ s .«tb_heat_trans_coeff» *ᶠ s .«temp_ext_air»
-      +ᶠ s .«f_int_c» *ᶠ s .«gains_internal»
-      +ᶠ s .«f_sol_c» *ᶠ s .«gains_solar»
-      +ᶠ «f_hc_c» *ᶠ «gains_heat_cool»
-
-  unfoldable pub rightSideWith : («h_ve» «gains_heat_cool» «f_hc_c» : Float) → List Float → List Float
-  rightSideWith «h_ve» «gains_heat_cool» «f_hc_c» b =
-      set (withGains (atMost24 (s .n)) (gainsPerArea «gains_heat_cool» «f_hc_c») b) 120
-      (zoneRightSide «h_ve» «gains_heat_cool» «f_hc_c»)
+    unfoldable pub vectorB : («h_ve» : Float) → List Float
+    vectorB «h_ve» = set (inSlots (atMost24 (z .count)) rightSidesAt (replicate 121 zero64)) 120 (zoneRightSide «h_ve»)

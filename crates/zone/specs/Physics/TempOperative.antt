@@ -1,34 +1,19 @@
--- The operative temperature, BS EN ISO 52016-1, 6.5.5.3, and the internal air's, from temperatures in their slots.
-use Prim.Native.Nat.{ℕ}
+-- The operative temperature, BS EN ISO 52016-1, 6.5.5.3, from temperatures in their slots.
 use mathlib.Core.List.{List}
-use lib.ListN.{replicate}
 use lib.Ieee.{Float}
-use Rattle.solver.specs.F64.{_+ᶠ_, _*ᶠ_, _/ᶠ_, zero64, dec}
+use Rattle.solver.specs.F64.{_+ᶠ_, _*ᶠ_, _/ᶠ_, dec}
 use Rattle.solver.specs.Sums.{sum2, terms}
 use Rattle.solver.specs.FastSolver.{atMost24}
 use Rattle.zone.specs.declared.record.zone_record.Zone.{Zone}
-use Rattle.zone.specs.Physics.Slots.{air, innerSurface, withTerms}
+use Rattle.zone.specs.Physics.Slots.{air, innerSurface}
 use Rattle.zone.specs.Physics.System.{areaOf, areaElTotal}
-
--- element e's term of the mean radiant temperature
-abbrev pub radiantAt : (area : ℕ → Float) → List Float → ℕ → Float
-radiantAt area t e = area e *ᶠ innerSurface t e
 
 unfoldable pub meanOf : (x y : Float) → Float
 meanOf x y = (x +ᶠ y) /ᶠ dec 2 0
 
--- of n elements with given areas and their total
-unfoldable pub tempOperativeOf : ℕ → (area : ℕ → Float) («area_el_total» : Float) → List Float → Float
-tempOperativeOf n area «area_el_total» t = meanOf (air t) (sum2 (terms 0 n (radiantAt area t)) /ᶠ «area_el_total»)
-
+-- the mean of the air's and of the mean radiant temperature
 unfoldable pub tempOperative : Zone → List Float → Float
 tempOperative z t =
     let n = atMost24 (z .count) in
-    tempOperativeOf n (areaOf (z .«building_elements»)) (areaElTotal n (z .«building_elements»)) t
-
-abbrev pub tempInternalAir : List Float → Float
-tempInternalAir t = air t
-
--- the areas of a zone's elements, 0.0 in the places behind them
-unfoldable pub areasOf : Zone → List Float
-areasOf z = withTerms (atMost24 (z .count)) (areaOf (z .«building_elements»)) (replicate 24 zero64)
+    let es = z .«building_elements» in
+    meanOf (air t) (sum2 (terms 0 n (λ e. areaOf es e *ᶠ innerSurface t e)) /ᶠ areaElTotal n es)

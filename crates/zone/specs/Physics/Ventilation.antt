@@ -5,8 +5,8 @@ use Rattle.solver.specs.F64.{_+ᶠ_, _-ᶠ_, _*ᶠ_, _/ᶠ_, one64, dec}
 use Rattle.zone.specs.declared.record.material_properties.MaterialProperties.{MaterialProperties}
 
 -- kg / litre and J / (kg.K)
-unfoldable pub air : MaterialProperties
-air = record { density = dec 1204 6; «specific_heat_capacity» = dec 1006 0 }
+unfoldable pub airProperties : MaterialProperties
+airProperties = record { density = dec 1204 6; «specific_heat_capacity» = dec 1006 0 }
 
 unfoldable pub densityKgPerM3 : MaterialProperties → Float
 densityKgPerM3 m = m .density *ᶠ dec 1000 0
@@ -15,7 +15,7 @@ densityKgPerM3 m = m .density *ᶠ dec 1000 0
 unfoldable pub calcVentHeatTransferCoeff : (volume ach : Float) → Float
 calcVentHeatTransferCoeff volume ach =
     let qVe = ach *ᶠ volume /ᶠ dec 3600 0 in
-    densityKgPerM3 air *ᶠ air .«specific_heat_capacity» *ᶠ qVe
+    densityKgPerM3 airProperties *ᶠ airProperties .«specific_heat_capacity» *ᶠ qVe
 
 -- a NaN becomes the minimum
 unfoldable pub orMinimum : (ach achMin : Float) → Float
@@ -30,9 +30,9 @@ cappedAt ach achMax = cond (lt achMax ach) achMax ach
 
 -- Min: solved at the rate achMin; Max: solved at achMax; tempAch: the temperature that is controlled, tempIntAir: the air's. An early answer is
 -- neither raised nor capped
-unfoldable pub achReqToReachTemperature : (target achMin achMax tempAchMin tempAchMax tempIntAirMin tempIntAirMax supply : Float) → Float
-achReqToReachTemperature target achMin achMax tempAchMin tempAchMax tempIntAirMin tempIntAirMax supply =
-    let fracInterp = (target -ᶠ tempAchMin) /ᶠ (tempAchMax -ᶠ tempAchMin) in
+unfoldable pub achReqToReachTemperature : (tempTarget achMin achMax tempAchMin tempAchMax tempIntAirMin tempIntAirMax supply : Float) → Float
+achReqToReachTemperature tempTarget achMin achMax tempAchMin tempAchMax tempIntAirMin tempIntAirMax supply =
+    let fracInterp = (tempTarget -ᶠ tempAchMin) /ᶠ (tempAchMax -ᶠ tempAchMin) in
     let tempIntAirReq = tempIntAirMin +ᶠ fracInterp *ᶠ (tempIntAirMax -ᶠ tempIntAirMin) in
     let achReq =
     (achMax *ᶠ fracInterp *ᶠ ((tempIntAirMax -ᶠ supply) /ᶠ (tempIntAirMin -ᶠ supply)) +ᶠ achMin *ᶠ (one64 -ᶠ fracInterp))

@@ -10,8 +10,6 @@ use Rattle.zone.specs.declared.record.building_element.Kind.{Kind}
 use Rattle.zone.specs.declared.record.building_element.Kind.the-variants.{Opaque, AdjacentConditionedSpace, AdjacentUnconditionedSpaceSimple, Ground, Transparent, PartyWall}
 use Rattle.zone.specs.declared.record.building_element.Element.{Element}
 use Rattle.zone.specs.declared.record.building_element.Coefficients.{Coefficients}
-use Rattle.zone.specs.declared.record.building_element.HeatFlowDirection.{HeatFlowDirection}
-use Rattle.zone.specs.declared.record.building_element.HeatFlowDirection.the-variants.{Horizontal, Upwards, Downwards}
 use Rattle.zone.specs.declared.record.zone_record.Zone.{Zone}
 
 -- f_int_c, f_sol_c: BS EN ISO 52016-1:2017, Table B.11; k_m_int: Table B.17; the three h_ci: BS EN ISO 13789:2017, Table 8; the pitches that part
@@ -29,24 +27,15 @@ standardCoefficients =
       «pitch_limit_horiz_floor» = dec 120 0;
     }
 
--- horizontal between the two pitches, both included; a ceiling (below the first) is upwards unless the air is colder than the
--- surface; a floor (above the second) is upwards only if it is
-unfoldable pub heatFlowDirection : Coefficients → (pitch air surface : Float) → HeatFlowDirection
-heatFlowDirection c pitch air surface =
+-- h_ci, in W / (m2.K); air and surface are those from before the step. Horizontal between the two pitches, both included; a ceiling (below the
+-- first) is upwards unless the air is colder than the surface; a floor (above the second) is upwards only if it is; else downwards
+unfoldable pub hCi : Coefficients → (pitch air surface : Float) → Float
+hCi c pitch air surface =
     let inwards = lt air surface in
     let isFloor = lt (c .«pitch_limit_horiz_floor») pitch in
     let isCeiling = lt pitch (c .«pitch_limit_horiz_ceiling») in
-    cond (le (c .«pitch_limit_horiz_ceiling») pitch && le pitch (c .«pitch_limit_horiz_floor»)) Horizontal
-    (cond (isFloor && inwards || isCeiling && not inwards) Upwards Downwards)
-
-abbrev pub hCiOf : Coefficients → HeatFlowDirection → Float
-hCiOf c Horizontal = c .«h_ci_horizontal»
-hCiOf c Upwards = c .«h_ci_upwards»
-hCiOf c Downwards = c .«h_ci_downwards»
-
--- h_ci, in W / (m2.K); air and surface are those from before the step
-unfoldable pub hCi : Coefficients → (pitch air surface : Float) → Float
-hCi c pitch air surface = hCiOf c (heatFlowDirection c pitch air surface)
+    cond (le (c .«pitch_limit_horiz_ceiling») pitch && le pitch (c .«pitch_limit_horiz_floor»)) (c .«h_ci_horizontal»)
+    (cond (isFloor && inwards || isCeiling && not inwards) (c .«h_ci_upwards») (c .«h_ci_downwards»))
 
 -- the `delta_r` of the treatments whose bit is 0, added to r in order, bit 0 first
 unfoldable pub addClosed : (bits : ℕ) (r : Float) → List Float → Float
@@ -57,6 +46,7 @@ addClosed bits r (d ∷ ds) = addClosed (bits / 2) (cond (eqb (bits % 2) 0) (r +
 unfoldable pub hPliTransparent : Float → List Float → (treatments bits : ℕ) → Float
 hPliTransparent h «delta_r» treatments bits = one64 /ᶠ addClosed bits (one64 /ᶠ h) (take treatments «delta_r»)
 
+-- a Transparent has a node at each surface only
 abbrev pub isTwoNodes : Kind → Bool
 isTwoNodes Opaque = false
 isTwoNodes AdjacentConditionedSpace = false

@@ -1,35 +1,29 @@
 // Start-up: passes under constant conditions until the temperatures settle.
-use crate::calls::hour_step::delivered_of;
 use crate::calls::state::DemandAnswer;
 use crate::calls::state::StartUp;
 use crate::calls::state::State;
 use crate::calls::state::slots_of;
 use crate::calls::state::state_of;
+use crate::check::zone_tests::zone_test;
 use crate::format::conditions::AirChangesPerHourArgument;
 use crate::format::conditions::Conditions;
-use crate::hour::demand::hour_demand;
-use crate::hour::solves::delta_t_of;
-use crate::hour::solves::solve_at;
-use crate::hour::time_step::assemble;
-use crate::physics::ventilation::calc_vent_heat_transfer_coeff;
+use crate::hour::hour::Meeting;
+use crate::hour::hour::hour_in;
 use crate::record::building_element::Element;
 use crate::record::building_element::ElementHour;
-use crate::record::building_element::standard_coefficients;
+use crate::record::numbers::NOT_SETTLED;
 use crate::record::zone_record::Verdict;
 use crate::record::zone_record::Zone;
 use crate::record::zone_record::node_count;
-use crate::record::zone_record::zone_test;
-use solver::Solved;
 use solver::isclose;
 ghost use mathlib.Core.Path.{_≡_};
 ghost use mathlib.Core.List.{map};
 ghost use Rattle.solver.specs.Result.{ok, refused, bind};
-ghost use Rattle.solver.specs.FastSolver.{solvedRes};
 ghost use Rattle.zone.specs.Record.BuildingElement.{standardCoefficients};
 ghost use Rattle.zone.specs.Calls.State.{slotsOf, stateOf};
-ghost use Rattle.zone.specs.Calls.StartUp.{firstHour, startUpConditions, tempStart, startState, allClose, close, pass, settleFrom, initNodeTemps};
+ghost use Rattle.zone.specs.Calls.StartUp.{firstHour, startUpConditions, tempStart, startState, allClose, close, pass, settle, initNodeTemps};
 ghost use Rattle.zone.specs.Calls.Answers.{startUpReply};
-ghost use Rattle.zone.specs.Hour.Solves.{verdictRes};
+ghost use Rattle.zone.specs.Inner.Solves.{verdictRes};
 
 // A pass: the temperatures after it count where the verdict accepts.
 pub struct Passed {
@@ -100,96 +94,23 @@ fn pass(z: Zone, h: Conditions, t: [f64; 121]) -> Passed
     requires { ⌜ h ≡ startUpConditions z ⌝ }
     ensures { λ r. ⌜ verdictRes (r .verdict) (r .temps) ≡ pass standardCoefficients z t ⌝ }
 {
-    let c = standard_coefficients();
-    let delta_t = delta_t_of(h);
-    let mut two_nodes = [false; 24];
-    let mut diag = [0.0; 120];
-    let mut next = [0.0; 120];
-    let mut prev = [0.0; 120];
-    let mut dense = [0.0; 625];
-    let mut b = [0.0; 121];
-    let terms = assemble(
-        c,
-        z,
-        h,
-        delta_t,
-        &t,
-        &mut two_nodes,
-        &mut diag,
-        &mut next,
-        &mut prev,
-        &mut dense,
-        &mut b,
-    );
-    let mut factor_diag = [0.0; 120];
-    let mut factor_dense = [0.0; 625];
-    let mut interchanges = [0; 25];
-    let demand = hour_demand(
-        z,
-        &t,
-        h,
-        terms,
-        &two_nodes,
-        &diag,
-        &next,
-        &prev,
-        &dense,
-        &b,
-        &mut factor_diag,
-        &mut factor_dense,
-        &mut interchanges,
-    );
+    let mut after = [0.0; 121];
+    let demand = hour_in(z, &t, h, Meeting::Alone, &mut after);
     match demand {
         DemandAnswer::Refused { number, index } => {
             let verdict = Verdict::Refused { number, index };
             Passed {
                 verdict: verdict,
-                temps: t,
+                temps: after,
             }
         }
-        DemandAnswer::Accepted(d) => {
-            let w = delivered_of(h, d);
-            let h_ve = calc_vent_heat_transfer_coeff(z.volume, d.ach_cooling);
-            let mut temps = [0.0; 121];
-            let number = solve_at(
-                terms,
-                h_ve,
-                w,
-                h.frac_convective_heat,
-                &two_nodes,
-                &next,
-                &prev,
-                &b,
-                &factor_diag,
-                &factor_dense,
-                &interchanges,
-                &mut temps,
-            );
-            let after = Solved { number, temps };
-            passed_of(after)
+        DemandAnswer::Accepted(_) => {
+            let verdict = Verdict::Accepted;
+            Passed {
+                verdict: verdict,
+                temps: after,
+            }
         }
-    }
-}
-
-// A solve's number as a verdict: 0 accepts.
-fn passed_of(after: Solved) -> Passed
-    ensures { λ r. ⌜ verdictRes (r .verdict) (r .temps) ≡ solvedRes after ⌝ }
-{
-    let temps = after.temps;
-    if after.number != 0 {
-        let verdict = Verdict::Refused {
-            number: after.number,
-            index: 0,
-        };
-        return Passed {
-            verdict: verdict,
-            temps: temps,
-        };
-    }
-    let verdict = Verdict::Accepted;
-    Passed {
-        verdict: verdict,
-        temps: temps,
     }
 }
 
@@ -245,7 +166,7 @@ fn settled(z: Zone, t: [f64; 121]) -> StartUp
 
 // The pass that settles does not store its temperatures; the loop is left with those before it, with a refusal, or at the limit.
 fn settle(z: Zone) -> StartUp
-    ensures { λ r. ⌜ r ≡ startUpReply (settleFrom standardCoefficients z (z .«start_up_limit») (slotsOf z (startState z))) ⌝ }
+    ensures { λ r. ⌜ r ≡ startUpReply (bind (settle standardCoefficients z (z .«start_up_limit») (slotsOf z (startState z))) λ t. ok (stateOf z t)) ⌝ }
 {
     let h = start_up_conditions(z);
     let limit = z.start_up_limit;
@@ -253,7 +174,7 @@ fn settle(z: Zone) -> StartUp
     let mut passes: usize = 0;
     loop {
         if limit <= passes {
-            break no_state(15, 0);
+            break no_state(NOT_SETTLED, 0);
         }
         let passed = pass(z, h, t);
         let verdict = passed.verdict;
@@ -273,6 +194,7 @@ fn settle(z: Zone) -> StartUp
     }
 }
 
+// Start-up: the zone is tested, then passes are made until two temperature vectors are close.
 pub fn init_node_temps(z: Zone) -> StartUp
     ensures { λ r. ⌜ r ≡ startUpReply (initNodeTemps standardCoefficients z) ⌝ }
 {

@@ -1,15 +1,12 @@
 // The state that is carried from hour to hour, and what the calls answer.
 use crate::physics::balance::HeatBalance;
-use crate::physics::operative::temp_internal_air;
-use crate::physics::operative::temp_operative;
-use crate::physics::packing::to_nodes;
-use crate::physics::packing::to_slots;
-use crate::physics::packing::two_nodes_of;
+use crate::physics::node_layout::to_nodes;
+use crate::physics::node_layout::to_slots;
+use crate::physics::node_layout::two_nodes_of;
 use crate::record::zone_record::Verdict;
 use crate::record::zone_record::Zone;
 use crate::record::zone_record::node_count;
 ghost use mathlib.Core.Path.{_≡_};
-ghost use Rattle.zone.specs.Physics.TempOperative.{tempOperative, tempInternalAir};
 ghost use Rattle.zone.specs.Calls.State.{slotsOf, stateOf};
 
 // Node temperatures: element by element from the outer to the inner surface, then the air. The first `nodes` of `temps` count.
@@ -44,6 +41,12 @@ pub enum UpdateAnswer {
 
 pub enum HourAnswer {
     Accepted(Demand, HeatBalance),
+    Refused { number: u32, index: usize },
+}
+
+// The operative temperature in °C.
+pub enum OperativeReply {
+    Accepted(f64),
     Refused { number: u32, index: usize },
 }
 
@@ -86,21 +89,4 @@ pub fn state_of(z: Zone, t: &[f64; 121]) -> State
     let nodes = node_count(z);
     let temps = to_nodes(z.count, &two_nodes, t);
     State { nodes, temps }
-}
-
-impl State {
-    // The operative temperature.
-    pub fn temp_operative(self, z: Zone) -> f64
-        ensures { λ r. ⌜ r ≡ tempOperative z (slotsOf z self) ⌝ }
-    {
-        let t = slots_of(z, self);
-        temp_operative(z, &t)
-    }
-
-    pub fn temp_internal_air(self, z: Zone) -> f64
-        ensures { λ r. ⌜ r ≡ tempInternalAir (slotsOf z self) ⌝ }
-    {
-        let t = slots_of(z, self);
-        temp_internal_air(&t)
-    }
 }

@@ -4,15 +4,16 @@ use crate::calls::state::UpdateAnswer;
 use crate::calls::state::UpdateReply;
 use crate::calls::state::slots_of;
 use crate::calls::state::state_of;
+use crate::check::arguments::tested;
 use crate::check::ranges::fraction_in_range;
 use crate::check::ranges::gains_in_range;
 use crate::check::ranges::rate_in_range;
-use crate::check::tests::tested;
 use crate::format::conditions::Conditions;
-use crate::hour::solves::delta_t_of;
+use crate::hour::simulation_time::delta_t_of;
 use crate::hour::time_step::calc_temperatures;
 use crate::physics::balance::heat_balance;
 use crate::record::building_element::standard_coefficients;
+use crate::record::numbers::CONDITIONS_VALUE;
 use crate::record::zone_record::Verdict;
 use crate::record::zone_record::Zone;
 ghost use mathlib.Core.Path.{_≡_};
@@ -20,7 +21,7 @@ ghost use mathlib.Core.Bool.{_&&_};
 ghost use Rattle.solver.specs.Result.{refused};
 ghost use Rattle.zone.specs.Record.BuildingElement.{standardCoefficients};
 ghost use Rattle.zone.specs.Check.Ranges.{gainsRange, fractionRange, rateRange};
-ghost use Rattle.zone.specs.Calls.Hour.{step, updateIn, updateTemperatures};
+ghost use Rattle.zone.specs.Calls.Hour.{step, updateTemperatures};
 ghost use Rattle.zone.specs.Calls.Answers.{updateReply};
 
 fn refuse(s: State, number: u32, index: usize) -> UpdateReply
@@ -89,22 +90,6 @@ impl State {
         }
     }
 
-    fn update_in(
-        self,
-        z: Zone,
-        h: Conditions,
-        gains_heat_cool: f64,
-        frac_convective: f64,
-        ach: f64,
-    ) -> UpdateReply
-        ensures { λ r. ⌜ r ≡ updateReply self (updateIn standardCoefficients z self h «gains_heat_cool» «frac_convective» ach) ⌝ }
-    {
-        if load_in_range(gains_heat_cool, frac_convective, ach) {
-            return self.step(z, h, gains_heat_cool, frac_convective, ach);
-        }
-        refuse(self, 9, 0)
-    }
-
     // One hour with these gains, of which a fraction is convective, and this air change rate.
     pub fn update_temperatures(
         self,
@@ -121,8 +106,11 @@ impl State {
         match verdict {
             Verdict::Refused { number, index } => refuse(self, number, index),
             Verdict::Accepted => {
-                let h = read.conditions;
-                self.update_in(z, h, gains_heat_cool, frac_convective, ach)
+                if load_in_range(gains_heat_cool, frac_convective, ach) {
+                    let h = read.conditions;
+                    return self.step(z, h, gains_heat_cool, frac_convective, ach);
+                }
+                refuse(self, CONDITIONS_VALUE, 0)
             }
         }
     }

@@ -7,40 +7,47 @@ use crate::check::ranges::open_within;
 use crate::check::ranges::rate_in_range;
 use crate::check::ranges::setpoint_in_range;
 use crate::check::ranges::temperature_in_range;
+use crate::check::zone_tests::element_hour_in_range;
 use crate::format::bytes::read_u64_be;
 use crate::format::conditions::AirChangesPerHourArgument;
 use crate::format::conditions::Conditions;
+use crate::format::layout::ELEMENT_HOUR_SIZE;
+use crate::format::layout::FIRST_ELEMENT_HOUR;
+use crate::format::layout::OPEN_BYTE;
+use crate::format::layout::RATE_CODE;
+use crate::format::layout::SECOND_RATE;
+use crate::record::numbers::CONDITIONS_VALUE;
 use crate::record::zone_record::Verdict;
-use crate::record::zone_record::element_hour_in_range;
 ghost use mathlib.Core.Path.{_≡_};
 ghost use mathlib.Core.Bool.{_&&_};
-ghost use Prim.Native.Nat.{_+_, _*_, _≤_};
+ghost use Prim.Native.Nat.{_≤_};
+ghost use Rattle.zone.specs.Format.Layout.{firstElementHour, conditionsLength};
 ghost use lib.ListN.{length, take};
 ghost use Rattle.zone.specs.Check.ZoneTest.{verdictOf};
 ghost use Rattle.zone.specs.Format.Conditions.{rateCodeValid, openBitsValid, hourAndGainsInRange, setpointsInRange, achArgsInRange, conditionsTest};
 
 // Code 0 with a second float of all zero bits, or code 1.
 pub fn rate_code_valid(s: &[u8]) -> bool
-    requires { ⌜ 113 ≤ length (now s) ⌝ }
+    requires { ⌜ firstElementHour ≤ length (now s) ⌝ }
     ensures { λ r. ⌜ r ≡ rateCodeValid (now (s .entry)) ⌝ }
 {
-    if s[96] == 0 {
-        read_u64_be(s, 105) == 0
+    if s[RATE_CODE] == 0 {
+        read_u64_be(s, SECOND_RATE) == 0
     } else {
-        s[96] == 1
+        s[RATE_CODE] == 1
     }
 }
 
 // No open bit past the treatments, of any element.
 pub fn open_bits_valid(s: &[u8], treatments: [usize; 24], n: usize) -> bool
-    requires { ⌜ (n ≤ 24) × (113 + 41 * n ≤ length (now s)) ⌝ }
-    ensures { λ r. ⌜ r ≡ openBitsValid (now (s .entry)) (take n treatments) 113 ⌝ }
+    requires { ⌜ (n ≤ 24) × (conditionsLength n ≤ length (now s)) ⌝ }
+    ensures { λ r. ⌜ r ≡ openBitsValid (now (s .entry)) (take n treatments) firstElementHour ⌝ }
 {
     let mut i: usize = 0;
-    let mut p: usize = 113;
+    let mut p: usize = FIRST_ELEMENT_HOUR;
     while i < n {
-        if open_within(treatments[i], s[p + 40]) {
-            p = p + 41;
+        if open_within(treatments[i], s[p + OPEN_BYTE]) {
+            p = p + ELEMENT_HOUR_SIZE;
             i = i + 1;
         } else {
             return false;
@@ -110,7 +117,7 @@ pub fn conditions_test(n: usize, c: Conditions) -> Verdict
                 i = i + 1;
             } else {
                 return Verdict::Refused {
-                    number: 9,
+                    number: CONDITIONS_VALUE,
                     index: i + 1,
                 };
             }
@@ -118,7 +125,7 @@ pub fn conditions_test(n: usize, c: Conditions) -> Verdict
         return Verdict::Accepted;
     }
     Verdict::Refused {
-        number: 9,
+        number: CONDITIONS_VALUE,
         index: 0,
     }
 }

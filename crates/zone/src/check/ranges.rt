@@ -1,8 +1,9 @@
 // The ranges of document 01.
 ghost use mathlib.Core.Path.{_≡_};
+ghost use mathlib.Core.Bool.{cond};
 ghost use Prim.Native.Nat.{_≤_, _^_};
 ghost use lib.ListN.{length, take};
-ghost use Rattle.zone.specs.Check.Ranges.{areaRange, pitchRange, coefficientRange, fractionRange, skyRange, irradianceRange, gainsRange, rateRange, temperatureRange, heatingSetpointRange, setpointRange, hourLengthRange, limitRange, inside, allIn, openWithin};
+ghost use Rattle.zone.specs.Check.Ranges.{areaRange, pitchRange, coefficientRange, hPliRange, kPliRange, deltaRRange, fractionRange, skyRange, irradianceRange, gainsRange, rateRange, temperatureRange, heatingSetpointRange, setpointRange, hourLengthRange, limitRange, fromTo, aboveTo, allIn, openWithin};
 
 pub fn area_in_range(x: f64) -> bool
     ensures { λ r. ⌜ r ≡ areaRange x ⌝ }
@@ -84,7 +85,7 @@ pub fn limit_in_range(n: usize) -> bool
 
 // Low to high, above low where strict.
 fn is_inside(strict: bool, low: f64, high: f64, x: f64) -> bool
-    ensures { λ r. ⌜ r ≡ inside strict low high x ⌝ }
+    ensures { λ r. ⌜ r ≡ cond strict aboveTo fromTo low high x ⌝ }
 {
     if strict {
         (low < x) & (x <= high)
@@ -95,7 +96,7 @@ fn is_inside(strict: bool, low: f64, high: f64, x: f64) -> bool
 
 fn first_inside(strict: bool, low: f64, high: f64, a: &[f64], n: usize) -> bool
     requires { ⌜ n ≤ length (now a) ⌝ }
-    ensures { λ r. ⌜ r ≡ allIn (inside strict low high) (take n (now (a .entry))) ⌝ }
+    ensures { λ r. ⌜ r ≡ allIn (cond strict aboveTo fromTo low high) (take n (now (a .entry))) ⌝ }
 {
     let mut i: usize = 0;
     while i < n {
@@ -109,14 +110,33 @@ fn first_inside(strict: bool, low: f64, high: f64, a: &[f64], n: usize) -> bool
 }
 
 // Whether the first `n` of a list, or all where it has fewer, lie inside.
-pub fn all_inside(strict: bool, low: f64, high: f64, a: &[f64], n: usize) -> bool
-    ensures { λ r. ⌜ r ≡ allIn (inside strict low high) (take n (now (a .entry))) ⌝ }
+fn all_inside(strict: bool, low: f64, high: f64, a: &[f64], n: usize) -> bool
+    ensures { λ r. ⌜ r ≡ allIn (cond strict aboveTo fromTo low high) (take n (now (a .entry))) ⌝ }
 {
     if a.len() < n {
         first_inside(strict, low, high, a, a.len())
     } else {
         first_inside(strict, low, high, a, n)
     }
+}
+
+// The first `n` of k_pli, of h_pli, of delta_r.
+pub fn k_pli_in_range(a: &[f64], n: usize) -> bool
+    ensures { λ r. ⌜ r ≡ allIn kPliRange (take n (now (a .entry))) ⌝ }
+{
+    all_inside(false, 0.0, 10000000.0, a, n)
+}
+
+pub fn h_pli_in_range(a: &[f64], n: usize) -> bool
+    ensures { λ r. ⌜ r ≡ allIn hPliRange (take n (now (a .entry))) ⌝ }
+{
+    all_inside(true, 0.0, 1000000.0, a, n)
+}
+
+pub fn delta_r_in_range(a: &[f64], n: usize) -> bool
+    ensures { λ r. ⌜ r ≡ allIn deltaRRange (take n (now (a .entry))) ⌝ }
+{
+    all_inside(false, 0.0, 1000.0, a, n)
 }
 
 // Whether no bit of `treatments_open` lies past the treatments.

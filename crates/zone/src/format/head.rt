@@ -1,20 +1,36 @@
 // The head of a book: a zone in bytes.
+use crate::check::zone_tests::count_valid;
+use crate::check::zone_tests::values_test;
 use crate::format::bytes::count_of;
 use crate::format::bytes::read_u32_be;
 use crate::format::decode::no_zone;
 use crate::format::decode::zone_at;
-use crate::record::building_element::element_size;
-use crate::record::building_element::kind_of;
-use crate::record::building_element::max_treatments;
+use crate::format::element_layout::element_size;
+use crate::format::element_layout::kind_of;
+use crate::format::element_layout::max_treatments;
+use crate::format::layout::AREA;
+use crate::format::layout::BASIS_AT;
+use crate::format::layout::COUNT_AT;
+use crate::format::layout::FIRST_ELEMENT;
+use crate::format::layout::LENGTH_SIZE;
+use crate::format::layout::LONGEST_LENGTH;
+use crate::format::layout::SHORTEST_LENGTH;
+use crate::format::layout::TREATMENTS;
+use crate::format::layout::VERSION;
+use crate::format::layout::VERSION_AT;
+use crate::record::numbers::HEAD_LENGTH;
+use crate::record::numbers::HEAD_SHORT;
+use crate::record::numbers::HEAD_VERSION;
+use crate::record::numbers::STRUCTURE;
 use crate::record::zone_record::Verdict;
 use crate::record::zone_record::Zone;
-use crate::record::zone_record::values_test;
 ghost use mathlib.Core.Path.{_≡_};
 ghost use Prim.Native.Nat.{_+_, _-_, _≤_, _<_};
 ghost use lib.ListN.{length};
 ghost use Rattle.solver.specs.Result.{ok, refused};
-ghost use Rattle.zone.specs.Format.ElementLayout.{kindValid};
-ghost use Rattle.zone.specs.Format.Head.{elementsEnd, frontValid, structureWithin, structureOf, headOf, headAnswer, structureAnswer};
+ghost use Rattle.zone.specs.Format.Layout.{lengthSize, shortestLength, firstElement};
+ghost use Rattle.zone.specs.Inner.Format.{kindValid, structureWithin, structureAnswer};
+ghost use Rattle.zone.specs.Format.Head.{elementsEnd, structureOf, headOf, headAnswer};
 
 // What a byte string is as a head: when refused, the zone is a fixed one and the length 0.
 pub struct Head {
@@ -44,30 +60,30 @@ fn wrong(number: u32) -> Structure
     Structure::Wrong { number, index: 0 }
 }
 
-// The structure of the elements, from the head's 57 bytes to `end`.
+// The structure of the elements, from the first element to `end`.
 fn elements_end(s: &[u8], end: usize, n: usize) -> Structure
-    requires { ⌜ (57 ≤ end) × (end ≤ length (now s)) ⌝ }
-    ensures { λ r. ⌜ r ≡ structureAnswer (elementsEnd (now (s .entry)) end n 0 57) ⌝ }
+    requires { ⌜ (firstElement ≤ end) × (end ≤ length (now s)) ⌝ }
+    ensures { λ r. ⌜ r ≡ structureAnswer (elementsEnd (now (s .entry)) end n 0 firstElement) ⌝ }
 {
     let mut i: usize = 0;
-    let mut p: usize = 57;
+    let mut p: usize = FIRST_ELEMENT;
     while i < n {
-        if end - p < 2 {
-            return wrong(2);
+        if end - p < AREA {
+            return wrong(HEAD_LENGTH);
         }
         let number = s[p];
-        let t = count_of(s[p + 1]);
+        let t = count_of(s[p + TREATMENTS]);
         if kind_valid(number, t) {
             let kind = kind_of(number);
             let size = element_size(kind, t);
             if end - p < size {
-                return wrong(2);
+                return wrong(HEAD_LENGTH);
             }
             p = p + size;
             i = i + 1;
         } else {
             return Structure::Wrong {
-                number: 4,
+                number: STRUCTURE,
                 index: i + 1,
             };
         }
@@ -75,34 +91,30 @@ fn elements_end(s: &[u8], end: usize, n: usize) -> Structure
     Structure::End(p)
 }
 
-// Whether the basis is 0 or 1 and the count 1 to 24.
-fn front_valid(basis: u8, n: u8) -> bool
-    ensures { λ r. ⌜ r ≡ frontValid basis n ⌝ }
-{
-    (basis <= 1) & (1 <= n) & (n <= 24)
-}
-
 // The structure, once the head's own bytes are known to be there.
 fn structure_within(s: &[u8], end: usize) -> Structure
-    requires { ⌜ (180 ≤ end) × (end ≤ length (now s)) ⌝ }
+    requires { ⌜ (lengthSize + shortestLength ≤ end) × (end ≤ length (now s)) ⌝ }
     ensures { λ r. ⌜ r ≡ structureAnswer (structureWithin (now (s .entry)) end) ⌝ }
 {
-    let version = s[4] == 1;
-    let front = front_valid(s[5], s[6]);
+    let version = s[VERSION_AT] == VERSION;
+    let basis = s[BASIS_AT] <= 1;
+    let n = count_of(s[COUNT_AT]);
+    let count = count_valid(n);
+    let front = basis & count;
     if !version {
-        return wrong(3);
+        return wrong(HEAD_VERSION);
     }
     if !front {
-        return wrong(4);
+        return wrong(STRUCTURE);
     }
-    let elements = elements_end(s, end, count_of(s[6]));
+    let elements = elements_end(s, end, n);
     match elements {
         Structure::Wrong { number, index } => Structure::Wrong { number, index },
         Structure::End(p) => {
             if p == end {
                 Structure::End(p)
             } else {
-                wrong(2)
+                wrong(HEAD_LENGTH)
             }
         }
     }
@@ -112,17 +124,17 @@ fn structure_within(s: &[u8], end: usize) -> Structure
 fn structure_of(s: &[u8]) -> Structure
     ensures { λ r. ⌜ r ≡ structureAnswer (structureOf (now (s .entry))) ⌝ }
 {
-    if s.len() < 4 {
-        return wrong(1);
+    if s.len() < LENGTH_SIZE {
+        return wrong(HEAD_SHORT);
     }
     let length = read_u32_be(s, 0) as usize;
-    let length_good = (176 <= length) & (length <= 4157);
+    let length_good = (SHORTEST_LENGTH <= length) & (length <= LONGEST_LENGTH);
     if !length_good {
-        return wrong(2);
+        return wrong(HEAD_LENGTH);
     }
-    let end = 4 + length;
+    let end = LENGTH_SIZE + length;
     if s.len() < end {
-        return wrong(1);
+        return wrong(HEAD_SHORT);
     }
     structure_within(s, end)
 }

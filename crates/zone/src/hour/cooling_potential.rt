@@ -5,7 +5,7 @@ use crate::format::conditions::Conditions;
 use crate::hour::solves::control_temperature;
 use crate::hour::solves::free_temperatures;
 use crate::hour::time_step::ZoneTerms;
-use crate::hour::windows::Ventilated;
+use crate::hour::windows::VentilationChoice;
 use crate::hour::windows::ZoneTemperatures;
 use crate::hour::windows::above_cooling_setpoint;
 use crate::hour::windows::ach_to_reach;
@@ -13,15 +13,16 @@ use crate::hour::windows::windows_cool;
 use crate::hour::windows::zone_temperatures;
 use crate::record::zone_record::Zone;
 ghost use mathlib.Core.Path.{_≡_};
-ghost use Rattle.solver.specs.FastSolver.{factored};
+ghost use Rattle.solver.specs.Inner.Factored.{factored};
 ghost use Rattle.zone.specs.Record.BuildingElement.{standardCoefficients};
-ghost use Rattle.zone.specs.Physics.System.{assembled};
-ghost use Rattle.zone.specs.Physics.TempOperative.{areasOf};
-ghost use Rattle.zone.specs.Hour.Demand.{achTarget, coolByWindows, withChoice, chooseRate, calcCoolingPotentialFromVentilation};
-ghost use Rattle.zone.specs.Hour.Solves.{hourSystem, factorsAt, VentilatedAt};
+ghost use Rattle.zone.specs.Inner.Assembled.{assembled};
+ghost use Rattle.zone.specs.Inner.Operative.{areasOf};
+ghost use Rattle.zone.specs.Hour.Demand.{achTarget};
+ghost use Rattle.zone.specs.Inner.Demand.{coolByWindows, withChoice, chooseRate, coolingPotential};
+ghost use Rattle.zone.specs.Inner.Solves.{hourSystem, factorsAt, VentilationAt};
 
-pub enum VentilatedAnswer {
-    Accepted(Ventilated),
+pub enum VentilationAnswer {
+    Accepted(VentilationChoice),
     Refused { number: u32, index: usize },
 }
 
@@ -45,9 +46,9 @@ fn cool_by_windows(
     factor_diag: &mut [f64; 120],
     factor_dense: &mut [f64; 625],
     interchanges: &mut [usize; 25],
-) -> VentilatedAnswer
+) -> VentilationAnswer
     requires { ⌜ (assembled terms (now «two_nodes») (now diag) (now next) (now prev) (now dense) (now b) ≡ hourSystem z (now t) h) × (factored 0 (now «factor_diag») (now «factor_dense») (now interchanges) ≡ factorsAt z (now t) h target) × (now area ≡ areasOf z) ⌝ }
-    ensures { λ r. ⌜ VentilatedAt z (now (t .entry)) h (coolByWindows standardCoefficients z (now (t .entry)) h target «temp_free» ach trigger) r (now («factor_diag» .exit)) (now («factor_dense» .exit)) (now (interchanges .exit)) ⌝ }
+    ensures { λ r. ⌜ VentilationAt z (now (t .entry)) h (coolByWindows standardCoefficients z (now (t .entry)) h target «temp_free» ach trigger) r (now («factor_diag» .exit)) (now («factor_dense» .exit)) (now (interchanges .exit)) ⌝ }
 {
     let mut extra_diag = [0.0; 120];
     let mut extra_dense = [0.0; 625];
@@ -71,11 +72,11 @@ fn cool_by_windows(
         &mut temps,
     );
     if number != 0 {
-        return VentilatedAnswer::Refused { number, index: 0 };
+        return VentilationAnswer::Refused { number, index: 0 };
     }
     let temp_extra = control_temperature(z, area, terms.area_el_total, &temps);
     if above_cooling_setpoint(temp_extra, h.temp_setpnt_cool) {
-        return VentilatedAnswer::Accepted(Ventilated {
+        return VentilationAnswer::Accepted(VentilationChoice {
             temp_free,
             ach_cooling: target,
             ach_to_trigger_heating: trigger,
@@ -84,7 +85,7 @@ fn cool_by_windows(
     *factor_diag = extra_diag;
     *factor_dense = extra_dense;
     *interchanges = extra_interchanges;
-    VentilatedAnswer::Accepted(Ventilated {
+    VentilationAnswer::Accepted(VentilationChoice {
         temp_free: temp_extra,
         ach_cooling: ach,
         ach_to_trigger_heating: trigger,
@@ -110,9 +111,9 @@ fn with_choice(
     factor_diag: &mut [f64; 120],
     factor_dense: &mut [f64; 625],
     interchanges: &mut [usize; 25],
-) -> VentilatedAnswer
+) -> VentilationAnswer
     requires { ⌜ (assembled terms (now «two_nodes») (now diag) (now next) (now prev) (now dense) (now b) ≡ hourSystem z (now t) h) × (factored 0 (now «factor_diag») (now «factor_dense») (now interchanges) ≡ factorsAt z (now t) h target) × (now area ≡ areasOf z) ⌝ }
-    ensures { λ r. ⌜ VentilatedAt z (now (t .entry)) h (withChoice standardCoefficients z (now (t .entry)) h target windows free «vent_max») r (now («factor_diag» .exit)) (now («factor_dense» .exit)) (now (interchanges .exit)) ⌝ }
+    ensures { λ r. ⌜ VentilationAt z (now (t .entry)) h (withChoice standardCoefficients z (now (t .entry)) h target windows free «vent_max») r (now («factor_diag» .exit)) (now («factor_dense» .exit)) (now (interchanges .exit)) ⌝ }
 {
     let trigger = AchToTriggerHeating::At(ach_to_reach(
         h,
@@ -145,7 +146,7 @@ fn with_choice(
             interchanges,
         );
     }
-    VentilatedAnswer::Accepted(Ventilated {
+    VentilationAnswer::Accepted(VentilationChoice {
         temp_free: free.temp_control,
         ach_cooling: target,
         ach_to_trigger_heating: trigger,
@@ -170,9 +171,9 @@ fn choose_rate(
     factor_diag: &mut [f64; 120],
     factor_dense: &mut [f64; 625],
     interchanges: &mut [usize; 25],
-) -> VentilatedAnswer
+) -> VentilationAnswer
     requires { ⌜ (assembled terms (now «two_nodes») (now diag) (now next) (now prev) (now dense) (now b) ≡ hourSystem z (now t) h) × (factored 0 (now «factor_diag») (now «factor_dense») (now interchanges) ≡ factorsAt z (now t) h target) × (now area ≡ areasOf z) ⌝ }
-    ensures { λ r. ⌜ VentilatedAt z (now (t .entry)) h (chooseRate standardCoefficients z (now (t .entry)) h target windows free) r (now («factor_diag» .exit)) (now («factor_dense» .exit)) (now (interchanges .exit)) ⌝ }
+    ensures { λ r. ⌜ VentilationAt z (now (t .entry)) h (chooseRate standardCoefficients z (now (t .entry)) h target windows free) r (now («factor_diag» .exit)) (now («factor_dense» .exit)) (now (interchanges .exit)) ⌝ }
 {
     let mut open_diag = [0.0; 120];
     let mut open_dense = [0.0; 625];
@@ -196,7 +197,7 @@ fn choose_rate(
         &mut temps,
     );
     if number != 0 {
-        return VentilatedAnswer::Refused { number, index: 0 };
+        return VentilationAnswer::Refused { number, index: 0 };
     }
     let vent_max = zone_temperatures(z, area, terms.area_el_total, &temps);
     with_choice(
@@ -238,13 +239,13 @@ pub fn calc_cooling_potential_from_ventilation(
     factor_diag: &mut [f64; 120],
     factor_dense: &mut [f64; 625],
     interchanges: &mut [usize; 25],
-) -> VentilatedAnswer
+) -> VentilationAnswer
     requires { ⌜ (assembled terms (now «two_nodes») (now diag) (now next) (now prev) (now dense) (now b) ≡ hourSystem z (now t) h) × (factored 0 (now «factor_diag») (now «factor_dense») (now interchanges) ≡ factorsAt z (now t) h (achTarget (h .«ach_args»))) × (now area ≡ areasOf z) ⌝ }
-    ensures { λ r. ⌜ VentilatedAt z (now (t .entry)) h (calcCoolingPotentialFromVentilation standardCoefficients z (now (t .entry)) h free (h .«ach_args»)) r (now («factor_diag» .exit)) (now («factor_dense» .exit)) (now (interchanges .exit)) ⌝ }
+    ensures { λ r. ⌜ VentilationAt z (now (t .entry)) h (coolingPotential standardCoefficients z (now (t .entry)) h free (h .«ach_args»)) r (now («factor_diag» .exit)) (now («factor_dense» .exit)) (now (interchanges .exit)) ⌝ }
 {
     let ach_args = h.ach_args;
     match ach_args {
-        AirChangesPerHourArgument::Cooling(ach) => VentilatedAnswer::Accepted(Ventilated {
+        AirChangesPerHourArgument::Cooling(ach) => VentilationAnswer::Accepted(VentilationChoice {
             temp_free: free.temp_control,
             ach_cooling: ach,
             ach_to_trigger_heating: AchToTriggerHeating::Absent,
@@ -271,7 +272,7 @@ pub fn calc_cooling_potential_from_ventilation(
                     interchanges,
                 );
             }
-            VentilatedAnswer::Accepted(Ventilated {
+            VentilationAnswer::Accepted(VentilationChoice {
                 temp_free: free.temp_control,
                 ach_cooling: target,
                 ach_to_trigger_heating: AchToTriggerHeating::Absent,

@@ -2,11 +2,11 @@
 use crate::calls::state::DemandAnswer;
 use crate::format::conditions::AirChangesPerHourArgument;
 use crate::format::conditions::Conditions;
-use crate::hour::cooling_potential::VentilatedAnswer;
+use crate::hour::cooling_potential::VentilationAnswer;
 use crate::hour::cooling_potential::calc_cooling_potential_from_ventilation;
+use crate::hour::load::HeatCoolLoad;
 use crate::hour::load::Interpolated;
-use crate::hour::load::Wanted;
-use crate::hour::load::demand_by;
+use crate::hour::load::demand_record;
 use crate::hour::load::frac_upper;
 use crate::hour::load::interp_heat_cool_demand;
 use crate::hour::load::wanted_of;
@@ -15,26 +15,30 @@ use crate::hour::solves::free_temperatures;
 use crate::hour::solves::gains_heat_cool_of;
 use crate::hour::solves::solve_at;
 use crate::hour::time_step::ZoneTerms;
-use crate::hour::windows::Ventilated;
+use crate::hour::windows::VentilationChoice;
 use crate::hour::windows::ZoneTemperatures;
 use crate::hour::windows::zone_temperatures;
 use crate::physics::operative::areas_of;
 use crate::physics::ventilation::calc_vent_heat_transfer_coeff;
+use crate::record::numbers::COOLING_BELOW_HEATING;
+use crate::record::numbers::VENTILATION_BELOW_HEATING;
 use crate::record::zone_record::Zone;
 ghost use mathlib.Core.Path.{_≡_};
-ghost use Rattle.solver.specs.FastSolver.{factored};
+ghost use Rattle.solver.specs.Inner.Factored.{factored};
 ghost use Rattle.zone.specs.Record.BuildingElement.{standardCoefficients};
-ghost use Rattle.zone.specs.Physics.System.{assembled};
-ghost use Rattle.zone.specs.Physics.TempOperative.{areasOf};
-ghost use Rattle.zone.specs.Hour.Demand.{achTarget, loadedDemand, demandTowards, demandFrom, spaceHeatCoolDemand};
-ghost use Rattle.zone.specs.Hour.Solves.{hourSystem, factorsAt, demandAnswer, DemandedAt};
+ghost use Rattle.zone.specs.Inner.Assembled.{assembled};
+ghost use Rattle.zone.specs.Inner.Operative.{areasOf};
+ghost use Rattle.zone.specs.declared.hour.load.HeatCoolLoad.the-variants.{Toward};
+ghost use Rattle.zone.specs.Hour.Demand.{achTarget, demandForLoad, spaceHeatCoolDemand};
+ghost use Rattle.zone.specs.Inner.Demand.{demandFromFree};
+ghost use Rattle.zone.specs.Inner.Solves.{hourSystem, factorsAt, demandAnswer, DemandedAt};
 
 // diag and dense only say which system was factored.
 fn loaded_demand(
     z: Zone,
     t: &[f64; 121],
     h: Conditions,
-    v: Ventilated,
+    v: VentilationChoice,
     setpoint: f64,
     load: f64,
     fraction: f64,
@@ -51,7 +55,7 @@ fn loaded_demand(
     interchanges: &[usize; 25],
 ) -> DemandAnswer
     requires { ⌜ (assembled terms (now «two_nodes») (now diag) (now next) (now prev) (now dense) (now b) ≡ hourSystem z (now t) h) × (factored 0 (now «factor_diag») (now «factor_dense») (now interchanges) ≡ factorsAt z (now t) h (v .«ach_cooling»)) × (now area ≡ areasOf z) ⌝ }
-    ensures { λ r. ⌜ r ≡ demandAnswer (loadedDemand standardCoefficients z (now (t .entry)) h v setpoint load fraction) ⌝ }
+    ensures { λ r. ⌜ r ≡ demandAnswer (demandForLoad standardCoefficients z (now (t .entry)) h v (Toward setpoint load fraction)) ⌝ }
 {
     let gains = gains_heat_cool_of(h) + load;
     let frac = frac_upper(h, load, fraction);
@@ -78,16 +82,16 @@ fn loaded_demand(
     let kwh = interp_heat_cool_demand(h.delta_t_h, setpoint, load, v.temp_free, temp_upper);
     match kwh {
         Interpolated::Refused { number, index } => DemandAnswer::Refused { number, index },
-        Interpolated::Accepted(x) => DemandAnswer::Accepted(demand_by(x, v)),
+        Interpolated::Accepted(x) => DemandAnswer::Accepted(demand_record(x, v)),
     }
 }
 
-fn demand_towards(
+fn demand_for_load(
     z: Zone,
     t: &[f64; 121],
     h: Conditions,
-    v: Ventilated,
-    w: Wanted,
+    v: VentilationChoice,
+    w: HeatCoolLoad,
     terms: ZoneTerms,
     two_nodes: &[bool; 24],
     diag: &[f64; 120],
@@ -101,11 +105,11 @@ fn demand_towards(
     interchanges: &[usize; 25],
 ) -> DemandAnswer
     requires { ⌜ (assembled terms (now «two_nodes») (now diag) (now next) (now prev) (now dense) (now b) ≡ hourSystem z (now t) h) × (factored 0 (now «factor_diag») (now «factor_dense») (now interchanges) ≡ factorsAt z (now t) h (v .«ach_cooling»)) × (now area ≡ areasOf z) ⌝ }
-    ensures { λ r. ⌜ r ≡ demandAnswer (demandTowards standardCoefficients z (now (t .entry)) h v w) ⌝ }
+    ensures { λ r. ⌜ r ≡ demandAnswer (demandForLoad standardCoefficients z (now (t .entry)) h v w) ⌝ }
 {
     match w {
-        Wanted::Neither => DemandAnswer::Accepted(demand_by(0.0, v)),
-        Wanted::Towards {
+        HeatCoolLoad::NoLoad => DemandAnswer::Accepted(demand_record(0.0, v)),
+        HeatCoolLoad::Toward {
             setpoint,
             load,
             fraction,
@@ -132,7 +136,7 @@ fn demand_towards(
     }
 }
 
-fn demand_from(
+fn demand_from_free(
     z: Zone,
     t: &[f64; 121],
     h: Conditions,
@@ -150,7 +154,7 @@ fn demand_from(
     interchanges: &mut [usize; 25],
 ) -> DemandAnswer
     requires { ⌜ (assembled terms (now «two_nodes») (now diag) (now next) (now prev) (now dense) (now b) ≡ hourSystem z (now t) h) × (factored 0 (now «factor_diag») (now «factor_dense») (now interchanges) ≡ factorsAt z (now t) h (achTarget (h .«ach_args»))) × (now area ≡ areasOf z) ⌝ }
-    ensures { λ r. ⌜ DemandedAt z (now (t .entry)) h (demandFrom standardCoefficients z (now (t .entry)) h free) r (now («factor_diag» .exit)) (now («factor_dense» .exit)) (now (interchanges .exit)) ⌝ }
+    ensures { λ r. ⌜ DemandedAt z (now (t .entry)) h (demandFromFree standardCoefficients z (now (t .entry)) h free) r (now («factor_diag» .exit)) (now («factor_dense» .exit)) (now (interchanges .exit)) ⌝ }
 {
     let ventilated = calc_cooling_potential_from_ventilation(
         z,
@@ -170,10 +174,10 @@ fn demand_from(
         interchanges,
     );
     match ventilated {
-        VentilatedAnswer::Refused { number, index } => DemandAnswer::Refused { number, index },
-        VentilatedAnswer::Accepted(v) => {
+        VentilationAnswer::Refused { number, index } => DemandAnswer::Refused { number, index },
+        VentilationAnswer::Accepted(v) => {
             let w = wanted_of(z.useful_area, h, v.temp_free);
-            demand_towards(
+            demand_for_load(
                 z,
                 t,
                 h,
@@ -226,13 +230,13 @@ pub fn hour_demand(
     let area = areas_of(z);
     if h.temp_setpnt_cool < h.temp_setpnt_heat {
         return DemandAnswer::Refused {
-            number: 10,
+            number: COOLING_BELOW_HEATING,
             index: 0,
         };
     }
     if h.temp_setpnt_cool_vent < h.temp_setpnt_heat {
         return DemandAnswer::Refused {
-            number: 11,
+            number: VENTILATION_BELOW_HEATING,
             index: 0,
         };
     }
@@ -260,7 +264,7 @@ pub fn hour_demand(
         return DemandAnswer::Refused { number, index: 0 };
     }
     let indoor = zone_temperatures(z, &area, terms.area_el_total, &temps);
-    demand_from(
+    demand_from_free(
         z,
         t,
         h,

@@ -3,20 +3,22 @@ use crate::calls::state::Demand;
 use crate::format::conditions::Conditions;
 use crate::hour::solves::frac_conv_gains_heat_cool_of;
 use crate::hour::solves::gains_heat_cool_of;
-use crate::hour::windows::Ventilated;
+use crate::hour::windows::VentilationChoice;
+use crate::record::numbers::NO_EFFECT;
+use crate::record::units::WATTS_PER_KILOWATT;
 use solver::close_in_demand;
 ghost use mathlib.Core.Path.{_≡_};
 ghost use mathlib.Core.Bool.{not, _&&_};
 ghost use lib.Ieee.{lt, neg};
-ghost use Rattle.solver.specs.F64.{_*ᶠ_, dec};
+ghost use Rattle.solver.specs.F64.{_-ᶠ_, _*ᶠ_, _/ᶠ_, dec};
 ghost use Rattle.solver.specs.Closeness.{closeInDemand};
-ghost use Rattle.zone.specs.Hour.Demand.{wanted, fracUpper, interpolation, interpHeatCoolDemand, demandBy};
-ghost use Rattle.zone.specs.Hour.Solves.{interpolated};
+ghost use Rattle.zone.specs.Hour.Demand.{wanted, fracUpper, interpHeatCoolDemand, demandRecord};
+ghost use Rattle.zone.specs.Inner.Solves.{interpolated};
 
 // The setpoint to be reached and the load with which the second calculation is made, with its convective fraction.
-pub enum Wanted {
-    Neither,
-    Towards {
+pub enum HeatCoolLoad {
+    NoLoad,
+    Toward {
         setpoint: f64,
         load: f64,
         fraction: f64,
@@ -58,24 +60,24 @@ fn below(temp_free: f64, temp_setpnt_heat: f64, temp_setpnt_cool: f64) -> bool
     below & !close
 }
 
-pub fn wanted_of(useful_area: f64, h: Conditions, temp_free: f64) -> Wanted
+pub fn wanted_of(useful_area: f64, h: Conditions, temp_free: f64) -> HeatCoolLoad
     ensures { λ r. ⌜ r ≡ wanted «useful_area» h «temp_free» ⌝ }
 {
     if above(temp_free, h.temp_setpnt_cool) {
-        return Wanted::Towards {
+        return HeatCoolLoad::Toward {
             setpoint: h.temp_setpnt_cool,
             load: cooling_load_of(useful_area),
             fraction: h.frac_convective_cool,
         };
     }
     if below(temp_free, h.temp_setpnt_heat, h.temp_setpnt_cool) {
-        return Wanted::Towards {
+        return HeatCoolLoad::Toward {
             setpoint: h.temp_setpnt_heat,
             load: load_of(useful_area),
             fraction: h.frac_convective_heat,
         };
     }
-    Wanted::Neither
+    HeatCoolLoad::NoLoad
 }
 
 // The convective fraction of the gains with the load.
@@ -88,9 +90,9 @@ pub fn frac_upper(h: Conditions, load: f64, fraction: f64) -> f64
 }
 
 fn kwh_of(delta_t_h: f64, setpoint: f64, load: f64, temp_free: f64, temp_upper: f64) -> f64
-    ensures { λ r. ⌜ r ≡ interpolation «delta_t_h» setpoint load «temp_free» «temp_upper» ⌝ }
+    ensures { λ r. ⌜ r ≡ load *ᶠ (setpoint -ᶠ «temp_free») /ᶠ («temp_upper» -ᶠ «temp_free») /ᶠ dec 1000 0 *ᶠ «delta_t_h» ⌝ }
 {
-    load * (setpoint - temp_free) / (temp_upper - temp_free) / 1000.0 * delta_t_h
+    load * (setpoint - temp_free) / (temp_upper - temp_free) / WATTS_PER_KILOWATT * delta_t_h
 }
 
 // By interpolation between the free and the loaded temperature.
@@ -105,7 +107,7 @@ pub fn interp_heat_cool_demand(
 {
     if close_in_demand(temp_upper - temp_free, 0.0) {
         return Interpolated::Refused {
-            number: 14,
+            number: NO_EFFECT,
             index: 0,
         };
     }
@@ -116,8 +118,8 @@ pub fn interp_heat_cool_demand(
 }
 
 // Heating where positive, cooling where negative.
-pub fn demand_by(kwh: f64, v: Ventilated) -> Demand
-    ensures { λ r. ⌜ r ≡ demandBy kwh v ⌝ }
+pub fn demand_record(kwh: f64, v: VentilationChoice) -> Demand
+    ensures { λ r. ⌜ r ≡ demandRecord kwh v ⌝ }
 {
     let mut space_heat_demand = 0.0;
     let mut space_cool_demand = 0.0;

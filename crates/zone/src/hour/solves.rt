@@ -8,21 +8,17 @@ use crate::physics::operative::temp_operative_by_temp_vector;
 use crate::physics::ventilation::calc_vent_heat_transfer_coeff;
 use crate::record::zone_record::Zone;
 use crate::record::zone_record::ZoneTemperatureControlBasis;
+use solver::DIVISOR;
 use solver::close_in_demand;
 ghost use mathlib.Core.Path.{_≡_};
 ghost use lib.ListN.{replicate};
-ghost use Rattle.solver.specs.FastSolver.{atMost24, factored, factor, solved, substitute};
-ghost use Rattle.zone.specs.Physics.System.{areaElTotal, assembled, denseWith, rightSideWith};
-ghost use Rattle.zone.specs.Physics.TempOperative.{areasOf};
-ghost use Rattle.zone.specs.Hour.Demand.{deltaT, gainsHeatCool, fracConvGainsHeatCool, controlTemperature};
-ghost use Rattle.zone.specs.Hour.Solves.{hourSystem, factorsAt, FreeAt};
-
-// The timestep in seconds.
-pub fn delta_t_of(h: Conditions) -> f64
-    ensures { λ r. ⌜ r ≡ deltaT h ⌝ }
-{
-    h.delta_t_h * 3600.0
-}
+ghost use Rattle.solver.specs.FastSolver.{atMost24};
+ghost use Rattle.solver.specs.Inner.Factored.{factored, factor, solved, substitute};
+ghost use Rattle.zone.specs.Physics.System.{areaElTotal};
+ghost use Rattle.zone.specs.Inner.Assembled.{assembled, denseWith, rightSideWith};
+ghost use Rattle.zone.specs.Inner.Operative.{areasOf};
+ghost use Rattle.zone.specs.Hour.Demand.{gainsHeatCool, fracConvGainsHeatCool, controlTemperature};
+ghost use Rattle.zone.specs.Inner.Solves.{hourSystem, factorsAt, FreeAt};
 
 // The gains from heating or cooling that are there before any demand.
 pub fn gains_heat_cool_of(h: Conditions) -> f64
@@ -157,7 +153,7 @@ pub fn free_temperatures(
         interchanges,
     );
     if number != 0 {
-        return 12;
+        return DIVISOR;
     }
     let gains = gains_heat_cool_of(h);
     let fraction = frac_conv_gains_heat_cool_of(h);

@@ -1,19 +1,10 @@
 // One time step of a zone: BS EN ISO 52016-1, 6.5.6.
 use crate::format::conditions::Conditions;
-use crate::physics::matrix::area_total;
-use crate::physics::matrix::convective_sum;
-use crate::physics::matrix::couple_rows;
-use crate::physics::matrix::h_ci_of;
-use crate::physics::matrix::shares_of;
-use crate::physics::matrix::take_surfaces;
-use crate::physics::right_side::assemble_chains;
-use crate::physics::right_side::set_load;
+use crate::physics::assembly::assemble_elements;
 use crate::physics::slots::at_most_24;
 use crate::physics::slots::set_entry;
 use crate::physics::ventilation::calc_vent_heat_transfer_coeff;
 use crate::record::building_element::Coefficients;
-use crate::record::building_element::Element;
-use crate::record::building_element::ElementHour;
 use crate::record::zone_record::Zone;
 use solver::Solved;
 use solver::factor;
@@ -21,23 +12,11 @@ use solver::substitute;
 ghost use mathlib.Core.Path.{_≡_};
 ghost use Prim.Native.Nat.{_≤_};
 ghost use Rattle.zone.specs.Physics.Slots.{withTerms};
-ghost use Rattle.zone.specs.Physics.Assembly.{chains};
-ghost use Rattle.zone.specs.Physics.System.{
-  twoNodesOf,
-  areaElTotal,
-  convectiveSum,
-  elementChains,
-  couplingsOf,
-  elementSides,
-  zoneTermsOf,
-  zoneDiagonal,
-  assembled,
-  assemble,
-  denseWith,
-  rightSideWith,
-};
-ghost use Rattle.solver.specs.FastSolver.{factored, factor, solved, substitute};
-ghost use Rattle.zone.specs.Physics.CalcTemperatures.{calcTemperatures, solvedOrBefore};
+ghost use Rattle.zone.specs.Physics.System.{twoNodesOf, areaElTotal};
+ghost use Rattle.zone.specs.Physics.CalcTemperatures.{calcTemperatures};
+ghost use Rattle.zone.specs.Inner.Assembly.{chains, withGains};
+ghost use Rattle.zone.specs.Inner.Assembled.{convectiveSum, elementChains, couplingsOf, elementSides, zoneTermsOf, zoneDiagonalFrom, assembled, assemble, denseWith, rightSideWith, solvedOrBefore, gainsPerAreaFrom, zoneRightSideFrom};
+ghost use Rattle.solver.specs.Inner.Factored.{factored, factor, solved, substitute};
 
 // The terms of the zone's equation (38), and of the gains, that neither rate nor load changes.
 pub struct ZoneTerms {
@@ -53,51 +32,6 @@ pub struct ZoneTerms {
     pub gains_solar: f64,
     pub f_int_c: f64,
     pub f_sol_c: f64,
-}
-
-// The sums over all elements.
-pub struct ElementSums {
-    pub area_el_total: f64,
-    pub convective: f64,
-}
-
-fn assemble_elements(
-    c: Coefficients,
-    n: usize,
-    es: [Element; 24],
-    hours: [ElementHour; 24],
-    delta_t: f64,
-    t: &[f64; 121],
-    two_nodes: &mut [bool; 24],
-    diag: &mut [f64; 120],
-    next: &mut [f64; 120],
-    prev: &mut [f64; 120],
-    dense: &mut [f64; 625],
-    b: &mut [f64; 121],
-) -> ElementSums
-    requires { ⌜ n ≤ 24 ⌝ }
-    ensures { λ r. ⌜ (now («two_nodes» .exit) ≡ withTerms n (twoNodesOf es) (now («two_nodes» .entry)))
-        × (chains (now (diag .exit)) (now (next .exit)) (now (prev .exit))
-        ≡ elementChains c n es hours «delta_t» (now (t .entry)) (chains (now (diag .entry)) (now (next .entry)) (now (prev .entry))))
-        × (now (dense .exit) ≡ couplingsOf c n es (now (t .entry)) (now (dense .entry)))
-        × (now (b .exit) ≡ elementSides n es hours «delta_t» (now (t .entry)) (now (b .entry)))
-        × (r .«area_el_total» ≡ areaElTotal n es)
-        × (r .convective ≡ convectiveSum c n es (now (t .entry))) ⌝ }
-{
-    let mut area = [0.0; 24];
-    let mut pitch = [0.0; 24];
-    let mut h_ri = [0.0; 24];
-    take_surfaces(n, es, &mut area, &mut pitch, &mut h_ri, two_nodes);
-    let total = area_total(n, &area);
-    let share = shares_of(n, &area, total);
-    let h_ci = h_ci_of(c, n, &pitch, t);
-    assemble_chains(n, es, hours, delta_t, &h_ci, &share, t, diag, next, prev, b);
-    couple_rows(n, &area, &h_ri, &h_ci, &share, dense);
-    let convective = convective_sum(n, &area, &h_ci);
-    ElementSums {
-        area_el_total: total,
-        convective,
-    }
 }
 
 // All that one time step's systems share: the matrix but for the zone's own coefficient, and the right side but for gains and zone.
@@ -152,7 +86,7 @@ pub fn assemble(
 }
 
 fn zone_diagonal(s: ZoneTerms, h_ve: f64) -> f64
-    ensures { λ r. ⌜ r ≡ zoneDiagonal s «h_ve» ⌝ }
+    ensures { λ r. ⌜ r ≡ zoneDiagonalFrom s «h_ve» ⌝ }
 {
     s.c_int_per_delta_t + s.convective + h_ve + s.tb_heat_trans_coeff
 }
@@ -181,6 +115,46 @@ pub fn factor_rate(
 {
     set_rate(s, h_ve, dense);
     factor(s.n, two_nodes, diag, next, prev, dense, interchanges)
+}
+
+fn add_gains(n: usize, x: f64, b: &mut [f64; 121])
+    requires { ⌜ n ≤ 24 ⌝ }
+    ensures { λ _. ⌜ now (b .exit) ≡ withGains n x (now (b .entry)) ⌝ }
+{
+    let mut e = 0;
+    while e < n {
+        b[5 * e + 4] = b[5 * e + 4] + x;
+        e += 1;
+    }
+}
+
+fn gains_per_area(s: ZoneTerms, gains_heat_cool: f64, f_hc_c: f64) -> f64
+    ensures { λ r. ⌜ r ≡ gainsPerAreaFrom s «gains_heat_cool» «f_hc_c» ⌝ }
+{
+    ((1.0 - s.f_int_c) * s.gains_internal
+        + (1.0 - s.f_sol_c) * s.gains_solar
+        + (1.0 - f_hc_c) * gains_heat_cool)
+        / s.area_el_total
+}
+
+fn zone_right_side(s: ZoneTerms, h_ve: f64, gains_heat_cool: f64, f_hc_c: f64) -> f64
+    ensures { λ r. ⌜ r ≡ zoneRightSideFrom s «h_ve» «gains_heat_cool» «f_hc_c» ⌝ }
+{
+    s.c_int_per_delta_t * s.temp_int_air
+        + h_ve * s.avg_supply_temp
+        + s.tb_heat_trans_coeff * s.temp_ext_air
+        + s.f_int_c * s.gains_internal
+        + s.f_sol_c * s.gains_solar
+        + f_hc_c * gains_heat_cool
+}
+
+// The right side of one rate and one load, from that of the chains without the gains.
+fn set_load(s: ZoneTerms, h_ve: f64, gains_heat_cool: f64, f_hc_c: f64, b: &mut [f64; 121])
+    ensures { λ _. ⌜ now (b .exit) ≡ rightSideWith s «h_ve» «gains_heat_cool» «f_hc_c» (now (b .entry)) ⌝ }
+{
+    let n = at_most_24(s.n);
+    add_gains(n, gains_per_area(s, gains_heat_cool, f_hc_c), b);
+    b[120] = zone_right_side(s, h_ve, gains_heat_cool, f_hc_c);
 }
 
 // The temperatures after the step for one load, where the right side without it stood: 0, or 13.

@@ -12,8 +12,8 @@ ghost use lib.Ieee.{lt};
 ghost use Rattle.solver.specs.FastSolver.{atMost24};
 ghost use Rattle.solver.specs.Closeness.{closeInWindowsTest};
 ghost use Rattle.zone.specs.Physics.System.{areaElTotal};
-ghost use Rattle.zone.specs.Physics.TempOperative.{areasOf};
-ghost use Rattle.zone.specs.Hour.Demand.{zoneTemperatures, achToReach, windowsCool};
+ghost use Rattle.zone.specs.Inner.Operative.{areasOf};
+ghost use Rattle.zone.specs.Inner.Demand.{zoneTemperatures, rateToReach, windowsCool};
 
 // Of a calculation's temperatures, what the choice of a rate looks at.
 pub struct ZoneTemperatures {
@@ -22,7 +22,7 @@ pub struct ZoneTemperatures {
 }
 
 // The free temperature, the chosen rate and the rate that triggers heating.
-pub struct Ventilated {
+pub struct VentilationChoice {
     pub temp_free: f64,
     pub ach_cooling: f64,
     pub ach_to_trigger_heating: AchToTriggerHeating,
@@ -53,7 +53,7 @@ pub fn ach_to_reach(
     vent_max: ZoneTemperatures,
     temperature: f64,
 ) -> f64
-    ensures { λ r. ⌜ r ≡ achToReach h target windows free «vent_max» temperature ⌝ }
+    ensures { λ r. ⌜ r ≡ rateToReach h target windows free «vent_max» temperature ⌝ }
 {
     ach_req_to_reach_temperature(
         temperature,

@@ -11,7 +11,8 @@ use crate::record::zone_record::Zone;
 ghost use mathlib.Core.Path.{_≡_};
 ghost use Prim.Native.Nat.{_≤_};
 ghost use Rattle.solver.specs.Sums.{sumFrom0, terms};
-ghost use Rattle.zone.specs.Physics.HeatBalance.{airNode, convectiveLossAt, internalBoundary, externalBoundary, heatBalance};
+ghost use Rattle.zone.specs.Physics.HeatBalance.{airNode, convectiveLossAt, internalBoundary, heatBalance};
+ghost use Rattle.zone.specs.Inner.FabricSums.{externalBoundaryFrom};
 
 pub struct HeatBalanceAirNode {
     pub solar_gains: f64,
@@ -130,7 +131,7 @@ fn external_boundary(
     hour: Conditions,
     gains_heat_cool: f64,
 ) -> HeatBalanceExternalBoundary
-    ensures { λ r. ⌜ r ≡ externalBoundary s a hour «gains_heat_cool» ⌝ }
+    ensures { λ r. ⌜ r ≡ externalBoundaryFrom s a hour «gains_heat_cool» ⌝ }
 {
     HeatBalanceExternalBoundary {
         solar_gains: hour.gains_solar,

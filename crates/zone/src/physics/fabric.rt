@@ -7,9 +7,10 @@ use crate::record::building_element::is_two_nodes;
 ghost use mathlib.Core.Path.{_≡_};
 ghost use Prim.Native.Nat.{_≤_};
 ghost use Rattle.solver.specs.Each.{each};
-ghost use Rattle.zone.specs.Physics.HeatBalance.{fabricExt, addBoundary, addKind, addElement, addElementAt, noFabric};
+ghost use Rattle.zone.specs.Physics.HeatBalance.{fabricExt};
+ghost use Rattle.zone.specs.Inner.FabricSums.{addBoundary, addKind, addElement, addElementAt, noFabric};
 
-// The sums over the elements at the external boundary: four over all, then one for each kind.
+// The sums over the elements at the external boundary: four over all, then five by kind (a party wall counts with the unconditioned spaces).
 pub struct FabricSums {
     pub convective: f64,
     pub radiative: f64,

@@ -1,6 +1,7 @@
 // The coefficients that all elements of a zone bring into the matrix.
 use crate::physics::equations::Rows;
 use crate::physics::slots::set_entry;
+use crate::physics::slots::set_slots;
 use crate::record::building_element::Coefficients;
 use crate::record::building_element::Element;
 use crate::record::building_element::h_ci;
@@ -12,12 +13,13 @@ ghost use lib.ListN.{replicate};
 ghost use Rattle.solver.specs.F64.{zero64};
 ghost use Rattle.solver.specs.Each.{each};
 ghost use Rattle.solver.specs.Sums.{sum2, terms};
-ghost use Rattle.zone.specs.Physics.Slots.{at, withTerms, setSlots};
-ghost use Rattle.zone.specs.Physics.Assembly.{hCiAt, shareAt, convectiveAt, chains, setRows, couple, coupleRow};
-ghost use Rattle.zone.specs.Physics.System.{areaOf, pitchOf, hRiOf, twoNodesOf};
+ghost use Rattle.zone.specs.Physics.Slots.{withTerms};
+ghost use Rattle.zone.specs.Physics.System.{areaOf, twoNodesOf};
+ghost use Rattle.zone.specs.Inner.Assembly.{at, hCiBy, shareBy, convectiveBy, chains, setRows, couple, coupleRow};
+ghost use Rattle.zone.specs.Inner.Assembled.{pitchOf, hRiOf};
 
 // What the couplings and the sums need of each element, taken out of the records in one pass.
-pub fn take_surfaces(
+pub fn fill_surfaces(
     n: usize,
     es: [Element; 24],
     area: &mut [f64; 24],
@@ -58,7 +60,7 @@ pub fn area_total(n: usize, area: &[f64; 24]) -> f64
 
 pub fn shares_of(n: usize, area: &[f64; 24], total: f64) -> [f64; 24]
     requires { ⌜ n ≤ 24 ⌝ }
-    ensures { λ r. ⌜ r ≡ withTerms n (shareAt (at (now (area .entry))) total) (replicate 24 zero64) ⌝ }
+    ensures { λ r. ⌜ r ≡ withTerms n (shareBy (at (now (area .entry))) total) (replicate 24 zero64) ⌝ }
 {
     let mut share = [0.0; 24];
     let mut e = 0;
@@ -72,7 +74,7 @@ pub fn shares_of(n: usize, area: &[f64; 24], total: f64) -> [f64; 24]
 // h_ci of each element, from the temperatures before the step.
 pub fn h_ci_of(c: Coefficients, n: usize, pitch: &[f64; 24], t: &[f64; 121]) -> [f64; 24]
     requires { ⌜ n ≤ 24 ⌝ }
-    ensures { λ r. ⌜ r ≡ withTerms n (hCiAt c (at (now (pitch .entry))) (now (t .entry))) (replicate 24 zero64) ⌝ }
+    ensures { λ r. ⌜ r ≡ withTerms n (hCiBy c (at (now (pitch .entry))) (now (t .entry))) (replicate 24 zero64) ⌝ }
 {
     let mut h = [0.0; 24];
     let mut e = 0;
@@ -86,7 +88,7 @@ pub fn h_ci_of(c: Coefficients, n: usize, pitch: &[f64; 24], t: &[f64; 121]) -> 
 // The convective sum of the zone's own coefficient (38).
 pub fn convective_sum(n: usize, area: &[f64; 24], h_ci: &[f64; 24]) -> f64
     requires { ⌜ n ≤ 24 ⌝ }
-    ensures { λ r. ⌜ r ≡ sum2 (terms 0 n (convectiveAt (at (now (area .entry))) (at (now («h_ci» .entry))))) ⌝ }
+    ensures { λ r. ⌜ r ≡ sum2 (terms 0 n (convectiveBy (at (now (area .entry))) (at (now («h_ci» .entry))))) ⌝ }
 {
     let mut total = Sum2::zero();
     let mut e = 0;
@@ -95,17 +97,6 @@ pub fn convective_sum(n: usize, area: &[f64; 24], h_ci: &[f64; 24]) -> f64
         e += 1;
     }
     total.sum()
-}
-
-fn set_slots(d: &mut [f64; 120], e: usize, r: &[f64; 5])
-    requires { ⌜ e < 24 ⌝ }
-    ensures { λ _. ⌜ now (d .exit) ≡ setSlots e (now (r .entry)) (now (d .entry)) ⌝ }
-{
-    let mut j = 0;
-    while j < 5 {
-        d[5 * e + j] = r[j];
-        j += 1;
-    }
 }
 
 pub fn set_rows(

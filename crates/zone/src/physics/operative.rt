@@ -1,4 +1,4 @@
-// The operative temperature, and the internal air's.
+// The operative temperature.
 use crate::physics::matrix::area_total;
 use crate::physics::slots::at_most_24;
 use crate::record::building_element::Element;
@@ -10,17 +10,13 @@ ghost use lib.ListN.{replicate};
 ghost use Rattle.solver.specs.F64.{zero64};
 ghost use Rattle.solver.specs.Sums.{sum2, terms};
 ghost use Rattle.solver.specs.FastSolver.{atMost24};
-ghost use Rattle.zone.specs.Physics.Slots.{at, withTerms};
+ghost use Rattle.zone.specs.Physics.Slots.{withTerms};
 ghost use Rattle.zone.specs.Physics.System.{areaOf};
-ghost use Rattle.zone.specs.Physics.TempOperative.{radiantAt, meanOf, tempOperativeOf, tempOperative, tempInternalAir, areasOf};
+ghost use Rattle.zone.specs.Physics.TempOperative.{meanOf, tempOperative};
+ghost use Rattle.zone.specs.Inner.Assembly.{at};
+ghost use Rattle.zone.specs.Inner.Operative.{radiantAt, tempOperativeOf, areasOf};
 
-pub fn temp_internal_air(t: &[f64; 121]) -> f64
-    ensures { λ r. ⌜ r ≡ tempInternalAir (now (t .entry)) ⌝ }
-{
-    t[120]
-}
-
-fn take_areas(n: usize, es: [Element; 24]) -> [f64; 24]
+fn fill_areas(n: usize, es: [Element; 24]) -> [f64; 24]
     requires { ⌜ n ≤ 24 ⌝ }
     ensures { λ r. ⌜ r ≡ withTerms n (areaOf es) (replicate 24 zero64) ⌝ }
 {
@@ -39,7 +35,7 @@ pub fn areas_of(z: Zone) -> [f64; 24]
 {
     let n = at_most_24(z.count);
     let es = z.building_elements;
-    take_areas(n, es)
+    fill_areas(n, es)
 }
 
 fn radiant_sum(n: usize, area: &[f64; 24], t: &[f64; 121]) -> f64

@@ -1,16 +1,14 @@
 // A building element: its record, and what is worked out from it alone.
 ghost use mathlib.Core.Path.{_≡_};
-ghost use Prim.Native.Nat.{min, _≤_, _<_};
+ghost use Prim.Native.Nat.{min, _≤_};
+ghost use Rattle.zone.specs.Inner.Record.{heatFlowDirection};
 ghost use Rattle.zone.specs.Record.BuildingElement.{
-  heatFlowDirection,
   hCi,
   standardCoefficients,
   hPliTransparent,
   isTwoNodes,
   numberOfNodes,
 };
-ghost use Rattle.zone.specs.Format.ElementLayout.{kindOf, kCount, hCount, maxTreatments, elementSize};
-ghost use Rattle.zone.specs.Format.Decode.{noElementHour, noElement};
 
 // The Rust's BuildingElement, in the order of its variants.
 pub enum Kind {
@@ -163,86 +161,4 @@ pub fn number_of_nodes(kind: Kind) -> usize
     ensures { λ r. ⌜ r ≡ numberOfNodes kind ⌝ }
 {
     if is_two_nodes(kind) { 2 } else { 5 }
-}
-
-// The kind of a number, 0 to 5.
-pub fn kind_of(number: u8) -> Kind
-    ensures { λ r. ⌜ r ≡ kindOf number ⌝ }
-{
-    match number {
-        0 => Kind::Opaque,
-        1 => Kind::AdjacentConditionedSpace,
-        2 => Kind::AdjacentUnconditionedSpaceSimple,
-        3 => Kind::Ground,
-        4 => Kind::Transparent,
-        _ => Kind::PartyWall,
-    }
-}
-
-// How many k_pli an element of a kind has.
-pub fn k_count(kind: Kind) -> usize
-    ensures { λ r. ⌜ r ≡ kCount kind ⌝ }
-{
-    if is_two_nodes(kind) { 2 } else { 5 }
-}
-
-// How many h_pli.
-pub fn h_count(kind: Kind) -> usize
-    ensures { λ r. ⌜ r ≡ hCount kind ⌝ }
-{
-    if is_two_nodes(kind) { 1 } else { 4 }
-}
-
-pub fn max_treatments(kind: Kind) -> usize
-    ensures { λ r. ⌜ r ≡ maxTreatments kind ⌝ }
-{
-    if is_two_nodes(kind) { 4 } else { 0 }
-}
-
-// Its bytes in a head.
-pub fn element_size(kind: Kind, treatments: usize) -> usize
-    requires { ⌜ treatments < 256 ⌝ }
-    ensures { λ r. ⌜ r ≡ elementSize kind treatments ⌝ }
-{
-    if is_two_nodes(kind) {
-        123 + 8 * treatments
-    } else {
-        171
-    }
-}
-
-// What stands in a place of no element.
-pub fn no_element_hour() -> ElementHour
-    ensures { λ r. ⌜ r ≡ noElementHour ⌝ }
-{
-    ElementHour {
-        temp_ext: 0.0,
-        i_sol_dir: 0.0,
-        i_sol_dif: 0.0,
-        f_sh_dir: 0.0,
-        f_sh_dif: 0.0,
-        treatments_open: 0,
-    }
-}
-
-pub fn no_element() -> Element
-    ensures { λ r. ⌜ r ≡ noElement ⌝ }
-{
-    let kind = Kind::Opaque;
-    let first_hour = no_element_hour();
-    Element {
-        kind: kind,
-        treatments: 0,
-        area: 0.0,
-        pitch: 0.0,
-        h_ce: 0.0,
-        h_re: 0.0,
-        h_ri: 0.0,
-        solar_absorption_coeff: 0.0,
-        therm_rad_to_sky: 0.0,
-        k_pli: [0.0; 5],
-        h_pli: [0.0; 4],
-        delta_r: [0.0; 4],
-        first_hour: first_hour,
-    }
 }

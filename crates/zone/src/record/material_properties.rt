@@ -1,7 +1,7 @@
 // Properties of materials.
 use crate::record::units::LITRES_PER_CUBIC_METRE;
 ghost use mathlib.Core.Path.{_≡_};
-ghost use Rattle.zone.specs.Physics.Ventilation.{densityKgPerM3, air};
+ghost use Rattle.zone.specs.Physics.Ventilation.{densityKgPerM3, airProperties};
 
 pub struct MaterialProperties {
     // kg / litre
@@ -11,7 +11,7 @@ pub struct MaterialProperties {
 }
 
 pub fn air_properties() -> MaterialProperties
-    ensures { λ r. ⌜ r ≡ air ⌝ }
+    ensures { λ r. ⌜ r ≡ airProperties ⌝ }
 {
     MaterialProperties {
         density: 0.001204,

@@ -1,4 +1,4 @@
--- A cut is never refused, keeps the first items, and what it took is held again once it is accepted anew.
+-- An append of a well-formed book is made; a cut of it is never refused, keeps the first items, and what it took is held again once it is accepted anew.
 use mathlib.Core.Path.{_≡_, refl, sym, ap, _∙_, subst}
 use mathlib.Core.Bool.{Bool, true, false}
 use mathlib.Core.List.{List, [], _∷_, _++_, map, append-assoc, append-nil}
@@ -10,24 +10,25 @@ use lib.ListN.{length, take, drop, length-append}
 use lib.Seq.{drop-at, drop-drop}
 use lib.Dec.{leb, ltb}
 use borrow.Author.Tests.{leb-false, le-leb, lt-ltb}
-use Rattle.zone.specs.Promise.{Result, ok, refused, bind-ok, require, ok-inj}
-use Rattle.book.specs.Model.Layers.{Layers, Laws}
-use Rattle.book.specs.Model.Calls.{Values, accepted, refusedWith, takeUp}
-use Rattle.book.specs.Model.Plain.{Plain, empty, book, lastState, entries, contents, view, appendPlain, itemsEndingBy, WellFormed, wellFormed}
+use Rattle.zone.specs.Promise.{Result, ok, refused, require}
+use Rattle.zone.proofs.Promise.{bind-ok, ok-inj}
+use Rattle.book.specs.Numbers.{bufferShort, bookFull}
+use Rattle.book.specs.Model.Interface.{Interface, Written}
+use Rattle.book.proofs.Model.InterfaceLaws.{Laws}
+use Rattle.book.specs.Model.Calls.{Values, Answer, accepted, refusedWith, append, takeUp}
+use Rattle.book.specs.Model.Plain.{Plain, empty, book, lastState, entriesOf, contentsOf, appendPlain, itemsEndingBy, WellFormed}
+use Rattle.book.proofs.Model.Formed.{wellFormed}
 use Rattle.book.specs.Model.PlainTakeUp.{takeUpPlain}
-use Rattle.book.specs.Model.Run.{callAppend, callCut, Calls, run, heldAfter, plainOutcome, plainMake, plainEvent, plainRun, plainAfter}
-use Rattle.book.specs.Model.Claims.{CutIsTakeUp, CutAccepted, CutKeepsFirst, appendsOf, AllAccepted, HeldAgain, Ready, AcceptedAnew}
+use Rattle.book.specs.Model.Run.{callAppend, callCut, plainOutcome, plainMake, plainEvent, plainRun, plainAfter}
+use Rattle.book.specs.Model.Claims.{appendsOf, AllAccepted, Ready, OfBook}
 use Rattle.book.proofs.Model.Laws.Bytes.{some-inj}
-use Rattle.book.proofs.Model.Laws.Entries.{Entries, entries-cons, entries-parts, length-entries}
+use Rattle.book.proofs.Model.Laws.Entries.{Entries, entry, itemsOf, items-are, entries-cons, entries-parts, length-entries}
 use Rattle.book.proofs.Model.Laws.Decode.{none-ending}
 use Rattle.book.proofs.Model.Agreement.{contents-is, viewed, view-is, takeUp-agrees}
-use Rattle.book.proofs.Model.AppendCut.{usedOf, own, plain-append, more, kept-items, cut-is, cut-take-up}
-use Rattle.book.proofs.Model.Whole.{agrees, run-agrees, held-is}
+use Rattle.book.proofs.Model.AppendCut.{usedOf, own, call-append, plain-append, more, kept-items, cut-is, cut-take-up}
+use Rattle.book.proofs.Model.Whole.{agrees}
 
-module _ (L : Layers) (W : Laws L) where
-  pub cut-is-take-up : CutIsTakeUp L
-  cut-is-take-up = cut-take-up L W
-
+module _ (L : Interface) (W : Laws L) where
   -- a take-up's answer is the plain book's
   pub take-up-answer : (g : Values (L .State)) (bytes : List ℕ) → some (takeUp L g bytes) ≡ plainOutcome L g none empty (takeUpPlain L bytes) .answer
   unfolding plainEvent
@@ -40,27 +41,29 @@ module _ (L : Layers) (W : Laws L) where
       → (S : WellFormed L head is) → takeUp L g bytes ≡ accepted (viewed L head is S .values)
   take-up-ok g bytes head is e S = let v = view-is L head is S in some-inj (take-up-answer g bytes ∙ rw (e, v) refl)
 
-  pub cut-accepted : CutAccepted L
+  cut-accepted : (head : List ℕ) (is : List (L .Item)) (S : WellFormed L head is) (at : ℕ) → length head ≤ at → (g : Values (L .State))
+      → (v : Values (L .State)) × (takeUp L g (take at (usedOf L W head is S)) ≡ accepted v)
   cut-accepted head is S at lo g =
       let T : List ℕ = take at (usedOf L W head is S) in
       let p : takeUpPlain L T ≡ ok (book head (kept-items L W head is S at)) = sym (cut-take-up L W head is S at lo) ∙ cut-is L W head is S at in
       let S′ : WellFormed L head (kept-items L W head is S at) = take-up-formed T _ p g in
       (viewed L head (kept-items L W head is S at) S′ .values, take-up-ok g T head (kept-items L W head is S at) p S′)
 
-  keeps-first : (at b : ℕ) (is : List (L .Item)) (es : Entries L) → (lost : List (L .Item)) × (itemsEndingBy L at b is es ++ lost ≡ is)
+  keeps-first : (at b : ℕ) (es : Entries L) → (lost : List (L .Item)) × (itemsEndingBy L at b es ++ lost ≡ itemsOf es)
   unfolding itemsEndingBy
-  keeps-first at b [] es = ([], refl)
-  keeps-first at b (i ∷ is) [] = (i ∷ is, refl)
-  keeps-first at b (i ∷ is) (e ∷ es) = go (leb (b + length (e .0)) at) refl (keeps-first at (b + length (e .0)) is es)
+  keeps-first at b [] = ([], refl)
+  keeps-first at b (e ∷ es) = go (leb (b + length (e .bytes)) at) refl (keeps-first at (b + length (e .bytes)) es)
     where
-      go : (t : Bool) → leb (b + length (e .0)) at ≡ t
-          → (lost : List (L .Item)) × (itemsEndingBy L at (b + length (e .0)) is es ++ lost ≡ is)
-          → (lost : List (L .Item)) × (itemsEndingBy L at b (i ∷ is) (e ∷ es) ++ lost ≡ i ∷ is)
-      go true t r = (r .0, rw t (ap (λ x. i ∷ x) (r .1)))
-      go false t r = (i ∷ is, rw (t, none-ending L at (b + length (e .0)) is es (leb-false (b + length (e .0)) at t)))
+      go : (t : Bool) → leb (b + length (e .bytes)) at ≡ t
+          → (lost : List (L .Item)) × (itemsEndingBy L at (b + length (e .bytes)) es ++ lost ≡ itemsOf es)
+          → (lost : List (L .Item)) × (itemsEndingBy L at b (e ∷ es) ++ lost ≡ itemsOf (e ∷ es))
+      go true t r = (r .0, rw t (ap (λ x. e .item ∷ x) (r .1)))
+      go false t r = (itemsOf (e ∷ es), rw (t, none-ending L at (b + length (e .bytes)) es (leb-false (b + length (e .bytes)) at t)))
 
-  pub cut-keeps-first : CutKeepsFirst L
-  cut-keeps-first head is S at lo = keeps-first at (length head) is (S .contents .entries)
+  cut-keeps-first : (head : List ℕ) (is : List (L .Item)) (S : WellFormed L head is) (at : ℕ) → (lost : List (L .Item)) × (kept-items L W head is S at ++ lost ≡ is)
+  cut-keeps-first head is S at =
+      let r = keeps-first at (length head) (S .contents .entries) in
+      (r .0, r .1 ∙ items-are L (S .contents .zone) 0 (S .contents .start) is (S .contents .entries) (S .entries-are))
 
   -- ---- what a cut took, accepted anew
 
@@ -74,10 +77,10 @@ module _ (L : Layers) (W : Laws L) where
       → appendPlain L head is i spare ≡ ok q → q ≡ book head (is ++ (i ∷ []))
   unfolding appendPlain
   accepted-adds head is i spare q h =
-      let a = bind-ok (contents L head is) _ q h in
-      let b = bind-ok (require (ltb (length (a .0 .entries)) (L .limit)) 17) _ q (a .2) in
+      let a = bind-ok (contentsOf L head is) _ q h in
+      let b = bind-ok (require (ltb (length (a .0 .entries)) (L .limit)) bookFull) _ q (a .2) in
       let c = bind-ok (L .appendStep (a .0 .zone) (length (a .0 .entries)) (lastState (a .0 .start) (a .0 .entries)) i) _ q (b .2) in
-      let d = bind-ok (require (leb (length (c .0 .0)) (length spare)) 16) _ q (c .2) in
+      let d = bind-ok (require (leb (length (c .0 .bytes)) (length spare)) bufferShort) _ q (c .2) in
       sym (ok-inj (d .2))
 
   adds : (head : List ℕ) (is : List (L .Item)) (S : WellFormed L head is) (i : L .Item) (spare : List ℕ) (v : Values (L .State))
@@ -102,38 +105,30 @@ module _ (L : Layers) (W : Laws L) where
       ∙ adds-all head (is ++ (p .0 ∷ [])) S′ ps (subst (λ x. AllAccepted L (plainRun L x (appendsOf L ps))) n (a .1))
       ∙ ap (book head) (append-assoc is (p .0 ∷ []) (map (λ x. x .0) ps))
 
-  -- the run after the cut, by the plain book
-  after-cut : (head : List ℕ) (is : List (L .Item)) (S : WellFormed L head is) (at : ℕ) → length head ≤ at → at ≤ length (usedOf L W head is S) → (cs : Calls L)
-      → run L (heldAfter L (view L (book head is)) (callCut at ∷ [])) cs ≡ plainRun L (book head (kept-items L W head is S at)) cs
-  unfolding plainAfter
-  after-cut head is S at lo hi cs =
-      let a = agrees L W (book head is) S (callCut at) in
-      ap (λ x. run L x cs) (held-is L W (book head is) S (callCut at ∷ []))
-      ∙ run-agrees L W (plainMake L (book head is) (callCut at) .next) (a .1) cs
-      ∙ ap (λ x. plainRun L x cs) (cut-next head is S at lo hi)
-
   formed-after : (head : List ℕ) (is : List (L .Item)) (S : WellFormed L head is) (at : ℕ) → length head ≤ at → at ≤ length (usedOf L W head is S)
       → WellFormed L head (kept-items L W head is S at)
   formed-after head is S at lo hi = subst (wellFormed L) (cut-next head is S at lo hi) (agrees L W (book head is) S (callCut at) .1)
 
-  pub held-again : HeldAgain L
+  held-again : (head : List ℕ) (is : List (L .Item)) (S : WellFormed L head is) (at : ℕ) → length head ≤ at → at ≤ length (usedOf L W head is S)
+      → (ps : List (L .Item × List ℕ)) → kept-items L W head is S at ++ map (λ p. p .0) ps ≡ is
+      → AllAccepted L (plainRun L (book head (kept-items L W head is S at)) (appendsOf L ps))
+      → plainAfter L (book head is) (callCut at ∷ appendsOf L ps) ≡ book head is
   unfolding plainAfter
   held-again head is S at lo hi ps e a =
-      let b = subst (AllAccepted L) (after-cut head is S at lo hi (appendsOf L ps)) a in
-      held-is L W (book head is) S (callCut at ∷ appendsOf L ps)
-      ∙ ap (λ x. view L (plainAfter L x (appendsOf L ps))) (cut-next head is S at lo hi)
-      ∙ ap (view L) (adds-all head (kept-items L W head is S at) (formed-after head is S at lo hi) ps b ∙ ap (book head) e)
+      ap (λ x. plainAfter L x (appendsOf L ps)) (cut-next head is S at lo hi)
+      ∙ adds-all head (kept-items L W head is S at) (formed-after head is S at lo hi) ps a
+      ∙ ap (book head) e
 
   -- Items that a book of entries `all` has behind the items `is`: the first of them, with its entry
   record NextEntry (head : List ℕ) (is : List (L .Item)) (S : WellFormed L head is) (i : L .Item) (all : Entries L) : Type 0 where
-    e : List ℕ × L .State
+    e : Written (L .State)
     others : Entries L
     stepped : L .step (S .contents .zone) (length (S .contents .entries)) (lastState (S .contents .start) (S .contents .entries)) i ≡ ok e
-    behind : drop (length is) all ≡ e ∷ others
+    behind : drop (length is) all ≡ entry L i e ∷ others
     room : length (S .contents .entries) < L .limit
 
   next-entry : (head : List ℕ) (is : List (L .Item)) (S : WellFormed L head is) (i : L .Item) (lost : List (L .Item)) (all : Entries L)
-      → entries L (S .contents .zone) 0 (S .contents .start) (is ++ (i ∷ lost)) ≡ ok all → length (is ++ (i ∷ lost)) ≤ L .limit → NextEntry head is S i all
+      → entriesOf L (S .contents .zone) 0 (S .contents .start) (is ++ (i ∷ lost)) ≡ ok all → length (is ++ (i ∷ lost)) ≤ L .limit → NextEntry head is S i all
   next-entry head is S i lost all entries-are within-limit =
       let P = entries-parts L (S .contents .zone) 0 (S .contents .start) is (i ∷ lost) all entries-are in
       let C = entries-cons L (S .contents .zone) (0 + length is) (lastState (S .contents .start) (P .front)) i lost (P .back) (P .second) in
@@ -149,7 +144,7 @@ module _ (L : Layers) (W : Laws L) where
       }
 
   all-accepted : (head : List ℕ) (is : List (L .Item)) (S : WellFormed L head is) (ps : List (L .Item × List ℕ)) (all : Entries L)
-      → entries L (S .contents .zone) 0 (S .contents .start) (is ++ map (λ p. p .0) ps) ≡ ok all → length (is ++ map (λ p. p .0) ps) ≤ L .limit
+      → entriesOf L (S .contents .zone) 0 (S .contents .start) (is ++ map (λ p. p .0) ps) ≡ ok all → length (is ++ map (λ p. p .0) ps) ≤ L .limit
       → Ready L (drop (length is) all) ps → AllAccepted L (plainRun L (book head is) (appendsOf L ps))
   unfolding plainRun plainEvent appendPlain more
   all-accepted head is S [] all entries-are within-limit r = tt
@@ -157,32 +152,53 @@ module _ (L : Layers) (W : Laws L) where
       let lost : List (L .Item) = map (λ x. x .0) ps in
       let is′ : List (L .Item) = is ++ (p .0 ∷ []) in
       let N = next-entry head is S (p .0) lost all entries-are within-limit in
-      let q : Ready L (N .e ∷ N .others) (p ∷ ps) = subst (λ x. Ready L x (p ∷ ps)) (N .behind) r in
+      let q : Ready L (entry L (p .0) (N .e) ∷ N .others) (p ∷ ps) = subst (λ x. Ready L x (p ∷ ps)) (N .behind) r in
       let S′ : WellFormed L head is′ = more L W head is S (p .0) (N .e) (N .stepped) (N .room) in
       let added : appendPlain L head is (p .0) (p .1) ≡ ok (book head is′) =
       rw (
         contents-is L head is S,
         lt-ltb (length (S .contents .entries)) (L .limit) (N .room),
         q .1 _ _ _ _ (N .stepped),
-        le-leb (length (N .e .0)) (length (p .1)) (q .0),
+        le-leb (length (N .e .bytes)) (length (p .1)) (q .0),
       ) in
       let assoc : is′ ++ lost ≡ is ++ (p .0 ∷ lost) = append-assoc is (p .0 ∷ []) lost in
       let b : drop (length is′) all ≡ N .others =
       ap (λ x. drop x all) (length-append is (p .0 ∷ [])) ∙ sym (drop-drop 1 (length is) all) ∙ ap (drop 1) (N .behind) in
-      let rest = all-accepted head is′ S′ ps all (ap (entries L (S .contents .zone) 0 (S .contents .start)) assoc ∙ entries-are) (rw assoc within-limit) (subst (λ x. Ready L x ps) (sym b) (q .2)) in
+      let rest = all-accepted head is′ S′ ps all (ap (entriesOf L (S .contents .zone) 0 (S .contents .start)) assoc ∙ entries-are) (rw assoc within-limit) (subst (λ x. Ready L x ps) (sym b) (q .2)) in
       let v = view-is L head is′ S′ in
       rw (plain-append L W head is S (p .0) (p .1), added, v) ((viewed L head is′ S′ .values, refl), rest)
 
-  pub accepted-anew : AcceptedAnew L
+  accepted-anew : (head : List ℕ) (is : List (L .Item)) (S : WellFormed L head is) (at : ℕ) → length head ≤ at → at ≤ length (usedOf L W head is S)
+      → (ps : List (L .Item × List ℕ)) → kept-items L W head is S at ++ map (λ p. p .0) ps ≡ is
+      → Ready L (drop (length (kept-items L W head is S at)) (S .contents .entries)) ps
+      → AllAccepted L (plainRun L (book head (kept-items L W head is S at)) (appendsOf L ps))
   accepted-anew head is S at lo hi ps e r =
       let xs : List (L .Item) = kept-items L W head is S at in
       let S′ = formed-after head is S at lo hi in
-      subst (AllAccepted L) (sym (after-cut head is S at lo hi (appendsOf L ps)))
-      (all-accepted head xs S′ ps (S .contents .entries) (same-start head is S xs S′ e) (rw e (S .within-limit)) r)
+      all-accepted head xs S′ ps (S .contents .entries) (same-start head is S xs S′ e) (rw e (S .within-limit)) r
     where
       same-start : (head : List ℕ) (is : List (L .Item)) (S : WellFormed L head is) (xs : List (L .Item)) (S′ : WellFormed L head xs) {ys : List (L .Item)} → ys ≡ is
-          → entries L (S′ .contents .zone) 0 (S′ .contents .start) ys ≡ ok (S .contents .entries)
+          → entriesOf L (S′ .contents .zone) 0 (S′ .contents .start) ys ≡ ok (S .contents .entries)
       same-start head is S xs S′ e =
-          let zs : S .contents .zone ≡ S′ .contents .zone = ap (λ x. x .0) (ok-inj (sym (S .head-is) ∙ S′ .head-is)) in
+          let zs : S .contents .zone ≡ S′ .contents .zone = ap (λ x. x .zone) (ok-inj (sym (S .head-is) ∙ S′ .head-is)) in
           let ss : S .contents .start ≡ S′ .contents .start = ok-inj (sym (S .start-is) ∙ ap (L .startUp) zs ∙ S′ .start-is) in
-          (λ t. entries L (sym zs t) 0 (sym ss t) (e t)) ∙ S .entries-are
+          (λ t. entriesOf L (sym zs t) 0 (sym ss t) (e t)) ∙ S .entries-are
+
+  append-made : (head : List ℕ) (is : List (L .Item)) (S : WellFormed L head is) (i : L .Item) (spare : List ℕ)
+      → (a : Answer (L .State)) × (plainMake L (book head is) (callAppend i spare) .answer ≡ some a)
+  unfolding plainEvent
+  append-made head is S i spare =
+      let called = append L (S .contents .zone) (own L W head is S) i (usedOf L W head is S ++ spare) in
+      (called .answer, ap (λ x. x .answer) (sym (agrees L W (book head is) S (callAppend i spare) .0) ∙ call-append L W head is S i spare))
+
+  pub of-book : (head : List ℕ) (is : List (L .Item)) (S : WellFormed L head is) → OfBook L head is S
+  of-book head is S =
+      record {
+        append-made = append-made head is S;
+        append-holds = adds head is S;
+        cut-is-take-up = cut-take-up L W head is S;
+        cut-accepted = cut-accepted head is S;
+        cut-keeps-first = λ at lo. cut-keeps-first head is S at;
+        held-again = held-again head is S;
+        accepted-anew = accepted-anew head is S;
+      }

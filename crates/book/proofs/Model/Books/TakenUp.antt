@@ -9,14 +9,18 @@ use native.Mathlib.Omega.{arith}
 use lib.ListN.{take, drop}
 use lib.Dec.{eqb, leb, ltb}
 use borrow.Author.Tests.{eqb-true, eqb-false, eq-eqb, ne-eqb, leb-true, leb-false, ltb-true, ltb-false}
-use Rattle.zone.specs.Promise.{Result, ok, refused, bind-is}
+use Rattle.zone.specs.Promise.{Result, ok, refused}
+use Rattle.zone.proofs.Promise.{bind-is}
+use Rattle.zone.specs.Format.Head.{ReadHead}
+use Rattle.book.specs.Numbers.{bookFull, falseEntry}
 use Rattle.book.specs.Model.Bytes.{firstBelow}
-use Rattle.book.specs.Model.Layers.{Layers, Laws}
+use Rattle.book.specs.Model.Interface.{Interface}
+use Rattle.book.proofs.Model.InterfaceLaws.{Laws}
 use Rattle.book.specs.Model.Calls.{Values, accepted, refusedWith, takeUp}
 use Rattle.book.specs.Model.Plain.{Plain, empty, book, view, WellFormed}
-use Rattle.book.specs.Model.PlainTakeUp.{numberOfEntries, itemsIn, falseAt, firstBad, refusalAt, testEntries, takeUpPlain}
+use Rattle.book.specs.Model.PlainTakeUp.{numberOfEntries, itemsIn, falseAt, firstInvalid, refusalAt, testEntries, takeUpPlain}
 use Rattle.book.specs.Model.Run.{plainEvent}
-use Rattle.book.specs.Model.Claims.{TakenUp, TakeUpAccepts, TakeUpGives, NotTakenUp, badHead, badStartUp, tooMany, falseEntry, TakeUpRefuses}
+use Rattle.book.specs.Model.Claims.{TakenUp, TakeUpAccepts, TakeUpGives, NotTakenUp, badHead, badStartUp, tooMany, oneFalse, TakeUpRefuses}
 use Rattle.book.proofs.Model.Laws.Bytes.{some-inj, true-not-false, or-false, first-is, First, first-of}
 use Rattle.book.proofs.Model.Agreement.{viewed, takeUp-agrees}
 use Rattle.book.proofs.Model.Books.Cuts.{take-up-answer, take-up-formed, take-up-ok}
@@ -33,7 +37,7 @@ apart-lt a b le n = go (ltb a b) refl
 
 -- ---- the plain book's test of whole entries
 
-module _ (L : Layers) (z : L .Zone) (s : L .State) (bs : List ℕ) where
+module _ (L : Interface) (z : L .Zone) (s : L .State) (bs : List ℕ) where
   abbrev N : ℕ
   N = numberOfEntries L z bs
 
@@ -44,21 +48,21 @@ module _ (L : Layers) (z : L .Zone) (s : L .State) (bs : List ℕ) where
   bad-false k lt f = rw (ne-eqb k (L .limit) (λ e. omega arith), f)
 
   pub all-true : N ≤ L .limit → ((k : ℕ) → k < N → falseAt L z s bs k ≡ false) → testEntries L z s bs ≡ ok tt
-  unfolding testEntries firstBad
+  unfolding testEntries firstInvalid
   all-true within-limit t =
       let f : firstBelow N bad ≡ N = first-is N N bad (omega arith) (λ k lt. bad-false k (omega arith) (t k lt)) (λ lt. absurd (omega arith)) in
       rw (f, eq-eqb N N refl)
 
-  pub one-too-many : L .limit < N → ((k : ℕ) → k < L .limit → falseAt L z s bs k ≡ false) → testEntries L z s bs ≡ refused 17 0
-  unfolding testEntries firstBad
+  pub one-too-many : L .limit < N → ((k : ℕ) → k < L .limit → falseAt L z s bs k ≡ false) → testEntries L z s bs ≡ refused bookFull 0
+  unfolding testEntries firstInvalid
   one-too-many lt t =
       let f : firstBelow N bad ≡ L .limit =
       first-is N (L .limit) bad (omega arith) (λ k l. bad-false k l (t k l)) (λ l. rw (eq-eqb (L .limit) (L .limit) refl)) in
       rw (f, ne-eqb (L .limit) N (λ e. omega arith), eq-eqb (L .limit) (L .limit) refl)
 
   pub false-one : (k : ℕ) → k < N → k < L .limit → ((j : ℕ) → j < k → falseAt L z s bs j ≡ false) → falseAt L z s bs k ≡ true
-      → testEntries L z s bs ≡ refused 18 k
-  unfolding testEntries firstBad
+      → testEntries L z s bs ≡ refused falseEntry k
+  unfolding testEntries firstInvalid
   false-one k lt room t f =
       let n : eqb k (L .limit) ≡ false = ne-eqb k (L .limit) (λ e. omega arith) in
       let b : firstBelow N bad ≡ k = first-is N k bad (omega arith) (λ j l. bad-false j (omega arith) (t j l)) (λ l. rw (n, f)) in
@@ -67,11 +71,11 @@ module _ (L : Layers) (z : L .Zone) (s : L .State) (bs : List ℕ) where
   -- and back
   data Tested : Result (Unit {0}) → Type 0 where
     allTrue : N ≤ L .limit → ((k : ℕ) → k < N → falseAt L z s bs k ≡ false) → Tested (ok tt)
-    oneTooMany : L .limit < N → ((k : ℕ) → k < L .limit → falseAt L z s bs k ≡ false) → Tested (refused 17 0)
-    falseOne : (k : ℕ) → k < N → k < L .limit → ((j : ℕ) → j < k → falseAt L z s bs j ≡ false) → falseAt L z s bs k ≡ true → Tested (refused 18 k)
+    oneTooMany : L .limit < N → ((k : ℕ) → k < L .limit → falseAt L z s bs k ≡ false) → Tested (refused bookFull 0)
+    falseOne : (k : ℕ) → k < N → k < L .limit → ((j : ℕ) → j < k → falseAt L z s bs j ≡ false) → falseAt L z s bs k ≡ true → Tested (refused falseEntry k)
 
   tested : Tested (testEntries L z s bs)
-  unfolding testEntries firstBad
+  unfolding testEntries firstInvalid
   tested = go (first-of N 0 bad)
     where
       ahead : (F : First N 0 bad) (k : ℕ) → k < F .m → (eqb k (L .limit) ≡ false) × (falseAt L z s bs k ≡ false)
@@ -91,7 +95,7 @@ module _ (L : Layers) (z : L .Zone) (s : L .State) (bs : List ℕ) where
           found : firstBelow N bad ≡ F .m
           found = F .found ∙ zero-add (F .m)
 
-          at : (b : Bool) → eqb (F .m) N ≡ b → (d : Bool) → eqb (F .m) (L .limit) ≡ d → Tested (cond (eqb (F .m) N) (ok tt) (cond (eqb (F .m) (L .limit)) (refused 17 0) (refused 18 (F .m))))
+          at : (b : Bool) → eqb (F .m) N ≡ b → (d : Bool) → eqb (F .m) (L .limit) ≡ d → Tested (cond (eqb (F .m) N) (ok tt) (cond (eqb (F .m) (L .limit)) (refused bookFull 0) (refused falseEntry (F .m))))
           at true e d q =
               let m : F .m ≡ N = eqb-true (F .m) N e in
               rw e (allTrue (omega (arith, room F)) (λ k lt. ahead F k (omega arith) .1))
@@ -106,8 +110,8 @@ module _ (L : Layers) (z : L .Zone) (s : L .State) (bs : List ℕ) where
 
 -- ---- the plain book's take-up
 
-module _ (L : Layers) (W : Laws L) where
-  module _ (bytes : List ℕ) (z : L .Zone) (n : ℕ) (s : L .State) (head-is : L .headOf bytes ≡ ok (z, n)) (start-is : L .startUp z ≡ ok s) where
+module _ (L : Interface) (W : Laws L) where
+  module _ (bytes : List ℕ) (z : L .Zone) (n : ℕ) (s : L .State) (head-is : L .headOf bytes ≡ ok (record { zone = z; length = n })) (start-is : L .startUp z ≡ ok s) where
     plain-ok : testEntries L z s (drop n bytes) ≡ ok tt → takeUpPlain L bytes ≡ ok (book (take n bytes) (itemsIn L z (drop n bytes)))
     unfolding takeUpPlain
     plain-ok t = bind-is _ _ _ _ head-is (bind-is _ _ _ _ start-is (bind-is _ _ _ _ t refl))
@@ -118,7 +122,7 @@ module _ (L : Layers) (W : Laws L) where
 
   -- the three ways of a plain take-up
   data Ways (bytes : List ℕ) : Result (Plain (L .Item)) → Type 0 where
-    taken : (z : L .Zone) (n : ℕ) (s : L .State) → L .headOf bytes ≡ ok (z, n) → L .startUp z ≡ ok s
+    taken : (z : L .Zone) (n : ℕ) (s : L .State) → L .headOf bytes ≡ ok (record { zone = z; length = n }) → L .startUp z ≡ ok s
         → numberOfEntries L z (drop n bytes) ≤ L .limit
         → ((k : ℕ) → k < numberOfEntries L z (drop n bytes) → falseAt L z s (drop n bytes) k ≡ false)
         → Ways bytes (ok (book (take n bytes) (itemsIn L z (drop n bytes))))
@@ -128,26 +132,26 @@ module _ (L : Layers) (W : Laws L) where
   unfolding takeUpPlain
   ways bytes = go (L .headOf bytes) refl
     where
-      go₃ : (z : L .Zone) (n : ℕ) (s : L .State) → L .headOf bytes ≡ ok (z, n) → L .startUp z ≡ ok s
+      go₃ : (z : L .Zone) (n : ℕ) (s : L .State) → L .headOf bytes ≡ ok (record { zone = z; length = n }) → L .startUp z ≡ ok s
           → (t : Result (Unit {0})) → Tested L z s (drop n bytes) t → testEntries L z s (drop n bytes) ≡ t → Ways bytes (takeUpPlain L bytes)
       go₃ z n s e f t (allTrue within-limit a) q = rw (e, f, q) (taken z n s e f within-limit a)
-      go₃ z n s e f t (oneTooMany lt a) q = rw (e, f, q) (notTaken 17 0 (tooMany z n s e f lt a))
-      go₃ z n s e f t (falseOne k lt room a b) q = rw (e, f, q) (notTaken 18 k (falseEntry z n s k e f lt room a b))
+      go₃ z n s e f t (oneTooMany lt a) q = rw (e, f, q) (notTaken bookFull 0 (tooMany z n s e f lt a))
+      go₃ z n s e f t (falseOne k lt room a b) q = rw (e, f, q) (notTaken falseEntry k (oneFalse z n s k e f lt room a b))
 
-      go₂ : (z : L .Zone) (n : ℕ) → L .headOf bytes ≡ ok (z, n) → (x : Result (L .State)) → L .startUp z ≡ x → Ways bytes (takeUpPlain L bytes)
+      go₂ : (z : L .Zone) (n : ℕ) → L .headOf bytes ≡ ok (record { zone = z; length = n }) → (x : Result (L .State)) → L .startUp z ≡ x → Ways bytes (takeUpPlain L bytes)
       go₂ z n e (refused c j) f = rw (e, f) (notTaken c j (badStartUp z n c j e f))
       go₂ z n e (ok s) f = go₃ z n s e f (testEntries L z s (drop n bytes)) (tested L z s (drop n bytes)) refl
 
-      go : (x : Result (L .Zone × ℕ)) → L .headOf bytes ≡ x → Ways bytes (takeUpPlain L bytes)
+      go : (x : Result (ReadHead (L .Zone))) → L .headOf bytes ≡ x → Ways bytes (takeUpPlain L bytes)
       go (refused c j) e = rw e (notTaken c j (badHead c j e))
-      go (ok h) e = go₂ (h .0) (h .1) e (L .startUp (h .0)) refl
+      go (ok h) e = go₂ (h .zone) (h .length) e (L .startUp (h .zone)) refl
 
   not-taken-up : (bytes : List ℕ) (c j : ℕ) → NotTakenUp L bytes c j → takeUpPlain L bytes ≡ refused c j
   unfolding takeUpPlain
   not-taken-up bytes c j (badHead n i e) = rw e
   not-taken-up bytes c j (badStartUp z n c′ j′ e f) = rw (e, f)
-  not-taken-up bytes c j (tooMany z n s e f lt a) = plain-refused bytes z n s e f 17 0 (one-too-many L z s (drop n bytes) lt a)
-  not-taken-up bytes c j (falseEntry z n s k e f lt room a b) = plain-refused bytes z n s e f 18 k (false-one L z s (drop n bytes) k lt room a b)
+  not-taken-up bytes c j (tooMany z n s e f lt a) = plain-refused bytes z n s e f bookFull 0 (one-too-many L z s (drop n bytes) lt a)
+  not-taken-up bytes c j (oneFalse z n s k e f lt room a b) = plain-refused bytes z n s e f falseEntry k (false-one L z s (drop n bytes) k lt room a b)
 
   -- ---- the take-up that the contract cites
 

@@ -11,18 +11,21 @@ use lib.ListN.{length, take, drop, getD, length-map}
 use lib.Seq.{take-suc, drop-cons, split-at, drop-nil, drop-length, take-length, take-take, getD-take, getD-at, length-take-le}
 use lib.Dec.{eqb}
 use borrow.Author.Tests.{eq-eqb, ne-eqb}
-use Rattle.zone.specs.Promise.{Result, ok, refused, bind-is}
+use Rattle.zone.specs.Promise.{Result, ok, refused}
+use Rattle.zone.proofs.Promise.{bind-is}
+use Rattle.book.specs.Numbers.{bookFull, falseEntry}
 use Rattle.book.specs.Model.Bytes.{equalBytes, firstBelow}
-use Rattle.book.specs.Model.Layers.{Layers, Laws}
+use Rattle.book.specs.Model.Interface.{Interface, Written}
+use Rattle.book.proofs.Model.InterfaceLaws.{Laws}
 use Rattle.book.specs.Model.Calls.{wholeEntriesUpTo, wholeEntries}
-use Rattle.book.specs.Model.Plain.{entries, lastState}
-use Rattle.book.specs.Model.PlainTakeUp.{firstEntryLength, restAt, entryAt, numberOfEntries, itemsBefore, itemsIn, stepAt, givesOther, falseAt, firstBad, refusalAt, testEntries}
+use Rattle.book.specs.Model.Plain.{entriesOf, lastState}
+use Rattle.book.specs.Model.PlainTakeUp.{firstEntryLength, restAt, entryAt, numberOfEntries, itemsBefore, itemsIn, stepAt, givesOther, falseAt, firstInvalid, refusalAt, testEntries}
 use Rattle.book.proofs.Model.Laws.Bytes.{equal-self, equal-true, first-is}
 use Rattle.book.proofs.Model.Laws.Entries.{Entries, bytesOf, length-bytesOf, entries-cons, entries-parts, length-entries, bytesOf-append}
 use Rattle.book.proofs.Model.Laws.Checking.{Bad}
 use Rattle.book.proofs.Model.Laws.Decode.{whole-none, whole-some}
 
-module _ (L : Layers) (W : Laws L) (z : L .Zone) where
+module _ (L : Interface) (W : Laws L) (z : L .Zone) where
   abbrev cs : List ℕ → List (List ℕ)
   cs bs = wholeEntries L z bs
 
@@ -94,10 +97,10 @@ module _ (L : Layers) (W : Laws L) (z : L .Zone) where
 
   module _ (s : L .State) (bs : List ℕ) where
     -- the first m whole entries are those that the plain book has for their items
-    module _ (m : ℕ) (le : m ≤ length (cs bs)) (es : Entries L) (entries-are : entries L z 0 s (map (L .itemOf z) (take m (cs bs))) ≡ ok es) where
+    module _ (m : ℕ) (le : m ≤ length (cs bs)) (es : Entries L) (entries-are : entriesOf L z 0 s (map (L .itemOf z) (take m (cs bs))) ≡ ok es) where
       step-at : m < length (cs bs) → stepAt L z s bs m ≡ L .step z m (lastState s es) (L .itemOf z (getD (cs bs) m []))
       unfolding stepAt
-      step-at lt = bind-is _ _ _ _ (ap (entries L z 0 s) (items-before bs m le) ∙ entries-are) (ap (λ x. L .step z m (lastState s es) (L .itemOf z x)) (entry-at bs m lt))
+      step-at lt = bind-is _ _ _ _ (ap (entriesOf L z 0 s) (items-before bs m le) ∙ entries-are) (ap (λ x. L .step z m (lastState s es) (L .itemOf z x)) (entry-at bs m lt))
 
       module _ (same : bytesOf es ≡ take m (cs bs)) where
         true-at : (j : ℕ) → j < m → falseAt L z s bs j ≡ false
@@ -110,13 +113,13 @@ module _ (L : Layers) (W : Laws L) (z : L .Zone) where
             let is : List (L .Item) = map (L .itemOf z) (take j F) in
             let ap′ : map (L .itemOf z) F ≡ is ++ (L .itemOf z c ∷ map (L .itemOf z) (drop (suc j) F)) =
             ap (map (L .itemOf z)) sp ∙ map-append (L .itemOf z) (take j F) (c ∷ drop (suc j) F) in
-            let P = entries-parts L z 0 s is (L .itemOf z c ∷ map (L .itemOf z) (drop (suc j) F)) es (sym (ap (entries L z 0 s) ap′) ∙ entries-are) in
+            let P = entries-parts L z 0 s is (L .itemOf z c ∷ map (L .itemOf z) (drop (suc j) F)) es (sym (ap (entriesOf L z 0 s) ap′) ∙ entries-are) in
             let lj : 0 + length is ≡ j = omega (arith, length-map (take j F) (L .itemOf z), length-take-le j F (omega arith)) in
             let C = entries-cons L z (0 + length is) (lastState s (P .front)) (L .itemOf z c) (map (L .itemOf z) (drop (suc j) F)) (P .back) (P .second) in
             let lf : length (bytesOf (P .front)) ≡ j = length-bytesOf (P .front) ∙ length-entries L z 0 s is (P .front) (P .first) ∙ sym (zero-add (length is)) ∙ lj in
-            let whole : bytesOf (P .front) ++ (C .e .0 ∷ bytesOf (C .others)) ≡ F =
+            let whole : bytesOf (P .front) ++ (C .e .bytes ∷ bytesOf (C .others)) ≡ F =
             ap (λ x. bytesOf (P .front) ++ bytesOf x) (C .joined) ∙ sym (bytesOf-append (P .front) (P .back)) ∙ ap bytesOf (P .joined) ∙ same in
-            let e0 : C .e .0 ≡ c = sym (getD-at (bytesOf (P .front)) (C .e .0) (bytesOf (C .others)) [] j lf) ∙ ap (λ x. getD x j []) whole in
+            let e0 : C .e .bytes ≡ c = sym (getD-at (bytesOf (P .front)) (C .e .bytes) (bytesOf (C .others)) [] j lf) ∙ ap (λ x. getD x j []) whole in
             let cj : entryAt L z bs j ≡ c = entry-at bs j (omega arith) ∙ sym (getD-take m (cs bs) j [] lt) in
             let ib : itemsBefore L z bs j ≡ is = items-before bs j (omega arith) ∙ ap (map (L .itemOf z)) (sym (take-take j m (cs bs) (omega arith))) in
             let st : L .step z j (lastState s (P .front)) (L .itemOf z c) ≡ ok (C .e) =
@@ -124,30 +127,30 @@ module _ (L : Layers) (W : Laws L) (z : L .Zone) where
             rw (ib, P .first, cj, st, e0, equal-self c)
 
     -- an entry is false exactly where the step does not give it
-    other-false : (r : Result (List ℕ × L .State)) (c : List ℕ) → ((t : L .State) → r ≡ ok (c, t) → ⊥) → givesOther L z r c ≡ true
+    other-false : (r : Result (Written (L .State))) (c : List ℕ) → ((t : L .State) → r ≡ ok (record { bytes = c; after = t }) → ⊥) → givesOther L z r c ≡ true
     other-false (refused n j) c h = refl
-    other-false (ok e) c h = go (equalBytes (e .0) c) refl
+    other-false (ok e) c h = go (equalBytes (e .bytes) c) refl
       where
-        go : (b : Bool) → equalBytes (e .0) c ≡ b → not (equalBytes (e .0) c) ≡ true
-        go true q = absurd (h (e .1) (λ i. ok (equal-true (e .0) c q i, e .1)))
+        go : (b : Bool) → equalBytes (e .bytes) c ≡ b → not (equalBytes (e .bytes) c) ≡ true
+        go true q = absurd (h (e .after) (λ i. ok (record { bytes = equal-true (e .bytes) c q i; after = e .after })))
         go false q = rw q
 
     -- ---- what the plain book's take-up says of them
 
-    pub tests-ok : (es : Entries L) → entries L z 0 s (map (L .itemOf z) (cs bs)) ≡ ok es → bytesOf es ≡ cs bs → length (cs bs) ≤ L .limit
+    pub tests-ok : (es : Entries L) → entriesOf L z 0 s (map (L .itemOf z) (cs bs)) ≡ ok es → bytesOf es ≡ cs bs → length (cs bs) ≤ L .limit
         → testEntries L z s bs ≡ ok tt
-    unfolding testEntries firstBad
+    unfolding testEntries firstInvalid
     tests-ok es entries-are same within-limit =
         let n : ℕ = length (cs bs) in
         let all : take n (cs bs) ≡ cs bs = take-length (cs bs) in
-        let entries-are′ : entries L z 0 s (map (L .itemOf z) (take n (cs bs))) ≡ ok es = ap (λ x. entries L z 0 s (map (L .itemOf z) x)) all ∙ entries-are in
+        let entries-are′ : entriesOf L z 0 s (map (L .itemOf z) (take n (cs bs))) ≡ ok es = ap (λ x. entriesOf L z 0 s (map (L .itemOf z) x)) all ∙ entries-are in
         let f : firstBelow n (λ k. eqb k (L .limit) || falseAt L z s bs k) ≡ n =
         first-is n n _ (omega arith)
         (λ j lt. rw (ne-eqb j (L .limit) (λ e. omega arith)) (true-at n (omega arith) es entries-are′ (same ∙ sym all) j lt)) (λ lt. absurd (omega arith)) in
         rw (number-is bs, f, eq-eqb n n refl)
 
     pub tests-bad : (c j : ℕ) → Bad L z 0 s (cs bs) c j → testEntries L z s bs ≡ refused c j
-    unfolding testEntries firstBad falseAt
+    unfolding testEntries firstInvalid falseAt
     tests-bad c j B = go (B .reason)
       where
         n : ℕ
@@ -167,16 +170,16 @@ module _ (L : Layers) (W : Laws L) (z : L .Zone) where
         not-all : eqb (B .m) n ≡ false
         not-all = let b = B .below in ne-eqb (B .m) n (λ e. omega arith)
 
-        false-here : ((t : L .State) → L .step z (0 + B .m) (lastState s (B .es)) (L .itemOf z (getD (cs bs) (B .m) [])) ≡ ok (getD (cs bs) (B .m) [], t) → ⊥)
+        false-here : ((t : L .State) → L .step z (0 + B .m) (lastState s (B .es)) (L .itemOf z (getD (cs bs) (B .m) [])) ≡ ok (record { bytes = getD (cs bs) (B .m) []; after = t }) → ⊥)
             → falseAt L z s bs (B .m) ≡ true
         false-here not-given =
             let b = B .below in
             rw (step-at (B .m) (omega arith) (B .es) (B .entries-are) b, entry-at bs (B .m) b)
-            (other-false _ _ (λ t e. not-given t (subst (λ x. L .step z x (lastState s (B .es)) (L .itemOf z (getD (cs bs) (B .m) [])) ≡ ok (getD (cs bs) (B .m) [], t)) (sym zm) e)))
+            (other-false _ _ (λ t e. not-given t (subst (λ x. L .step z x (lastState s (B .es)) (L .itemOf z (getD (cs bs) (B .m) [])) ≡ ok (record { bytes = getD (cs bs) (B .m) []; after = t })) (sym zm) e)))
 
-        go : ((0 + B .m ≡ L .limit) × (c ≡ 17) × (j ≡ 0))
-            ⊎ ((0 + B .m < L .limit) × (c ≡ 18) × (j ≡ 0 + B .m)
-            × ((t : L .State) → L .step z (0 + B .m) (lastState s (B .es)) (L .itemOf z (getD (cs bs) (B .m) [])) ≡ ok (getD (cs bs) (B .m) [], t) → ⊥))
+        go : ((0 + B .m ≡ L .limit) × (c ≡ bookFull) × (j ≡ 0))
+            ⊎ ((0 + B .m < L .limit) × (c ≡ falseEntry) × (j ≡ 0 + B .m)
+            × ((t : L .State) → L .step z (0 + B .m) (lastState s (B .es)) (L .itemOf z (getD (cs bs) (B .m) [])) ≡ ok (record { bytes = getD (cs bs) (B .m) []; after = t }) → ⊥))
             → cond (eqb (firstBelow (numberOfEntries L z bs) (λ k. eqb k (L .limit) || falseAt L z s bs k)) (numberOfEntries L z bs)) (ok tt)
             (refusalAt L z (firstBelow (numberOfEntries L z bs) (λ k. eqb k (L .limit) || falseAt L z s bs k))) ≡ refused c j
         go (inl w) =

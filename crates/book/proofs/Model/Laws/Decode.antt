@@ -5,26 +5,27 @@ use mathlib.Core.List.{List, [], _∷_, _++_, map, append-assoc}
 use mathlib.Core.Option.{Option, none, some}
 use Prim.Native.Nat.{ℕ, zero, suc, _+_, _-_, _≤_, _<_}
 use native.Mathlib.Omega.{arith}
-use lib.ListN.{length, take, drop, length-append, length-drop, take-append-drop}
+use lib.ListN.{length, take, drop, length-drop, take-append-drop}
 use lib.Seq.{take-append-le, take-append-add, take-at, drop-at, take-nil}
 use lib.Dec.{leb}
 use borrow.Author.Tests.{leb-true, leb-false, le-leb, lt-leb}
-use Rattle.zone.specs.Promise.{ok, bind-is, ok-inj}
+use Rattle.zone.specs.Promise.{ok}
+use Rattle.zone.proofs.Promise.{bind-is, ok-inj}
 use Rattle.book.specs.Model.Bytes.{concat, fromOption}
-use Rattle.book.specs.Model.Layers.{Layers, Laws}
+use Rattle.book.specs.Model.Interface.{Interface, Written}
+use Rattle.book.proofs.Model.InterfaceLaws.{Laws}
 use Rattle.book.specs.Model.Calls.{wholeEntriesUpTo, wholeEntries}
-use Rattle.book.specs.Model.Plain.{entries, entryBytes, itemsEndingBy}
-use Rattle.book.proofs.Model.Laws.Entries.{Entries, bytesOf, entries-cons}
+use Rattle.book.specs.Model.Plain.{entriesOf, entryBytes, itemsEndingBy}
+use Rattle.book.proofs.Model.Laws.Entries.{Entries, entry, bytesOf, entries-cons}
 
-module _ (L : Layers) where
+module _ (L : Interface) where
   -- no entry that begins behind the cut ends by it
-  pub none-ending : (at b : ℕ) (is : List (L .Item)) (es : Entries L) → at < b → itemsEndingBy L at b is es ≡ []
+  pub none-ending : (at b : ℕ) (es : Entries L) → at < b → itemsEndingBy L at b es ≡ []
   unfolding itemsEndingBy
-  none-ending at b [] es h = refl
-  none-ending at b (i ∷ is) [] h = refl
-  none-ending at b (i ∷ is) (e ∷ es) h = rw (lt-leb (b + length (e .0)) at (omega arith)) (none-ending at (b + length (e .0)) is es (omega arith))
+  none-ending at b [] h = refl
+  none-ending at b (e ∷ es) h = rw (lt-leb (b + length (e .bytes)) at (omega arith)) (none-ending at (b + length (e .bytes)) es (omega arith))
 
-module _ (L : Layers) (W : Laws L) (z : L .Zone) where
+module _ (L : Interface) (W : Laws L) (z : L .Zone) where
   upTo-none : (f : ℕ) (bs : List ℕ) → L .entryLength z bs ≡ none → wholeEntriesUpTo L z f bs ≡ []
   unfolding wholeEntriesUpTo
   upTo-none zero bs h = refl
@@ -101,61 +102,58 @@ module _ (L : Layers) (W : Laws L) (z : L .Zone) where
   -- ---- the bytes before a cut
 
   -- Of entries that begin at byte b, cut at byte `at`, are read back just the items that end by it; and these have the first of the entries
-  pub record CutShort (k : ℕ) (s : L .State) (is : List (L .Item)) (at b : ℕ) (es : Entries L) : Type 0 where
+  pub record CutShort (k : ℕ) (s : L .State) (at b : ℕ) (es : Entries L) : Type 0 where
     pub kept : Entries L
     pub read : wholeEntries L z (take (at - b) (entryBytes es)) ≡ bytesOf kept
-    pub entries-are : entries L z k s (itemsEndingBy L at b is es) ≡ ok kept
-    pub items : map (L .itemOf z) (bytesOf kept) ≡ itemsEndingBy L at b is es
+    pub entries-are : entriesOf L z k s (itemsEndingBy L at b es) ≡ ok kept
+    pub items : map (L .itemOf z) (bytesOf kept) ≡ itemsEndingBy L at b es
     pub lost : Entries L
     pub joined : kept ++ lost ≡ es
-    pub within : b + length (entryBytes kept) ≤ at
 
-  module _ (k : ℕ) (s : L .State) (i : L .Item) (is : List (L .Item)) (e : List ℕ × L .State) (stepped : L .step z k s i ≡ ok e) (at b : ℕ) where
+  module _ (k : ℕ) (s : L .State) (i : L .Item) (e : Written (L .State)) (stepped : L .step z k s i ≡ ok e) (at b : ℕ) where
     -- the first entry ends by the cut
-    cut-behind : (es : Entries L) → b + length (e .0) ≤ at → CutShort (k + 1) (e .1) is at (b + length (e .0)) es → CutShort k s (i ∷ is) at b (e ∷ es)
-    unfolding entries itemsEndingBy
+    cut-behind : (es : Entries L) → b + length (e .bytes) ≤ at → CutShort (k + 1) (e .after) at (b + length (e .bytes)) es → CutShort k s at b (entry L i e ∷ es)
+    unfolding entriesOf itemsEndingBy
     cut-behind es le r =
-        let T : List ℕ = take (at - (b + length (e .0))) (entryBytes es) in
-        let n : length (e .0) + (at - (b + length (e .0))) ≡ at - b = omega arith in
-        let tk : take (at - b) (e .0 ++ entryBytes es) ≡ e .0 ++ T =
-        subst (λ x. take x (e .0 ++ entryBytes es) ≡ e .0 ++ T) n (take-append-add (e .0) (entryBytes es) (at - (b + length (e .0)))) in
-        let keep : itemsEndingBy L at b (i ∷ is) (e ∷ es) ≡ i ∷ itemsEndingBy L at (b + length (e .0)) is es = rw (le-leb (b + length (e .0)) at le) in
+        let T : List ℕ = take (at - (b + length (e .bytes))) (entryBytes es) in
+        let n : length (e .bytes) + (at - (b + length (e .bytes))) ≡ at - b = omega arith in
+        let tk : take (at - b) (e .bytes ++ entryBytes es) ≡ e .bytes ++ T =
+        subst (λ x. take x (e .bytes ++ entryBytes es) ≡ e .bytes ++ T) n (take-append-add (e .bytes) (entryBytes es) (at - (b + length (e .bytes)))) in
+        let keep : itemsEndingBy L at b (entry L i e ∷ es) ≡ i ∷ itemsEndingBy L at (b + length (e .bytes)) es = rw (le-leb (b + length (e .bytes)) at le) in
         record {
-          kept = e ∷ r .kept;
+          kept = entry L i e ∷ r .kept;
           read =
               ap (wholeEntries L z) tk
-              ∙ whole-some (e .0 ++ T) (length (e .0)) (W .length-whole z k s i e stepped T)
-              ∙ (λ j. take-at (e .0) T (length (e .0)) refl j ∷ wholeEntries L z (drop-at (e .0) T (length (e .0)) refl j))
-              ∙ ap (λ x. e .0 ∷ x) (r .read);
+              ∙ whole-some (e .bytes ++ T) (length (e .bytes)) (W .length-whole z k s i e stepped T)
+              ∙ (λ j. take-at (e .bytes) T (length (e .bytes)) refl j ∷ wholeEntries L z (drop-at (e .bytes) T (length (e .bytes)) refl j))
+              ∙ ap (λ x. e .bytes ∷ x) (r .read);
           entries-are = rw keep (bind-is _ _ _ _ stepped (bind-is _ _ _ _ (r .entries-are) refl));
           items = rw keep (cc (W .item-back z k s i e stepped, r .items));
           lost = r .lost;
-          joined = ap (λ x. e ∷ x) (r .joined);
-          within = omega (arith, r .within, length-append (e .0) (entryBytes (r .kept)));
+          joined = ap (λ x. entry L i e ∷ x) (r .joined);
         }
 
     -- it does not
-    cut-inside : (es : Entries L) → b ≤ at → at < b + length (e .0) → CutShort k s (i ∷ is) at b (e ∷ es)
-    unfolding entries itemsEndingBy
+    cut-inside : (es : Entries L) → b ≤ at → at < b + length (e .bytes) → CutShort k s at b (entry L i e ∷ es)
+    unfolding entriesOf itemsEndingBy
     cut-inside es lo lt =
-        let gone : itemsEndingBy L at b (i ∷ is) (e ∷ es) ≡ [] =
-        rw (lt-leb (b + length (e .0)) at lt) (none-ending L at (b + length (e .0)) is es lt) in
+        let gone : itemsEndingBy L at b (entry L i e ∷ es) ≡ [] =
+        rw (lt-leb (b + length (e .bytes)) at lt) (none-ending L at (b + length (e .bytes)) es lt) in
         record {
           kept = [];
           read =
-              ap (wholeEntries L z) (take-append-le (at - b) (e .0) (entryBytes es) (omega arith))
-              ∙ whole-none (take (at - b) (e .0)) (W .length-short z k s i e stepped (at - b) (omega arith));
+              ap (wholeEntries L z) (take-append-le (at - b) (e .bytes) (entryBytes es) (omega arith))
+              ∙ whole-none (take (at - b) (e .bytes)) (W .length-short z k s i e stepped (at - b) (omega arith));
           entries-are = rw gone refl;
           items = rw gone refl;
-          lost = e ∷ es;
+          lost = entry L i e ∷ es;
           joined = refl;
-          within = omega arith;
         }
 
-  pub cut-short : (k : ℕ) (s : L .State) (is : List (L .Item)) (at b : ℕ) (es : Entries L) → entries L z k s is ≡ ok es → b ≤ at → CutShort k s is at b es
-  unfolding entries itemsEndingBy
+  pub cut-short : (k : ℕ) (s : L .State) (is : List (L .Item)) (at b : ℕ) (es : Entries L) → entriesOf L z k s is ≡ ok es → b ≤ at → CutShort k s at b es
+  unfolding entriesOf itemsEndingBy
   cut-short k s [] at b es h lo =
-      subst (CutShort k s [] at b) (ok-inj h)
+      subst (CutShort k s at b) (ok-inj h)
       (record {
         kept = [];
         read = ap (wholeEntries L z) (take-nil (at - b)) ∙ whole-none [] length-nil;
@@ -163,15 +161,14 @@ module _ (L : Layers) (W : Laws L) (z : L .Zone) where
         items = refl;
         lost = [];
         joined = refl;
-        within = omega arith;
       })
   cut-short k s (i ∷ is) at b es h lo =
       let c = entries-cons L z k s i is es h in
-      subst (CutShort k s (i ∷ is) at b) (c .joined)
-      (go (c .e) (c .stepped) (c .others) (leb (b + length (c .e .0)) at) refl
-      (λ le. cut-short (k + 1) (c .e .1) is at (b + length (c .e .0)) (c .others) (c .rest) le))
+      subst (CutShort k s at b) (c .joined)
+      (go (c .e) (c .stepped) (c .others) (leb (b + length (c .e .bytes)) at) refl
+      (λ le. cut-short (k + 1) (c .e .after) is at (b + length (c .e .bytes)) (c .others) (c .rest) le))
     where
-      go : (e : List ℕ × L .State) → L .step z k s i ≡ ok e → (es : Entries L) (t : Bool) → leb (b + length (e .0)) at ≡ t
-          → (b + length (e .0) ≤ at → CutShort (k + 1) (e .1) is at (b + length (e .0)) es) → CutShort k s (i ∷ is) at b (e ∷ es)
-      go e st es true t rec = let le = leb-true (b + length (e .0)) at t in cut-behind k s i is e st at b es le (rec le)
-      go e st es false t rec = cut-inside k s i is e st at b es lo (leb-false (b + length (e .0)) at t)
+      go : (e : Written (L .State)) → L .step z k s i ≡ ok e → (es : Entries L) (t : Bool) → leb (b + length (e .bytes)) at ≡ t
+          → (b + length (e .bytes) ≤ at → CutShort (k + 1) (e .after) at (b + length (e .bytes)) es) → CutShort k s at b (entry L i e ∷ es)
+      go e st es true t rec = let le = leb-true (b + length (e .bytes)) at t in cut-behind k s i e st at b es le (rec le)
+      go e st es false t rec = cut-inside k s i e st at b es lo (leb-false (b + length (e .bytes)) at t)

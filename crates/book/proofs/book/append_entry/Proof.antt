@@ -1,4 +1,4 @@
-use Rattle.book.proofs.Laws.Accepted.{tested-few}
+use Rattle.zone.proofs.Promise.{tested-few}
 use Rattle.book.proofs.Calls.{append-cases, append-room, append-sum, step-size}
 use borrow.Author.Needs.{needs}
 use Rattle.book.proofs.book.append_entry.Statement.{statement}

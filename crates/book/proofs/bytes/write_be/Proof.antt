@@ -3,7 +3,7 @@ use mathlib.Core.Path.{_≡_, refl}
 use native.Mathlib.Omega.{arith}
 use lib.ListN.{length, length-set}
 use Rattle.zone.specs.Format.Bytes.{bytesOf}
-use Rattle.book.specs.Bytes.{replaceAt}
+use Rattle.book.specs.Inner.Replace.{replaceAt}
 use Rattle.book.proofs.Laws.Loops.{num-more, num-done}
 use borrow.Author.Needs.{needs}
 use Rattle.book.proofs.bytes.write_be.Statement.{statement}

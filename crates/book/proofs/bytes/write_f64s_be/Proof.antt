@@ -3,7 +3,8 @@ use mathlib.Core.Path.{_≡_, refl, _∙_}
 use native.Mathlib.Omega.{arith}
 use lib.ListN.{length, take, drop}
 use denote.Ref.{now}
-use Rattle.book.specs.Bytes.{replaceAt, floatsBytes}
+use Rattle.zone.specs.Format.Encode.{rowBytes}
+use Rattle.book.specs.Inner.Replace.{replaceAt}
 use Rattle.book.proofs.Laws.Loops.{floats-more, floats-done}
 use borrow.Author.Needs.{needs}
 use Rattle.book.proofs.bytes.write_f64s_be.Statement.{statement}
@@ -14,7 +15,7 @@ Inv-loop b₀ at xs count i₀ p₀ b i p =
     (i ≤ count)
     × (p ≡ at + 8 * i)
     × (length b ≡ length b₀)
-    × (replaceAt p (floatsBytes (drop i (take count xs))) b ≡ replaceAt at (floatsBytes (take count xs)) b₀)
+    × (replaceAt p (rowBytes (drop i (take count xs))) b ≡ replaceAt at (rowBytes (take count xs)) b₀)
 
 abbrev μ-loop : tie.MeasureT-loop
 μ-loop b₀ at xs count i₀ p₀ b i p = count - i

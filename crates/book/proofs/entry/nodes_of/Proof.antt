@@ -1,5 +1,5 @@
 use native.Mathlib.Omega.{arith}
-use Rattle.book.proofs.Laws.Entry.{node-count-few}
+use Rattle.zone.proofs.Promise.{node-count-few}
 use borrow.Author.Needs.{needs}
 use Rattle.book.proofs.entry.nodes_of.Statement.{statement}
 use Rattle.book.proofs.entry.nodes_of.Tie as tie

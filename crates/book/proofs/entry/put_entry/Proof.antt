@@ -11,4 +11,4 @@ put-entry-spec =
     tie.close
     (tie.spec (λ c κs. search needs) (λ c κs. search needs) (λ c. search needs) (λ c κs. search needs)
     (λ c. search needs) (λ c. search needs) (λ c κs. search needs) (λ c. search needs) (λ c. search needs)
-    (λ c κs. search needs) (λ c. search needs) returns)
+    (λ c. search needs) (λ c κs. search needs) (λ c. search needs) returns)

@@ -1,8 +1,8 @@
-use mathlib.Core.Path.{_≡_, refl, sym, _∙_}
+use mathlib.Core.Path.{_≡_, refl}
 use Prim.Native.Nat.{_+_, _*_, _-_}
 use Rattle.solver.specs.Each.{each}
 use Rattle.solver.specs.Chain.{adjustDiagonal, eliminateChain}
-use Rattle.solver.proofs.Laws.Counting.{each-next, each-done}
+use Rattle.solver.proofs.Laws.Counting.{each-turn, each-end}
 use borrow.Author.Needs.{needs}
 use Rattle.solver.proofs.chain.eliminate_chain.Statement.{statement}
 use Rattle.solver.proofs.chain.eliminate_chain.Tie as tie
@@ -13,19 +13,11 @@ Inv-loop twoNodes next prev e d₀ s₀ diag s = each s (5 * e + 4) (adjustDiago
 abbrev μ-loop : tie.MeasureT-loop
 μ-loop twoNodes next prev e d₀ s₀ diag s = 5 * e + 4 - s
 
-loop-again : tie.Need-loop-again Inv-loop μ-loop
-loop-again c =
-    let l = c .before .before .before .before .before .loop in
-    let s = c .before .before .before .before .before .before .before in
-    sym (each-next (adjustDiagonal (s .args .next .now) (s .args .prev .now)) (l .s) (5 * s .args .e + 4) (l .diag) (c .before .before .before .before .loop-test .taken)) ∙ l .inv
-
 returns : tie.Need-returns Inv-loop μ-loop
 unfolding eliminateChain
 returns c =
-    let l = c .before .loop in
-    let s = c .before .before .before in
     rw (← c .before .before .outer-slot .ensures .0)
-    (sym (each-done (adjustDiagonal (s .args .next .now) (s .args .prev .now)) (l .s) (5 * s .args .e + 4) (l .diag) (c .loop-test .left)) ∙ l .inv)
+    (search (needs, each-end))
 
 pub eliminate-chain-spec : {M : Type 1} → statement M
 eliminate-chain-spec =
@@ -33,4 +25,4 @@ eliminate-chain-spec =
     (tie.spec Inv-loop μ-loop (λ c κs. search needs) (λ c. refl) (λ c. search needs) (λ c. search needs)
     (λ c. search needs) (λ c. search needs) (λ c. search needs) (λ c. search needs) (λ c. search needs)
     (λ c. search needs) (λ c. search needs) (λ c. search needs) (λ c. search needs) (λ c. search needs)
-    (λ c. search needs) (λ c. search needs) loop-again returns)
+    (λ c. search needs) (λ c. search needs) (λ c. search (needs, each-turn)) returns)

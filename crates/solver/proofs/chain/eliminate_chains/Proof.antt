@@ -1,8 +1,8 @@
-use mathlib.Core.Path.{_≡_, refl, sym, _∙_}
+use mathlib.Core.Path.{_≡_, refl}
 use Prim.Native.Nat.{_-_}
 use Rattle.solver.specs.Each.{each}
 use Rattle.solver.specs.Chain.{eliminateChain, eliminateChains}
-use Rattle.solver.proofs.Laws.Counting.{each-next, each-done}
+use Rattle.solver.proofs.Laws.Counting.{each-turn, each-end}
 use borrow.Author.Needs.{needs}
 use Rattle.solver.proofs.chain.eliminate_chains.Statement.{statement}
 use Rattle.solver.proofs.chain.eliminate_chains.Tie as tie
@@ -13,21 +13,12 @@ Inv-loop twoNodes next prev n d₀ e₀ diag e = each e n (eliminateChain twoNod
 abbrev μ-loop : tie.MeasureT-loop
 μ-loop twoNodes next prev n d₀ e₀ diag e = n - e
 
-loop-again : tie.Need-loop-again Inv-loop μ-loop
-loop-again c =
-    let l = c .before .before .before .loop in
-    let s = c .before .before .before .before in
-    rw (c .eliminate-chain .ensures) (sym (each-next (eliminateChain (s .args .two-nodes .now) (s .args .next .now) (s .args .prev .now)) (l .e) (s .args .n) (l .diag) (c .before .before .loop-test .taken)) ∙ l .inv)
-
 returns : tie.Need-returns Inv-loop μ-loop
 unfolding eliminateChains
-returns c =
-    let l = c .before .loop in
-    let s = c .before .before in
-    sym (each-done (eliminateChain (s .args .two-nodes .now) (s .args .next .now) (s .args .prev .now)) (l .e) (s .args .n) (l .diag) (c .loop-test .left)) ∙ l .inv
+returns c = search (needs, each-end)
 
 pub eliminate-chains-spec : {M : Type 1} → statement M
 eliminate-chains-spec =
     tie.close
     (tie.spec Inv-loop μ-loop (λ c. refl) (λ c κs. search needs) (λ c. search needs) (λ c. search needs)
-    loop-again returns)
+    (λ c. search (needs, each-turn)) returns)

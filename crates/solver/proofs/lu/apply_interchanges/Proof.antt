@@ -1,10 +1,10 @@
 use mathlib.Core.Logic.{⊎-elim}
 use borrow.Author.Tests.{lt-ltb, le-ltb}
-use mathlib.Core.Path.{_≡_, refl, sym, _∙_}
+use mathlib.Core.Path.{_≡_, refl}
 use Prim.Native.Nat.{_-_}
 use Rattle.solver.specs.Each.{each}
 use Rattle.solver.specs.Lu.{applyInterchange, applyInterchanges}
-use Rattle.solver.proofs.Laws.Counting.{each-next, each-done}
+use Rattle.solver.proofs.Laws.Counting.{each-turn, each-end}
 use borrow.Author.Needs.{needs}
 use Rattle.solver.proofs.lu.apply_interchanges.Statement.{statement}
 use Rattle.solver.proofs.lu.apply_interchanges.Tie as tie
@@ -22,17 +22,11 @@ changed c =
     ⊎-elim (λ w. rw (lt-ltb _ _ (w .0 .taken)) (w .3)) (λ w. rw (le-ltb _ _ (w .0 .left)) (w .1)) (c .if1 .came)
 
 loop-again : tie.Need-loop-again Inv-loop μ-loop
-loop-again c =
-    let s = c .before .before .before .before in
-    let l = c .before .before .before .loop in
-    rw (changed c) (sym (each-next (applyInterchange (s .args .interchanges .now)) (l .k) (s .args .w) (l .b) (c .before .before .loop-test .taken)) ∙ l .inv)
+loop-again c = rw (changed c) (search (needs, each-turn))
 
 returns : tie.Need-returns Inv-loop μ-loop
 unfolding applyInterchanges
-returns c =
-    let l = c .before .loop in
-    let s = c .before .before in
-    sym (each-done (applyInterchange (s .args .interchanges .now)) (l .k) (s .args .w) (l .b) (c .loop-test .left)) ∙ l .inv
+returns c = search (needs, each-end)
 
 pub apply-interchanges-spec : {M : Type 1} → statement M
 apply-interchanges-spec =

@@ -1,8 +1,8 @@
-use mathlib.Core.Path.{_≡_, refl, sym, _∙_}
+use mathlib.Core.Path.{_≡_, refl}
 use Prim.Native.Nat.{_-_}
 use Rattle.solver.specs.Each.{each}
 use Rattle.solver.specs.Lu.{forwardStep, forwardSubstitution}
-use Rattle.solver.proofs.Laws.Counting.{each-next, each-done}
+use Rattle.solver.proofs.Laws.Counting.{each-turn, each-end}
 use borrow.Author.Needs.{needs}
 use Rattle.solver.proofs.lu.forward_substitution.Statement.{statement}
 use Rattle.solver.proofs.lu.forward_substitution.Tie as tie
@@ -15,17 +15,11 @@ abbrev μ-loop : tie.MeasureT-loop
 
 loop-again : tie.Need-loop-again Inv-loop μ-loop
 unfolding forwardStep
-loop-again c =
-    let l = c .before .before .before .before .loop in
-    let s = c .before .before .before .before .before in
-    rw (c .subtract-multiples .ensures) (sym (each-next (forwardStep (s .args .w) (s .args .m .now)) (l .k) (s .args .w) (l .b) (c .before .before .before .loop-test .taken)) ∙ l .inv)
+loop-again c = search (needs, each-turn)
 
 returns : tie.Need-returns Inv-loop μ-loop
 unfolding forwardSubstitution
-returns c =
-    let l = c .before .loop in
-    let s = c .before .before in
-    sym (each-done (forwardStep (s .args .w) (s .args .m .now)) (l .k) (s .args .w) (l .b) (c .loop-test .left)) ∙ l .inv
+returns c = search (needs, each-end)
 
 pub forward-substitution-spec : {M : Type 1} → statement M
 forward-substitution-spec =

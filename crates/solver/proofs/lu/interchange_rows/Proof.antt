@@ -11,7 +11,13 @@ returns c = rw (eq-eqb (c .before .args .q) (c .before .args .k) (c .if1 .taken)
 
 returns-2 : tie.Need-returns-2
 unfolding interchangeRows
-returns-2 c = rw (ne-eqb (c .before .before .before .before .before .before .before .before .args .q) (c .before .before .before .before .before .before .before .before .args .k) (c .before .before .before .before .before .before .before .if1 .left), c .set-row2 .ensures, c .before .before .set-row .ensures, c .before .before .before .before .before .row .ensures) refl
+returns-2 c =
+    rw (
+      ne-eqb (c .before .before .before .before .before .before .before .before .args .q) (c .before .before .before .before .before .before .before .before .args .k) (c .before .before .before .before .before .before .before .if1 .left),
+      c .set-row2 .ensures,
+      c .before .before .set-row .ensures,
+      c .before .before .before .before .before .row .ensures,
+    ) refl
 
 pub interchange-rows-spec : {M : Type 1} → statement M
 interchange-rows-spec =

@@ -1,31 +1,29 @@
-use mathlib.Core.Path.{_≡_, refl, sym, _∙_}
-use mathlib.Core.Bool.{true}
+use mathlib.Core.Path.{_≡_, refl, ap, _∙_}
+use mathlib.Core.Bool.{_&&_}
 use Prim.Native.Nat.{_-_}
-use Rattle.solver.specs.Each.{each}
-use Rattle.solver.specs.Lu.{pivotValid, pivotsValid}
-use Rattle.solver.proofs.Laws.Counting.{each-next, each-done}
+use Rattle.solver.specs.Each.{all}
+use Rattle.solver.specs.Closeness.{validDivisor}
+use Rattle.solver.specs.Rows.{entry}
+use Rattle.solver.specs.Lu.{pivotsValid}
+use Rattle.solver.proofs.Laws.Counting.{all-turn, all-end}
 use borrow.Author.Needs.{needs}
 use Rattle.solver.proofs.lu.pivots_valid.Statement.{statement}
 use Rattle.solver.proofs.lu.pivots_valid.Tie as tie
 
 abbrev Inv-loop : tie.InvT-loop
-Inv-loop m w ok₀ k₀ valid k = each k w (pivotValid m) valid ≡ each 0 w (pivotValid m) true
+Inv-loop m w ok₀ k₀ valid k = (valid && all k w λ i. validDivisor (entry i i m)) ≡ all 0 w λ i. validDivisor (entry i i m)
 
 abbrev μ-loop : tie.MeasureT-loop
 μ-loop m w ok₀ k₀ valid k = w - k
 
 loop-again : tie.Need-loop-again Inv-loop μ-loop
 loop-again c =
-    let l = c .before .before .before .loop in
-    let s = c .before .before .before .before in
-    rw (c .valid-divisor .ensures, c .before .entry .ensures) (sym (each-next (pivotValid (s .args .m .now)) (l .k) (s .args .w) (l .valid) (c .before .before .loop-test .taken)) ∙ l .inv)
+    let e = c .valid-divisor .ensures ∙ ap validDivisor (c .before .entry .ensures) in
+    search (needs, all-turn)
 
 returns : tie.Need-returns Inv-loop μ-loop
 unfolding pivotsValid
-returns c =
-    let l = c .before .loop in
-    let s = c .before .before in
-    sym (each-done (pivotValid (s .args .m .now)) (l .k) (s .args .w) (l .valid) (c .loop-test .left)) ∙ l .inv
+returns c = search (needs, all-end)
 
 pub pivots-valid-spec : {M : Type 1} → statement M
 pivots-valid-spec =

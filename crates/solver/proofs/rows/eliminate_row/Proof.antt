@@ -1,9 +1,8 @@
-use mathlib.Core.Path.{_≡_, refl, sym, _∙_}
+use mathlib.Core.Path.{_≡_, refl}
 use Prim.Native.Nat.{_+_, _-_}
-use Rattle.solver.specs.F64.{_*ᶠ_}
 use Rattle.solver.specs.Each.{each}
 use Rattle.solver.specs.Rows.{eliminateEntry, eliminateRow}
-use Rattle.solver.proofs.Laws.Counting.{each-next, each-done}
+use Rattle.solver.proofs.Laws.Counting.{each-turn, each-end}
 use borrow.Author.Needs.{needs}
 use Rattle.solver.proofs.rows.eliminate_row.Statement.{statement}
 use Rattle.solver.proofs.rows.eliminate_row.Tie as tie
@@ -15,20 +14,13 @@ abbrev μ-loop : tie.MeasureT-loop
 μ-loop m₀ w k pivots reciprocal i factor j₀ m j = w - j
 
 loop-again : tie.Need-loop-again Inv-loop μ-loop
-loop-again c =
-    let l = c .before .before .before .before .before .before .loop in
-    let s = c .before .before .before .before .before .before .before .before .before .before .before in
-    let f = c .before .before .before .before .before .before .before .before .before .entry .result *ᶠ s .args .reciprocal in
-    rw (c .set-entry2 .ensures, c .before .before .before .entry2 .ensures) (sym (each-next (eliminateEntry (s .args .pivots .now) (s .args .i) f) (l .j) (s .args .w) (l .m) (c .before .before .before .before .before .loop-test .taken)) ∙ l .inv)
+loop-again c = rw (c .set-entry2 .ensures, c .before .before .before .entry2 .ensures) (search (needs, each-turn))
 
 returns : tie.Need-returns Inv-loop μ-loop
 unfolding eliminateRow
 returns c =
-    let l = c .before .loop in
-    let s = c .before .before .before .before .before .before in
-    let f = c .before .before .before .before .entry .result *ᶠ s .args .reciprocal in
     rw (← c .before .before .before .before .entry .ensures, ← c .before .before .set-entry .ensures)
-    (sym (each-done (eliminateEntry (s .args .pivots .now) (s .args .i) f) (l .j) (s .args .w) (l .m) (c .loop-test .left)) ∙ l .inv)
+    (search (needs, each-end))
 
 pub eliminate-row-spec : {M : Type 1} → statement M
 eliminate-row-spec =

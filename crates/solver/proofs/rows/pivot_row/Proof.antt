@@ -11,15 +11,15 @@ use Rattle.solver.proofs.rows.pivot_row.Statement.{statement}
 use Rattle.solver.proofs.rows.pivot_row.Tie as tie
 
 abbrev Inv-loop : tie.InvT-loop
-Inv-loop part k n best₀ largest₀ i₀ found largest i = (found < n) × (largest ≡ abs (entry found k part)) × (each i n (largerInColumn k part) found ≡ pivotRow k n part)
+Inv-loop part k n found₀ largest₀ i₀ found largest i = (found < n) × (largest ≡ abs (entry found k part)) × (each i n (largerInColumn k part) found ≡ pivotRow k n part)
 
 abbrev μ-loop : tie.MeasureT-loop
-μ-loop part k n best₀ largest₀ i₀ found largest i = n - i
+μ-loop part k n found₀ largest₀ i₀ found largest i = n - i
 
 loop-holds : tie.Need-loop-holds Inv-loop μ-loop
 loop-holds c = (omega arith, c .abs .ensures, refl)
 
--- after the `if` the best row is the better of the two
+-- after the `if` the row found is the larger of the two
 chosen : (c : tie.Joined1 Inv-loop μ-loop) →
     c .if1 .found
     ≡ largerInColumn (c .before .before .before .before .before .before .before .before .args .k) (c .before .before .before .before .before .before .before .before .args .part .now) (c .before .before .before .before .loop .i) (c .before .before .before .before .loop .found)

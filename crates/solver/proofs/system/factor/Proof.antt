@@ -1,4 +1,4 @@
-use Rattle.solver.specs.FastSolver.{factor}
+use Rattle.solver.specs.Inner.Factored.{factor}
 use borrow.Author.Needs.{needs}
 use Rattle.solver.proofs.system.factor.Statement.{statement}
 use Rattle.solver.proofs.system.factor.Tie as tie

@@ -6,7 +6,14 @@ use Rattle.solver.proofs.system.solve_nodes.Tie as tie
 
 returns : tie.Need-returns
 unfolding temperatures
-returns c = rw (c .back-substitute-chains .ensures, c .before .before .scatter-dense .ensures, c .before .before .before .before .before .lu-solve .ensures, c .before .before .before .before .before .before .before .gather-dense .ensures, c .before .before .before .before .before .before .before .before .before .reduce-right-sides .ensures) refl
+returns c =
+    rw (
+      c .back-substitute-chains .ensures,
+      c .before .before .scatter-dense .ensures,
+      c .before .before .before .before .before .lu-solve .ensures,
+      c .before .before .before .before .before .before .before .gather-dense .ensures,
+      c .before .before .before .before .before .before .before .before .before .reduce-right-sides .ensures,
+    ) refl
 
 pub solve-nodes-spec : {M : Type 1} → statement M
 solve-nodes-spec =

@@ -1,5 +1,5 @@
 use mathlib.Core.Path.{refl}
-use Rattle.solver.specs.FastSolver.{substitute}
+use Rattle.solver.specs.Inner.Factored.{substitute}
 use borrow.Author.Needs.{needs}
 use Rattle.solver.proofs.system.substitute.Statement.{statement}
 use Rattle.solver.proofs.system.substitute.Tie as tie

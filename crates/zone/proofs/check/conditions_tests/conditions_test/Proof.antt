@@ -2,16 +2,17 @@ use Prim.Native.Nat.{_+_, _-_, _≤_}
 use mathlib.Core.Path.{_≡_, refl, sym, ap, _∙_}
 use native.Mathlib.Omega.{arith}
 use lib.ListN.{length, take, drop}
-use Rattle.zone.specs.Check.ZoneTest.{verdictOf}
-use Rattle.zone.specs.Format.Conditions.{elementHoursTest, conditionsTest}
-use Rattle.zone.proofs.Laws.Conditions.{hour-out, hour-in}
-use Rattle.zone.proofs.Laws.Lists.{none-left, mapped-length}
+use Rattle.zone.specs.Record.Numbers.{conditionsValue}
+use Rattle.zone.specs.Check.ZoneTest.{elementHourInRange, eachNeeds, verdictOf}
+use Rattle.zone.specs.Format.Conditions.{conditionsTest}
+use Rattle.zone.proofs.Laws.Each.{each-out, each-in, each-done}
+use Rattle.zone.proofs.Laws.Lists.{mapped-length}
 use borrow.Author.Needs.{needs}
 use Rattle.zone.proofs.check.conditions_tests.conditions_test.Statement.{statement}
 use Rattle.zone.proofs.check.conditions_tests.conditions_test.Tie as tie
 
 abbrev Inv-loop : tie.InvT-loop
-Inv-loop n elements i₀ i = (i ≤ n) × (length elements ≡ 24) × (elementHoursTest (take n elements) 1 ≡ elementHoursTest (drop i (take n elements)) (i + 1))
+Inv-loop n elements i₀ i = (i ≤ n) × (length elements ≡ 24) × (eachNeeds elementHourInRange conditionsValue (take n elements) 1 ≡ eachNeeds elementHourInRange conditionsValue (drop i (take n elements)) (i + 1))
 
 abbrev μ-loop : tie.MeasureT-loop
 μ-loop n elements i₀ i = n - i
@@ -21,19 +22,19 @@ loop-holds c = (omega arith, search (needs, mapped-length), refl)
 
 loop-again : tie.Need-loop-again Inv-loop μ-loop
 loop-again c = let l = c .before .before .before .before .loop in let a = c .before .before .before .before .before .before .before .before .args in
-    (omega arith, l .inv .1, l .inv .2 ∙ hour-in (a .c .elements) _ (l .i) (a .n) (omega arith) (omega arith) (sym (c .before .element-hour-in-range .ensures) ∙ c .if2 .taken))
+    (omega arith, l .inv .1, l .inv .2 ∙ each-in elementHourInRange conditionsValue (a .c .elements) (l .i) (a .n) _ (omega arith) (omega arith) (sym (c .before .element-hour-in-range .ensures) ∙ c .if2 .taken))
 
 returns : tie.Need-returns Inv-loop μ-loop
 unfolding conditionsTest
 returns c = let l = c .before .before .before .before .loop in let a = c .before .before .before .before .before .before .before .before .args in
     rw (sym (c .before .before .before .before .before .before .before .front-in-range .ensures) ∙ c .before .before .before .before .before .before .if1 .taken)
-    (sym (ap verdictOf (l .inv .2 ∙ hour-out (a .c .elements) _ (l .i) (a .n) (omega arith) (omega arith) (sym (c .before .element-hour-in-range .ensures) ∙ c .if2 .left))))
+    (sym (ap verdictOf (l .inv .2 ∙ each-out elementHourInRange conditionsValue (a .c .elements) (l .i) (a .n) _ (omega arith) (omega arith) (sym (c .before .element-hour-in-range .ensures) ∙ c .if2 .left))))
 
 returns-2 : tie.Need-returns-2 Inv-loop μ-loop
-unfolding conditionsTest elementHoursTest
+unfolding conditionsTest
 returns-2 c = let l = c .before .loop in let a = c .before .before .before .before .before .args in
     rw (sym (c .before .before .before .before .front-in-range .ensures) ∙ c .before .before .before .if1 .taken)
-    (sym (ap verdictOf (l .inv .2 ∙ ap (λ hs. elementHoursTest hs (l .i + 1)) (none-left (a .c .elements) (l .i) (a .n) (omega arith)))))
+    (sym (ap verdictOf (l .inv .2 ∙ each-done elementHourInRange conditionsValue (a .c .elements) (l .i) (a .n) (omega arith))))
 
 returns-3 : tie.Need-returns-3 Inv-loop μ-loop
 unfolding conditionsTest

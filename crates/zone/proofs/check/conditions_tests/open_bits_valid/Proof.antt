@@ -1,8 +1,9 @@
-use Prim.Native.Nat.{_+_, _*_, _-_, _≤_}
+use Prim.Native.Nat.{_-_, _≤_}
 use mathlib.Core.Path.{_≡_, refl, sym, ap, _∙_}
 use native.Mathlib.Omega.{arith}
 use lib.ListN.{length, take, drop}
 use denote.Ref.{now}
+use Rattle.zone.specs.Format.Layout.{conditionsLength}
 use Rattle.zone.specs.Format.Conditions.{openBitsValid}
 use Rattle.zone.proofs.Laws.Conditions.{open-out, open-in}
 use Rattle.zone.proofs.Laws.Lists.{none-left}
@@ -11,7 +12,7 @@ use Rattle.zone.proofs.check.conditions_tests.open_bits_valid.Statement
 use Rattle.zone.proofs.check.conditions_tests.open_bits_valid.Tie as tie
 
 abbrev Inv-loop : tie.InvT-loop
-Inv-loop s n treatments i₀ p₀ i p = (i ≤ n) × (p ≡ 113 + 41 * i) × (length treatments ≡ 24) × (openBitsValid s (take n treatments) 113 ≡ openBitsValid s (drop i (take n treatments)) p)
+Inv-loop s n treatments i₀ p₀ i p = (i ≤ n) × (p ≡ conditionsLength i) × (length treatments ≡ 24) × (openBitsValid s (take n treatments) 113 ≡ openBitsValid s (drop i (take n treatments)) p)
 
 abbrev μ-loop : tie.MeasureT-loop
 μ-loop s n treatments i₀ p₀ i p = n - i

@@ -6,6 +6,7 @@ use native.Mathlib.Nat.{sub-zero}
 use lib.ListN.{length, set, length-set, replicate}
 use denote.Ref.{now}
 use Rattle.solver.specs.Result.{ok}
+use Rattle.zone.specs.Format.Layout.{firstElement}
 use Rattle.zone.specs.Format.ElementLayout.{sizeAt}
 use Rattle.zone.specs.Format.Decode.{elementAt, elementsAt, noElement}
 use Rattle.zone.specs.Format.Head.{elementsEnd}
@@ -17,7 +18,7 @@ use Rattle.zone.proofs.format.decode.elements_at.Statement.{statement}
 use Rattle.zone.proofs.format.decode.elements_at.Tie as tie
 
 abbrev Inv-loop : tie.InvT-loop
-Inv-loop s end n out₀ i₀ p₀ out i p = (i ≤ n) × (length out ≡ 24) × (elementsEnd s end (n - i) i p ≡ ok end) × (replaced out i (elementsAt s p (n - i)) (n - i) ≡ elementsAt s 57 n ++ replicate (24 - n) noElement)
+Inv-loop s end n out₀ i₀ p₀ out i p = (i ≤ n) × (length out ≡ 24) × (elementsEnd s end (n - i) i p ≡ ok end) × (replaced out i (elementsAt s p (n - i)) (n - i) ≡ elementsAt s firstElement n ++ replicate (24 - n) noElement)
 
 abbrev μ-loop : tie.MeasureT-loop
 μ-loop s end n out₀ i₀ p₀ out i p = n - i

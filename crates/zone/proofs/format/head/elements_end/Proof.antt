@@ -5,15 +5,18 @@ use native.Mathlib.Omega.{arith}
 use native.Mathlib.Nat.{sub-zero}
 use lib.ListN.{getD}
 use denote.Ref.{now}
-use Rattle.zone.specs.Format.ElementLayout.{kindValidAt, kindValid, sizeAt}
-use Rattle.zone.specs.Format.Head.{elementsEnd, structureAnswer}
+use Rattle.zone.specs.Format.Layout.{firstElement}
+use Rattle.zone.specs.Format.ElementLayout.{kindValidAt, sizeAt}
+use Rattle.zone.specs.Inner.Format.{kindValid}
+use Rattle.zone.specs.Format.Head.{elementsEnd}
+use Rattle.zone.specs.Inner.Format.{structureAnswer}
 use Rattle.zone.proofs.Laws.Structure.{end-short, end-kind, end-rest, end-next}
 use borrow.Author.Needs.{needs}
 use Rattle.zone.proofs.format.head.elements_end.Statement.{statement}
 use Rattle.zone.proofs.format.head.elements_end.Tie as tie
 
 abbrev Inv-loop : tie.InvT-loop
-Inv-loop s end n i₀ p₀ i p = (i ≤ n) × (p ≤ end) × (elementsEnd s end n 0 57 ≡ elementsEnd s end (n - i) i p)
+Inv-loop s end n i₀ p₀ i p = (i ≤ n) × (p ≤ end) × (elementsEnd s end n 0 firstElement ≡ elementsEnd s end (n - i) i p)
 
 abbrev μ-loop : tie.MeasureT-loop
 μ-loop s end n i₀ p₀ i p = n - i

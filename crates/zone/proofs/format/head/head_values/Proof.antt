@@ -1,4 +1,5 @@
 use mathlib.Core.Path.{_≡_, sym, ap, _∙_}
+use native.Mathlib.Omega.{arith}
 use denote.Ref.{now}
 use Rattle.zone.specs.Format.Decode.{zoneAt}
 use Rattle.zone.specs.Check.ZoneTest.{valuesTest, verdictOf}
@@ -9,6 +10,9 @@ use Rattle.zone.proofs.Laws.Head.{head-accepted, head-refused}
 use borrow.Author.Needs.{needs}
 use Rattle.zone.proofs.format.head.head_values.Statement.{statement}
 use Rattle.zone.proofs.format.head.head_values.Tie as tie
+
+zone-at-requires : tie.Need-zone-at-requires
+zone-at-requires c κs = let q = structured _ _ (c .before .pre) in (c .before .pre, omega (arith, q .low, q .there))
 
 values-test-requires : tie.Need-values-test-requires
 unfolding zoneAt
@@ -28,5 +32,5 @@ returns-2 c = let a = c .before .before .before .before .before .before .before 
 pub head-values-spec : {M : Type 1} → statement M
 head-values-spec =
     tie.close
-    (tie.spec (λ c κs. search needs) values-test-requires (λ c. search needs) (λ c. search needs)
+    (tie.spec zone-at-requires values-test-requires (λ c. search needs) (λ c. search needs)
     (λ c κs. search needs) returns returns-2)

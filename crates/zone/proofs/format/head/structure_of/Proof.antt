@@ -3,8 +3,8 @@ use mathlib.Core.Path.{sym, ap, _∙_}
 use native.Mathlib.Omega.{arith}
 use denote.Ref.{now}
 use borrow.Author.Tests.{not-true, not-false}
-use Rattle.zone.specs.Format.Head.{lengthValid, structureAnswer, structureWithin}
-use Rattle.zone.proofs.Laws.Structure.{too-short, bad-length, cut-short, all-there, length-good}
+use Rattle.zone.specs.Inner.Format.{structureAnswer, structureWithin}
+use Rattle.zone.proofs.Laws.Structure.{lengthValid, too-short, bad-length, cut-short, all-there, length-good}
 use borrow.Author.Needs.{needs}
 use Rattle.zone.proofs.format.head.structure_of.Statement.{statement}
 use Rattle.zone.proofs.format.head.structure_of.Tie as tie

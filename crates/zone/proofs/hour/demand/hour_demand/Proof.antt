@@ -17,14 +17,14 @@ returns-3 c = free-refused _ _ _ _ _ _ (c .before .before .before .before .befor
 zone-temperatures-requires : tie.Need-zone-temperatures-requires
 zone-temperatures-requires c κs = (c .before .before .before .before .before .before .before .before .before .before .before .before .before .areas-of .ensures, total-of _ _ _ _ _ _ _ _ _ _ (c .before .before .before .before .before .before .before .before .before .before .before .before .before .before .pre))
 
-demand-from-requires : tie.Need-demand-from-requires
-demand-from-requires c κs = (c .before .before .before .before .before .before .before .before .before .before .before .before .before .before .before .before .before .before .before .pre, c .before .before .before .before .before .before .before .before .free-temperatures .ensures .factors (c .before .before .before .before .before .before .before .if3 .left) ∙ rw (c .before .before .before .before .before .before .before .before .before .before .before .before .before .ach-target .ensures) refl, c .before .before .before .before .before .before .before .before .before .before .before .before .before .before .before .before .before .before .areas-of .ensures)
+demand-from-free-requires : tie.Need-demand-from-free-requires
+demand-from-free-requires c κs = (c .before .before .before .before .before .before .before .before .before .before .before .before .before .before .before .before .before .before .before .pre, c .before .before .before .before .before .before .before .before .free-temperatures .ensures .factors (c .before .before .before .before .before .before .before .if3 .left) ∙ rw (c .before .before .before .before .before .before .before .before .before .before .before .before .before .ach-target .ensures) refl, c .before .before .before .before .before .before .before .before .before .before .before .before .before .before .before .before .before .before .areas-of .ensures)
 
 returns-4 : tie.Need-returns-4
-returns-4 c = free-demand _ _ _ _ _ _ (c .before .before .before .before .before .before .before .before .before .before .before .before .before .before .before .before .before .if1 .left) (c .before .before .before .before .before .before .before .before .before .before .before .before .before .before .before .if2 .left) _ (c .before .before .before .before .before .before .before .before .before .before .before .before .before .before .ach-target .ensures) _ (c .before .before .before .before .before .before .before .before .before .free-temperatures .ensures .answer) _ _ (c .before .before .before .before .before .before .before .before .if3 .left) (c .before .before .before .before .before .zone-temperatures .ensures) (c .demand-from .ensures)
+returns-4 c = free-demand _ _ _ _ _ _ (c .before .before .before .before .before .before .before .before .before .before .before .before .before .before .before .before .before .if1 .left) (c .before .before .before .before .before .before .before .before .before .before .before .before .before .before .before .if2 .left) _ (c .before .before .before .before .before .before .before .before .before .before .before .before .before .before .ach-target .ensures) _ (c .before .before .before .before .before .before .before .before .before .free-temperatures .ensures .answer) _ _ (c .before .before .before .before .before .before .before .before .if3 .left) (c .before .before .before .before .before .zone-temperatures .ensures) (c .demand-from-free .ensures)
 
 pub hour-demand-spec : {M : Type 1} → statement M
 hour-demand-spec =
     tie.close
     (tie.spec (λ c κs. search needs) returns returns-2 (λ c κs. search needs) (λ c κs. search needs) returns-3
-    zone-temperatures-requires demand-from-requires returns-4)
+    zone-temperatures-requires demand-from-free-requires returns-4)

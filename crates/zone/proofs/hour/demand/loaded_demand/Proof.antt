@@ -16,7 +16,7 @@ returns-2 : tie.Need-returns-2
 returns-2 c = loaded-14 _ _ _ _ _ _ _ _ (upper-solved _ _ _ _ _ _ _ _ _ _ (c .before .before .before .before .before .before .before .before .before .before .before .before .pre .0) _ _ (c .before .before .before .before .before .before .before .before .before .calc-vent-heat-transfer-coeff .ensures) 0 _ _ _ (c .before .before .before .before .before .before .before .before .before .before .before .before .pre .1) refl _ _ _ _ _ (c .before .before .before .before .before .before .before .before .before .before .before .gains-heat-cool-of .ensures) (c .before .before .before .before .before .before .before .before .before .before .frac-upper .ensures) (c .before .before .before .before .before .before .before .solve-at .ensures)) (c .before .before .before .before .before .before .if1 .left) _ (c .before .before .before .before .control-temperature .ensures) _ (c .before .before .before .interp-heat-cool-demand .ensures) _ _ (c .before .kwh .given .1)
 
 returns-3 : tie.Need-returns-3
-returns-3 c = loaded-by _ _ _ _ _ _ _ _ (upper-solved _ _ _ _ _ _ _ _ _ _ (c .before .before .before .before .before .before .before .before .before .before .before .before .before .pre .0) _ _ (c .before .before .before .before .before .before .before .before .before .before .calc-vent-heat-transfer-coeff .ensures) 0 _ _ _ (c .before .before .before .before .before .before .before .before .before .before .before .before .before .pre .1) refl _ _ _ _ _ (c .before .before .before .before .before .before .before .before .before .before .before .before .gains-heat-cool-of .ensures) (c .before .before .before .before .before .before .before .before .before .before .before .frac-upper .ensures) (c .before .before .before .before .before .before .before .before .solve-at .ensures)) (c .before .before .before .before .before .before .before .if1 .left) _ (c .before .before .before .before .before .control-temperature .ensures) _ (c .before .before .before .before .interp-heat-cool-demand .ensures) _ _ (c .before .before .kwh2 .given .1) (c .demand-by .ensures)
+returns-3 c = loaded-by _ _ _ _ _ _ _ _ (upper-solved _ _ _ _ _ _ _ _ _ _ (c .before .before .before .before .before .before .before .before .before .before .before .before .before .pre .0) _ _ (c .before .before .before .before .before .before .before .before .before .before .calc-vent-heat-transfer-coeff .ensures) 0 _ _ _ (c .before .before .before .before .before .before .before .before .before .before .before .before .before .pre .1) refl _ _ _ _ _ (c .before .before .before .before .before .before .before .before .before .before .before .before .gains-heat-cool-of .ensures) (c .before .before .before .before .before .before .before .before .before .before .before .frac-upper .ensures) (c .before .before .before .before .before .before .before .before .solve-at .ensures)) (c .before .before .before .before .before .before .before .if1 .left) _ (c .before .before .before .before .before .control-temperature .ensures) _ (c .before .before .before .before .interp-heat-cool-demand .ensures) _ _ (c .before .before .kwh2 .given .1) (c .demand-record .ensures)
 
 pub loaded-demand-spec : {M : Type 1} → statement M
 loaded-demand-spec =

@@ -1,4 +1,3 @@
-use Rattle.zone.specs.Hour.Demand.{interpolation}
 use Rattle.solver.specs.F64.{dec}
 use lib.Ieee.{ofBits}
 use mathlib.Core.Path.{refl}
@@ -6,7 +5,7 @@ use Rattle.zone.proofs.hour.load.kwh_of.Statement.{statement}
 use Rattle.zone.proofs.hour.load.kwh_of.Tie as tie
 
 returns : tie.Need-returns
-unfolding interpolation ofBits dec
+unfolding ofBits dec
 returns c = refl
 
 pub kwh-of-spec : {M : Type 1} → statement M

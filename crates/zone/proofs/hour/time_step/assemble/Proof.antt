@@ -1,5 +1,5 @@
 use mathlib.Core.Path.{refl}
-use Rattle.zone.specs.Physics.System.{assemble}
+use Rattle.zone.specs.Inner.Assembled.{assemble}
 use borrow.Author.Needs.{needs}
 use Rattle.zone.proofs.hour.time_step.assemble.Statement.{statement}
 use Rattle.zone.proofs.hour.time_step.assemble.Tie as tie

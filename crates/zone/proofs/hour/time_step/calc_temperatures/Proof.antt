@@ -1,5 +1,5 @@
 use mathlib.Core.Path.{refl}
-use Rattle.zone.specs.Physics.CalcTemperatures.{assembleStep}
+use Rattle.zone.specs.Inner.Assembled.{assembleStep}
 use Rattle.zone.proofs.Laws.Steps.{calc-12, calc-13, calc-ok}
 use borrow.Author.Needs.{needs}
 use Rattle.zone.proofs.hour.time_step.calc_temperatures.Statement.{statement}

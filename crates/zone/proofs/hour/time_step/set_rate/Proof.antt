@@ -1,5 +1,5 @@
 use mathlib.Core.Path.{refl}
-use Rattle.zone.specs.Physics.System.{denseWith}
+use Rattle.zone.specs.Inner.Assembled.{denseWith}
 use borrow.Author.Needs.{needs}
 use Rattle.zone.proofs.hour.time_step.set_rate.Statement.{statement}
 use Rattle.zone.proofs.hour.time_step.set_rate.Tie as tie

@@ -1,4 +1,4 @@
-use Rattle.zone.specs.Hour.Demand.{windowsCool}
+use Rattle.zone.specs.Inner.Demand.{windowsCool}
 use mathlib.Core.Path.{refl}
 use Rattle.zone.proofs.hour.windows.windows_cool.Statement.{statement}
 use Rattle.zone.proofs.hour.windows.windows_cool.Tie as tie

@@ -1,5 +1,5 @@
 use mathlib.Core.Path.{refl}
-use Rattle.zone.specs.Physics.HeatBalance.{addElement}
+use Rattle.zone.specs.Inner.FabricSums.{addElement}
 use borrow.Author.Needs.{needs}
 use Rattle.zone.proofs.physics.fabric.add_element.Statement.{statement}
 use Rattle.zone.proofs.physics.fabric.add_element.Tie as tie

@@ -1,5 +1,5 @@
 use mathlib.Core.Path.{refl}
-use Rattle.zone.specs.Physics.Assembly.{coupleRow}
+use Rattle.zone.specs.Inner.Assembly.{coupleRow}
 use borrow.Author.Needs.{needs}
 use Rattle.zone.proofs.physics.matrix.couple_row.Statement.{statement}
 use Rattle.zone.proofs.physics.matrix.couple_row.Tie as tie

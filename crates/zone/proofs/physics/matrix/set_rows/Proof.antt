@@ -1,5 +1,5 @@
 use mathlib.Core.Path.{refl}
-use Rattle.zone.specs.Physics.Assembly.{setRows}
+use Rattle.zone.specs.Inner.Assembly.{setRows}
 use borrow.Author.Needs.{needs}
 use Rattle.zone.proofs.physics.matrix.set_rows.Statement.{statement}
 use Rattle.zone.proofs.physics.matrix.set_rows.Tie as tie

@@ -1,10 +1,9 @@
-use mathlib.Core.Path.{_≡_, refl, sym, ap, _∙_}
+use mathlib.Core.Path.{_≡_, refl}
 use Prim.Native.Nat.{_-_}
-use Rattle.solver.specs.Sums.{sum2Sum, sum2AddAll, terms}
-use Rattle.solver.specs.declared.sums.Sum2.{Sum2}
-use Rattle.solver.proofs.Laws.Sums.{sum2-terms-next, sum2-terms-done}
-use Rattle.zone.specs.Physics.Slots.{at}
-use Rattle.zone.specs.Physics.TempOperative.{radiantAt}
+use Rattle.solver.specs.Sums.{sum2AddAll, terms}
+use Rattle.zone.proofs.Laws.Loops.{sum2-turn, sum2-end}
+use Rattle.zone.specs.Inner.Assembly.{at}
+use Rattle.zone.specs.Inner.Operative.{radiantAt}
 use borrow.Author.Needs.{needs}
 use Rattle.zone.proofs.physics.operative.radiant_sum.Statement.{statement}
 use Rattle.zone.proofs.physics.operative.radiant_sum.Tie as tie
@@ -15,19 +14,9 @@ Inv-loop n area t total₀ e₀ total e = sum2AddAll total (terms e n (radiantAt
 abbrev μ-loop : tie.MeasureT-loop
 μ-loop n area t total₀ e₀ total e = n - e
 
-loop-again : tie.Need-loop-again Inv-loop μ-loop
-loop-again c = let l = c .before .before .before .before .loop in
-    let s = c .before .before .before .before .before .before in
-    rw (c .add .ensures) (sym (sum2-terms-next (l .total) (radiantAt (at (s .args .area .now)) (s .args .t .now)) (l .e) (s .args .n) (c .before .before .before .loop-test .taken)) ∙ l .inv)
-
-returns : tie.Need-returns Inv-loop μ-loop
-returns c = let l = c .before .before .loop in
-    let s = c .before .before .before .before in
-    c .sum .ensures ∙ ap (λ (z : Sum2). sum2Sum z) (sym (sum2-terms-done (l .total) (radiantAt (at (s .args .area .now)) (s .args .t .now)) (l .e) (s .args .n) (c .before .loop-test .left)) ∙ l .inv ∙ ap (λ (z : Sum2). sum2AddAll z (terms 0 (s .args .n) (radiantAt (at (s .args .area .now)) (s .args .t .now)))) (c .before .before .before .zero .ensures))
-
 pub radiant-sum-spec : {M : Type 1} → statement M
 radiant-sum-spec =
     tie.close
     (tie.spec Inv-loop μ-loop (λ c κs. search needs) (λ c. refl) (λ c. search needs) (λ c. search needs)
     (λ c. search needs) (λ c. search needs) (λ c. search needs) (λ c. search needs) (λ c κs. search needs)
-    (λ c. search needs) (λ c. search needs) loop-again (λ c κs. search needs) returns)
+    (λ c. search needs) (λ c. search needs) (λ c. search (needs, sum2-turn)) (λ c κs. search needs) (λ c. search (needs, sum2-end)))

@@ -1,5 +1,5 @@
 use mathlib.Core.Path.{refl}
-use Rattle.zone.specs.Physics.TempOperative.{tempOperativeOf}
+use Rattle.zone.specs.Inner.Operative.{tempOperativeOf}
 use borrow.Author.Needs.{needs}
 use Rattle.zone.proofs.physics.operative.temp_operative_by_temp_vector.Statement.{statement}
 use Rattle.zone.proofs.physics.operative.temp_operative_by_temp_vector.Tie as tie

@@ -1,15 +1,19 @@
-use Rattle.zone.proofs.Laws.Hour.{update-refused, update-accepted}
+use Rattle.zone.proofs.Laws.Hour.{update-refused, update-in, update-out}
 use borrow.Author.Needs.{needs}
 use Rattle.zone.proofs.calls.state.State.update_temperatures.Statement.{statement}
 use Rattle.zone.proofs.calls.state.State.update_temperatures.Tie as tie
 
 returns : tie.Need-returns
-returns c = update-refused _ _ _ _ _ (c .before .before .before .before .tested .ensures) _ _ _ _ _ _ (c .before .before .verdict .given .1) (c .refuse .ensures)
+returns c = update-in _ _ _ _ _ (c .before .before .before .before .before .before .tested .ensures) _ _ _ (c .before .before .before .before .enum-told .given .1) _ (c .before .before .before .load-in-range .ensures) _ (c .before .before .if1 .taken) (c .step .ensures)
 
 returns-2 : tie.Need-returns-2
-returns-2 c = update-accepted _ _ _ _ _ (c .before .before .before .before .tested .ensures) _ _ _ _ (c .before .before .enum-told .given .1) (c .update-in .ensures)
+returns-2 c = update-refused _ _ _ _ _ (c .before .before .before .before .tested .ensures) _ _ _ _ _ _ (c .before .before .verdict .given .1) (c .refuse .ensures)
+
+returns-3 : tie.Need-returns-3
+returns-3 c = update-out _ _ _ _ _ (c .before .before .before .before .before .tested .ensures) _ _ _ (c .before .before .before .enum-told .given .1) _ (c .before .before .load-in-range .ensures) _ (c .before .if1 .left) (c .refuse2 .ensures)
 
 pub update-temperatures-spec : {M : Type 1} → statement M
 update-temperatures-spec =
     tie.close
-    (tie.spec (λ c κs. search needs) (λ c. search needs) (λ c κs. search needs) (λ c. search needs) (λ c κs. search needs) returns returns-2)
+    (tie.spec (λ c κs. search needs) (λ c. search needs) (λ c κs. search needs) (λ c. search needs) (λ c κs. search needs) (λ c κs. search needs)
+    returns (λ c κs. search needs) returns-2 returns-3)

@@ -1,0 +1,27 @@
+// Sizes in the bytes of a book, and where the parts of an entry begin.
+
+// A leap year's hours.
+pub const MOST_ENTRIES: usize = 8784;
+
+// Of each record: the length of what follows.
+pub const LENGTH_SIZE: usize = 4;
+// The version that entries are written with.
+pub const VERSION: u64 = 1;
+// Length and version.
+pub const FRONT_SIZE: usize = LENGTH_SIZE + 1;
+
+// An hour's conditions: so many bytes, and so many for each element.
+pub const CONDITIONS_SIZE: usize = 113;
+
+pub const CONDITIONS_ELEMENT: usize = 41;
+
+// Heating, cooling and rate.
+pub const RATES_SIZE: usize = 24;
+// Those, the trigger byte and the trigger rate.
+pub const DEMAND_SIZE: usize = RATES_SIZE + 9;
+
+// What follows the length: version, conditions, demand and 8 bytes for each node.
+pub const FIXED_LENGTH: usize = 1 + CONDITIONS_SIZE + DEMAND_SIZE;
+
+// 24 elements of five nodes, and the air.
+pub const LONGEST_ENTRY: usize = LENGTH_SIZE + FIXED_LENGTH + 24 * CONDITIONS_ELEMENT + 121 * 8;

@@ -1,0 +1,54 @@
+-- The three demands of specs/Demands.antt, from the theorems that prove them.
+use Rattle.zone.specs.Record.BuildingElement.{standardCoefficients}
+use Rattle.zone.proofs.Claims.Demand.{demand-call-signs, hour-call-signs}
+use Rattle.zone.proofs.Claims.StartUp.{start-up-15, start-up-is-15, start-up-settled, start-up-is-settled}
+use Rattle.zone.proofs.Claims.State.{update-state-tested, hour-state-tested, start-up-state-tested}
+use Rattle.zone.proofs.Claims.Reasons.{demand-reasons, hour-reasons, update-reasons, start-up-reasons}
+use Rattle.zone.proofs.Claims.HeadClaims.{head-claims, zone-claims, conditions-claims}
+use Rattle.zone.proofs.Claims.Index.{indices-of-zone}
+use Rattle.zone.proofs.Claims.HouseP.{house-p, claim}
+use Rattle.book.proofs.Demand3.{year-claims}
+use Rattle.book.proofs.HouseP.{begin-of-p, book-of-p}
+use Rattle.hem_zone.specs.Demands.{Demands}
+use Rattle.hem_zone.proofs.Claims.{claims}
+use Rattle.hem_zone.proofs.Ties.{Ties, ties}
+use Rattle.hem_zone.proofs.Contracts.{begin-meets, append-meets, take-up-is}
+use Rattle.hem_zone.proofs.Demand3 as C
+
+pub demands : Demands Ties
+demands =
+    record {
+      demand-1 = record { every-input = ties; refusals = claims };
+      demand-2 = λ z. record {
+        heads = head-claims;
+        zone = zone-claims z;
+        conditions = conditions-claims z;
+        demand-reasons = demand-reasons standardCoefficients z;
+        hour-reasons = hour-reasons standardCoefficients z;
+        update-reasons = update-reasons standardCoefficients z;
+        start-up-reasons = start-up-reasons standardCoefficients z;
+        indices = indices-of-zone standardCoefficients z;
+        demand-signs = demand-call-signs standardCoefficients z;
+        hour-signs = hour-call-signs standardCoefficients z;
+        fifteen = start-up-15 standardCoefficients z;
+        is-fifteen = start-up-is-15 standardCoefficients z;
+        settled = start-up-settled standardCoefficients z;
+        is-settled = start-up-is-settled standardCoefficients z;
+        update-state = update-state-tested standardCoefficients z;
+        hour-state = hour-state-tested standardCoefficients z;
+        start-up-state = start-up-state-tested standardCoefficients z;
+      };
+      demand-3 = record {
+        whole-lists = C.demand-3;
+        begin-meets = begin-meets;
+        append-meets = append-meets;
+        take-up-is = take-up-is;
+        every-list = C.session-exactly;
+        from-any-book = C.session-from;
+        books = year-claims;
+      };
+      house-p = house-p;
+      rows = claim;
+      begin-of-p = begin-of-p;
+      book-of-p = book-of-p;
+    }

@@ -1,0 +1,90 @@
+-- The three demands for the engine as a whole: for the nine functions that C calls. A call returns and leaves what its function's definition says
+-- (specs/Zone.antt, specs/Book.antt): that is the contract's, which the check proves, as it proves that the call ends, and `Ties` (proofs/Ties.antt) says it of each contract. So the
+-- demands are stated of the definitions. Each line is a type that is proved elsewhere.
+use mathlib.Core.Path.{_≡_}
+use mathlib.Core.Bool.{true}
+use mathlib.Core.List.{List, _++_}
+use lib.ListN.{take}
+use Prim.Native.Nat.{ℕ}
+use Rattle.zone.specs.declared.record.zone_record.Zone.{Zone}
+use Rattle.zone.specs.Promise.{ok}
+use Rattle.zone.specs.Format.Head.{ReadHead, headOf}
+use Rattle.zone.specs.Record.BuildingElement.{standardCoefficients}
+use Rattle.zone.specs.Claims.Head.{HeadClaims, ZoneClaims, ConditionsClaims}
+use Rattle.zone.specs.Claims.Refusals.{IndicesOfZone}
+use Rattle.zone.specs.Claims.DemandClaims.{DemandCallSigns, HourCallSigns}
+use Rattle.zone.specs.Claims.StartUpClaims.{StartUp15, StartUpIs15, StartUpSettled, StartUpIsSettled}
+use Rattle.zone.specs.Claims.StateClaims.{UpdateStateTested, HourStateTested, StartUpStateTested}
+use Rattle.zone.specs.Claims.Reasons.{DemandReasons, HourReasons, UpdateReasons, StartUpReasons}
+use Rattle.zone.specs.Claims.HouseP.{HousePClaims, allHold, table}
+use Rattle.book.specs.Model.Plain.{empty, book, WellFormed}
+use Rattle.book.specs.Model.Calls as Calls
+use Rattle.book.specs.Model.Session.{Meets}
+use Rattle.book.specs.Model.Claims as Book
+use Rattle.book.specs.HouseP.{BeginOfP, BookOfP}
+use Rattle.book.specs.Year.{year}
+use Rattle.hem_zone.specs.Claims.{Claims}
+use Rattle.hem_zone.specs.Book.{Held, valuesOf, hemBegin, hemAppend, hemTakeUp}
+use Rattle.hem_zone.specs.BookTypes.{replyIn, cTypes}
+
+-- Ties is the record of proofs/Ties.antt, whose statement is to be read too: specs/ cannot name a function's contract.
+pub record Demand1 (Ties : Type 0) : Type 0 where
+  -- "Every byte string and every number is taken, every call ends, and checks for itself": no contract asks anything of its caller, and each ensures
+  -- that the returned number and every lent array are the definition's.
+  pub every-input : Ties
+  -- "A refusal carries its number, changes no lent byte, hands the temperatures back unchanged": 0 is returned exactly where a call is accepted; else
+  -- the number and index of a refusal that the paper has for this call, and then nothing is written.
+  pub refusals : Claims
+
+-- "Values equal BS EN ISO 52016-1's equations with one rounding per operation in the Rust's written order": what an accepted call writes is the value
+-- of `initNodeTemps`, `operative`, `demand`, `updateTemperatures`, `hourStep` (`writes` in Claims.antt), which are those equations. Of these:
+pub record Demand2 (z : Zone) : Type 0 where
+  -- a head's own bytes decide it, a zone given as a record is judged as its head would be, and an hour's conditions are read as they are written;
+  pub heads : HeadClaims
+  pub zone : ZoneClaims z
+  pub conditions : (bytes : List ℕ) → ConditionsClaims z bytes
+  -- refusals come only under the paper's conditions,
+  pub demand-reasons : DemandReasons standardCoefficients z
+  pub hour-reasons : HourReasons standardCoefficients z
+  pub update-reasons : UpdateReasons standardCoefficients z
+  pub start-up-reasons : StartUpReasons standardCoefficients z
+  pub indices : IndicesOfZone standardCoefficients z
+  -- heating ≥ 0 and cooling ≤ 0,
+  pub demand-signs : DemandCallSigns standardCoefficients z
+  pub hour-signs : HourCallSigns standardCoefficients z
+  -- 15 means that no pass up to the limit settled, and an answer is the temperatures before the first pass that did,
+  pub fifteen : StartUp15 standardCoefficients z
+  pub is-fifteen : StartUpIs15 standardCoefficients z
+  pub settled : StartUpSettled standardCoefficients z
+  pub is-settled : StartUpIsSettled standardCoefficients z
+  -- and a state that is handed back is taken by the next call.
+  pub update-state : UpdateStateTested standardCoefficients z
+  pub hour-state : HourStateTested standardCoefficients z
+  pub start-up-state : StartUpStateTested standardCoefficients z
+
+pub record Demand3 : Type 1 where
+  -- "For every list of calls on a year book each answer, the used bytes, count and temperatures are those of the plain book", for whatever `hem_begin`,
+  -- `hem_append` and `hem_take_up` returned and left in what they were lent;
+  pub whole-lists : Book.Demand3 year cTypes
+  -- what the definitions of these three functions leave is what such a list has of their calls;
+  pub begin-meets : (head buf : List ℕ) (held : Held) (c : ℕ) (out : List ℕ) (after : Held) → (c, (out, after)) ≡ hemBegin head buf held
+      → Meets year cTypes (c, after) out (Calls.begin year head (valuesOf held) buf)
+  pub append-meets : (used behind buf : List ℕ) (h : ReadHead Zone) (held : Held) (i : List ℕ) (c : ℕ) (out : List ℕ) (after : Held) → headOf used ≡ ok h
+      → (c, (out, after)) ≡ hemAppend (take (h .length) used ++ behind) buf held i
+      → Meets year cTypes (c, after) out (Calls.append year (h .zone) (valuesOf held) i buf)
+  pub take-up-is : (bytes : List ℕ) (held : Held) → hemTakeUp bytes held ≡ replyIn (Calls.takeUp year (valuesOf held) bytes)
+  -- the lists that this speaks of are all those whose calls may be made, starting with no book or with any that is held;
+  pub every-list : Book.SessionFrom year cTypes empty
+  pub from-any-book : (head : List ℕ) (is : List (year .Item)) → WellFormed year head is → Book.SessionFrom year cTypes (book head is)
+  -- and what else is claimed of books.
+  pub books : Book.Claims year
+
+pub record Demands (Ties : Type 0) : Type 1 where
+  pub demand-1 : Demand1 Ties
+  pub demand-2 : (z : Zone) → Demand2 z
+  pub demand-3 : Demand3
+  -- House P: its head, start-up and hour, and its marked rows; its book's begin, entry and cuts
+  pub house-p : HousePClaims
+  pub rows : allHold table ≡ true
+  pub begin-of-p : BeginOfP
+  pub book-of-p : BookOfP

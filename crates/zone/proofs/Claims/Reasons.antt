@@ -1,0 +1,113 @@
+-- Why each call is refused.
+use Prim.Native.Nat.{ℕ, zero, suc, _+_, _<_}
+use mathlib.Core.Path.{_≡_, refl}
+use mathlib.Core.Bool.{false, _&&_}
+use mathlib.Core.List.{List}
+use native.Mathlib.Omega.{arith}
+use lib.Ieee.{Float}
+use Rattle.solver.specs.Result.{Result, ok, refused, bind}
+use Rattle.solver.specs.Refusals.{RefusesOnly, accepts, refuses}
+use Rattle.solver.proofs.Laws.Refusals.{bind-refuses, refuses-also}
+use Rattle.zone.specs.declared.record.building_element.Coefficients.{Coefficients}
+use Rattle.zone.specs.declared.record.zone_record.Zone.{Zone}
+use Rattle.zone.specs.declared.format.conditions.Conditions.{Conditions}
+use Rattle.zone.specs.declared.calls.state.State.{State}
+use Rattle.zone.specs.Check.Ranges.{gainsRange, fractionRange, rateRange}
+use Rattle.zone.specs.Check.ZoneTest.{zoneTest}
+use Rattle.zone.specs.Calls.State.{slotsOf}
+use Rattle.zone.specs.Calls.Hour.{tested, step, demand, hourStep, updateTemperatures}
+use Rattle.zone.specs.Calls.StartUp.{startUpConditions, startState, close, pass, settle, initNodeTemps}
+use Rattle.zone.specs.Claims.HeadRefusals.{ZoneRefusal, zoneCounts, zoneValue, ConditionsRefusal, conditionsSize, conditionsRates, conditionsValue}
+use Rattle.zone.specs.Claims.StartUpClaims.{Unsettled, start, further}
+use Rattle.zone.specs.Claims.Reasons.{
+  AfterTests,
+  inTests,
+  after,
+  DemandReasons,
+  asked,
+  met,
+  HourReasons,
+  outOfRange,
+  inStep,
+  UpdateReasons,
+  StartUpReason,
+  inZone,
+  inPass,
+  inMeeting,
+  atLimit,
+  StartUpReasons,
+}
+use Rattle.zone.proofs.Claims.HeadRefusals.{zone-refusals}
+use Rattle.zone.proofs.Laws.Refusals as Laws
+
+-- what is refused, by the equation that says so
+by-equation : {P : ℕ → ℕ → Type 0} {A : Type 0} (x : Result A) → RefusesOnly P x → RefusesOnly (λ n i. P n i × (x ≡ refused n i)) x
+by-equation x (accepts a) = accepts a
+by-equation x (refuses p) = refuses (p, refl)
+
+-- 4 to 9
+Below10 : (number index : ℕ) → Type 0
+Below10 number index = number < 10
+
+zone-below : (number index : ℕ) → ZoneRefusal number index → number < 6
+zone-below number index (zoneCounts i h) = omega arith
+zone-below number index (zoneValue i h) = omega arith
+
+conditions-below : (number index : ℕ) → ConditionsRefusal number index → number < 10
+conditions-below number index conditionsSize = omega arith
+conditions-below number index conditionsRates = omega arith
+conditions-below number index (conditionsValue i h) = omega arith
+
+module _ (z : Zone) (s : State) (bytes : List ℕ) where
+  tests-below : RefusesOnly Below10 (tested z s bytes)
+  unfolding Below10
+  tests-below = Laws.tested-refuses (λ n i p. let l = zone-below n i p in omega arith) (omega arith) conditions-below z s bytes
+
+  tests-then : {A : Type 0} {P : Conditions → ℕ → ℕ → Type 0} (f : Conditions → Result A) → ((h : Conditions) → RefusesOnly (P h) (f h))
+      → RefusesOnly (AfterTests z s bytes P) (bind (tested z s bytes) f)
+  unfolding Below10
+  tests-then f q =
+      bind-refuses f (refuses-also (λ n i p. inTests (p .1) (p .0)) (by-equation (tested z s bytes) tests-below)) λ h e.
+      refuses-also (λ n i p. after e p) (q h)
+
+module _ (c : Coefficients) (z : Zone) where
+  pub demand-reasons : DemandReasons c z
+  unfolding demand
+  demand-reasons s bytes = tests-then z s bytes _ λ h. Laws.demand-reasons c z (slotsOf z s) h
+
+  pub hour-reasons : HourReasons c z
+  unfolding hourStep step
+  hour-reasons s bytes =
+      tests-then z s bytes _ λ h.
+      bind-refuses _ (refuses-also (λ n i p. asked p) (Laws.demand-reasons c z (slotsOf z s) h)) λ d e.
+      bind-refuses _ (bind-refuses _ (refuses-also (λ n i p. met e p) (Laws.solve-reasons c z (slotsOf z s) h _ _ _)) λ t _. accepts _) λ r _.
+      accepts _
+
+  pub update-reasons : UpdateReasons c z
+  unfolding updateTemperatures step
+  update-reasons s bytes gains fraction ach =
+      tests-then z s bytes _ λ h.
+      Laws.because (gainsRange gains && fractionRange fraction && rateRange ach) 9 0 _ outOfRange λ _.
+      bind-refuses _ (refuses-also (λ n i p. inStep p) (Laws.solve-reasons c z (slotsOf z s) h gains fraction ach)) λ t _. accepts _
+
+  -- one pass more
+  one-more : {n : ℕ} {t u u′ : List Float} → Unsettled c z n t u → pass c z u ≡ ok u′ → close z u u′ ≡ false → Unsettled c z (suc n) t u′
+  one-more start p q = further p q start
+  one-more (further p′ q′ rest) p q = further p′ q′ (one-more rest p q)
+
+  settle-reasons : (left n : ℕ) (t : List Float) → n + left ≡ z .«start_up_limit» → Unsettled c z n (slotsOf z (startState z)) t → RefusesOnly (StartUpReason c z) (settle c z left t)
+  unfolding settle pass
+  settle-reasons zero n t e u = let m : n ≡ z .«start_up_limit» = omega arith in refuses (atLimit (rw m at u))
+  settle-reasons (suc left) n t e u =
+      let less : n < z .«start_up_limit» = omega arith in
+      bind-refuses _
+      (bind-refuses _ (refuses-also (λ m i p. inPass u less p) (Laws.demand-reasons c z t (startUpConditions z))) λ d k.
+      refuses-also (λ m i p. inMeeting u less k p) (Laws.solve-reasons c z t (startUpConditions z) _ _ _)) λ t′ p.
+      Laws.choice-refuses (close z t t′) (λ _. accepts t) λ q. settle-reasons left (suc n) t′ (omega arith) (one-more u p q)
+
+  pub start-up-reasons : StartUpReasons c z
+  unfolding initNodeTemps
+  start-up-reasons =
+      bind-refuses _ (refuses-also (λ n i p. inZone (p .1) (zone-below n i (p .0))) (by-equation (zoneTest z) (zone-refusals z))) λ _ _.
+      bind-refuses _ (settle-reasons (z .«start_up_limit») 0 (slotsOf z (startState z)) (omega arith) start) λ t _.
+      accepts _

@@ -1,9 +1,0 @@
-use borrow.Author.Needs.{needs}
-use Rattle.zone.proofs.format.conditions.refuse.Statement.{statement}
-use Rattle.zone.proofs.format.conditions.refuse.Tie as tie
-
-returns : tie.Need-returns
-returns c = rw (c .no-conditions .ensures)
-
-pub refuse-spec : {M : Type 1} → statement M
-refuse-spec = tie.close (tie.spec (λ c κs. search needs) returns)

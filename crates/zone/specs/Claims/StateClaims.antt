@@ -1,0 +1,24 @@
+-- "node temperatures are a state by value, handed back by each call": a state that is handed back passes the next call's 6.
+use Prim.Native.Nat.{ℕ}
+use mathlib.Core.Path.{_≡_}
+use mathlib.Core.List.{List}
+use lib.Ieee.{Float}
+use Rattle.solver.specs.Result.{ok}
+use Rattle.zone.specs.declared.record.building_element.Coefficients.{Coefficients}
+use Rattle.zone.specs.declared.record.zone_record.Zone.{Zone}
+use Rattle.zone.specs.declared.physics.balance.HeatBalance.{HeatBalance}
+use Rattle.zone.specs.declared.calls.state.State.{State}
+use Rattle.zone.specs.Calls.State.{zoneAndStateTest}
+use Rattle.zone.specs.Calls.Hour.{updateTemperatures, HourResult, hourStep}
+use Rattle.zone.specs.Calls.StartUp.{initNodeTemps}
+
+module _ (c : Coefficients) (z : Zone) where
+  abbrev pub UpdateStateTested : Type 0
+  UpdateStateTested = (s : State) (bytes : List ℕ) (gains fraction ach : Float) (r : State × HeatBalance)
+      → updateTemperatures c z s bytes gains fraction ach ≡ ok r → zoneAndStateTest z (r .0) ≡ ok tt
+
+  abbrev pub HourStateTested : Type 0
+  HourStateTested = (s : State) (bytes : List ℕ) (r : HourResult) → hourStep c z s bytes ≡ ok r → zoneAndStateTest z (r .state) ≡ ok tt
+
+  abbrev pub StartUpStateTested : Type 0
+  StartUpStateTested = (s : State) → initNodeTemps c z ≡ ok s → zoneAndStateTest z s ≡ ok tt

@@ -1,0 +1,26 @@
+// The operative temperature of a state.
+use crate::calls::state::OperativeReply;
+use crate::calls::state::State;
+use crate::calls::state::slots_of;
+use crate::check::arguments::zone_and_state_test;
+use crate::physics::operative::temp_operative;
+use crate::record::zone_record::Verdict;
+use crate::record::zone_record::Zone;
+ghost use mathlib.Core.Path.{_≡_};
+ghost use Rattle.zone.specs.Calls.State.{operative};
+ghost use Rattle.zone.specs.Calls.Answers.{operativeReply};
+
+impl State {
+    pub fn temp_operative(self, z: Zone) -> OperativeReply
+        ensures { λ r. ⌜ r ≡ operativeReply (operative z self) ⌝ }
+    {
+        let verdict = zone_and_state_test(z, self);
+        match verdict {
+            Verdict::Refused { number, index } => OperativeReply::Refused { number, index },
+            Verdict::Accepted => {
+                let t = slots_of(z, self);
+                OperativeReply::Accepted(temp_operative(z, &t))
+            }
+        }
+    }
+}

@@ -1,0 +1,102 @@
+// The values that stand in the bytes of an hour's conditions.
+use crate::format::bytes::read_f64_be;
+use crate::format::bytes::read_f64s_be;
+use crate::format::conditions::AirChangesPerHourArgument;
+use crate::format::conditions::Conditions;
+use crate::format::decode::element_hour_at;
+use crate::format::decode::no_element_hour;
+use crate::format::layout::ELEMENT_HOUR_SIZE;
+use crate::format::layout::FIRST_ELEMENT_HOUR;
+use crate::format::layout::RATE_CODE;
+use crate::record::building_element::ElementHour;
+ghost use mathlib.Core.Path.{_≡_};
+ghost use mathlib.Core.List.{_++_};
+ghost use Prim.Native.Nat.{_+_, _-_, _≤_};
+ghost use lib.ListN.{length, replicate};
+ghost use Rattle.zone.specs.Format.Layout.{firstElementHour, conditionsLength};
+ghost use Rattle.zone.specs.Format.Decode.{noElementHour};
+ghost use Rattle.zone.specs.Format.Conditions.{achArgsAt, elementHoursAt, conditionsAt};
+ghost use Rattle.zone.specs.Inner.Format.{noConditions};
+
+// The rates in the 17 bytes from `at` on.
+fn ach_args_at(s: &[u8], at: usize) -> AirChangesPerHourArgument
+    requires { ⌜ at + 17 ≤ length (now s) ⌝ }
+    ensures { λ r. ⌜ r ≡ achArgsAt (now (s .entry)) at ⌝ }
+{
+    let first = read_f64_be(s, at + 1);
+    if s[at] == 0 {
+        AirChangesPerHourArgument::Cooling(first)
+    } else {
+        let second = read_f64_be(s, at + 9);
+        AirChangesPerHourArgument::TargetAndWindowsOpen(first, second)
+    }
+}
+
+// The parts of `n` elements.
+fn element_hours_at(s: &[u8], n: usize) -> [ElementHour; 24]
+    requires { ⌜ (n ≤ 24) × (conditionsLength n ≤ length (now s)) ⌝ }
+    ensures { λ r. ⌜ r ≡ elementHoursAt (now (s .entry)) firstElementHour n ++ replicate (24 - n) noElementHour ⌝ }
+{
+    let none = no_element_hour();
+    let mut out = [none; 24];
+    let mut i: usize = 0;
+    let mut p: usize = FIRST_ELEMENT_HOUR;
+    while i < n {
+        let h = element_hour_at(s, p);
+        out[i] = h;
+        p = p + ELEMENT_HOUR_SIZE;
+        i = i + 1;
+    }
+    out
+}
+
+// The conditions of `n` elements.
+pub fn conditions_at(s: &[u8], n: usize) -> Conditions
+    requires { ⌜ (n ≤ 24) × (conditionsLength n ≤ length (now s)) ⌝ }
+    ensures { λ r. ⌜ r ≡ conditionsAt (now (s .entry)) n ⌝ }
+{
+    let mut row = [0.0f64; 12];
+    read_f64s_be(&mut row, s, 0, 12);
+    let ach_args = ach_args_at(s, RATE_CODE);
+    let elements = element_hours_at(s, n);
+    Conditions {
+        delta_t_h: row[0],
+        temp_ext_air: row[1],
+        gains_internal: row[2],
+        gains_solar: row[3],
+        frac_convective_heat: row[4],
+        frac_convective_cool: row[5],
+        temp_setpnt_heat: row[6],
+        temp_setpnt_cool: row[7],
+        temp_setpnt_cool_vent: row[8],
+        avg_air_supply_temp: row[9],
+        gains_heat_cool_convective: row[10],
+        gains_heat_cool_radiative: row[11],
+        ach_args: ach_args,
+        elements: elements,
+    }
+}
+
+// What stands beside a refusal.
+pub fn no_conditions() -> Conditions
+    ensures { λ r. ⌜ r ≡ noConditions ⌝ }
+{
+    let none = no_element_hour();
+    let ach_args = AirChangesPerHourArgument::Cooling(0.0);
+    Conditions {
+        delta_t_h: 0.0,
+        temp_ext_air: 0.0,
+        gains_internal: 0.0,
+        gains_solar: 0.0,
+        frac_convective_heat: 0.0,
+        frac_convective_cool: 0.0,
+        temp_setpnt_heat: 0.0,
+        temp_setpnt_cool: 0.0,
+        temp_setpnt_cool_vent: 0.0,
+        avg_air_supply_temp: 0.0,
+        gains_heat_cool_convective: 0.0,
+        gains_heat_cool_radiative: 0.0,
+        ach_args: ach_args,
+        elements: [none; 24],
+    }
+}
