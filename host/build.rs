@@ -24,14 +24,22 @@ fn link(archive: &Path) {
         );
         return;
     }
-    println!("cargo:rustc-link-search=native={}", out.display());
-    println!("cargo:rustc-link-lib=static=hem_zone_engine");
+    println!("cargo::rustc-link-search=native={}", out.display());
+    println!("cargo::rustc-link-lib=static=hem_zone_engine");
+    tell(&out);
+}
+
+/// What a dependent's build script may ask for: DEP_HEM_ZONE_ROOT and DEP_HEM_ZONE_INCLUDE.
+fn tell(out: &Path) {
+    let here = PathBuf::from(env::var("CARGO_MANIFEST_DIR").expect("set by cargo"));
+    println!("cargo::metadata=root={}", out.display());
+    println!("cargo::metadata=include={}", here.join("../include").display());
 }
 
 fn main() {
     let archive = archive();
-    println!("cargo:rerun-if-env-changed=HEM_ZONE_LIB");
-    println!("cargo:rerun-if-changed={}", archive.display());
-    println!("cargo:rerun-if-changed=build.rs");
+    println!("cargo::rerun-if-env-changed=HEM_ZONE_LIB");
+    println!("cargo::rerun-if-changed={}", archive.display());
+    println!("cargo::rerun-if-changed=build.rs");
     link(&archive);
 }

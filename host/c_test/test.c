@@ -1,38 +1,12 @@
 /* Calls each function of hem_zone.h from C, accepted and refused. Every array is allocated with exactly
-   the size that the interface asks for, so that valgrind sees a byte read or written beyond it. */
+   the size that the interface asks for, so that valgrind sees a byte read or written beyond it.
+   test DIR also writes a house, two hours and their book to DIR, for the example year.c. */
 #include "hem_zone.h"
+#include "test.h"
 
 #include <stdio.h>
 #include <stdlib.h>
 #include <string.h>
-
-static int failures = 0;
-
-static void expect(const char *what, int holds) {
-    printf("%s %s\n", holds ? "ok  " : "FAIL", what);
-    failures += !holds;
-}
-
-static void *lent(size_t size) {
-    void *p = malloc(size ? size : 1);
-    if (!p) abort();
-    memset(p, 0xA5, size);
-    return p;
-}
-
-/* ---- big-endian bytes ---- */
-
-static uint8_t *put_double(uint8_t *at, double value) {
-    uint64_t bits;
-    memcpy(&bits, &value, sizeof bits);
-    for (int i = 0; i < 8; i++) at[i] = (uint8_t)(bits >> (56 - 8 * i));
-    return at + 8;
-}
-
-static uint8_t *put_doubles(uint8_t *at, const double *values, size_t count) {
-    for (size_t i = 0; i < count; i++) at = put_double(at, values[i]);
-    return at;
-}
 
 /* ---- House P of docs/FORMATS.md ---- */
 
@@ -126,6 +100,18 @@ static void test_hour_step(const uint8_t *p, const uint8_t *warm) {
     free(balance);
 }
 
+static void test_operative(const uint8_t *p) {
+    double *temps = twenty(), *operative = lent(sizeof *operative);
+    *operative = -1;
+    expect("operative refused: 6", hem_operative(p, HEAD, temps, NODES - 1, operative) == 6 && *operative == -1);
+    expect("operative refused: 1", hem_operative(p, HEAD - 1, temps, NODES, operative) == 1 && *operative == -1);
+    temps[1] = 10;
+    expect("operative accepted", hem_operative(p, HEAD, temps, NODES, operative) == 0);
+    expect("operative: 15 of air 20, surface 10", *operative == 15 && temps[2] == 20);
+    free(temps);
+    free(operative);
+}
+
 static void test_book(const uint8_t *p, const uint8_t *warm) {
     double *temps = lent(HEM_TEMPS * sizeof *temps);
     uint64_t nodes = 0, count = 99, used = 99;
@@ -161,14 +147,45 @@ static void test_index(uint8_t *p) {
     expect("head refused: 5 at element 1", HEM_NUMBER(answer) == 5 && HEM_INDEX(answer) == 1);
 }
 
-int main(void) {
+/* ---- files for year.c ---- */
+
+static void write_file(const char *dir, const char *name, const uint8_t *bytes, size_t size) {
+    char path[4096];
+    snprintf(path, sizeof path, "%s/%s", dir, name);
+    FILE *file = fopen(path, "wb");
+    if (!file || fwrite(bytes, 1, size, file) != size || fclose(file)) abort();
+}
+
+static void write_year(const char *dir, const uint8_t *p, const uint8_t *warm) {
+    uint8_t *year = lent(2 * HOUR), *book = lent(HEAD + 2 * ENTRY);
+    double *temps = lent(HEM_TEMPS * sizeof *temps);
+    uint64_t nodes = 0, count = 0, used = 0;
+    memcpy(year, warm, HOUR);
+    memcpy(year + HOUR, warm, HOUR);
+    hem_begin(p, HEAD, book, HEAD + 2 * ENTRY, temps, &nodes, &count, &used);
+    for (int i = 0; i < 2; i++) hem_append(p, HEAD, book, HEAD + 2 * ENTRY, temps, &nodes, &count, &used, warm, HOUR);
+    expect("a book of two hours", count == 2 && used == HEAD + 2 * ENTRY);
+    write_file(dir, "house.head", p, HEAD);
+    write_file(dir, "house.year", year, 2 * HOUR);
+    write_file(dir, "house.book", book, HEAD + 2 * ENTRY);
+    free(year);
+    free(book);
+    free(temps);
+}
+
+int main(int argc, char **argv) {
     uint8_t *p = house_p(), *warm = hour_p(21, 24), *crossed = hour_p(22, 21);
     test_head(p);
     test_start_up(p);
     test_demand(p, warm, crossed);
     test_update(p, warm);
     test_hour_step(p, warm);
+    test_operative(p);
     test_book(p, warm);
+    test_sizes();
+    test_places();
+    test_stack();
+    if (argc > 1) write_year(argv[1], p, warm);
     test_index(p);
     free(p);
     free(warm);

@@ -3,11 +3,14 @@ use crate::bytes::{f64_at, f64s_at, length_at};
 use crate::conditions::Conditions;
 use crate::explain::Given;
 use crate::ffi;
-use crate::refusal::Refusal;
+use crate::float;
+use crate::layout::{ENTRY_CONDITIONS, RESULTS};
+use crate::lent::{AsConditions, AsHead};
+use crate::refusal::{Reason, Refusal};
 use crate::zone::{judge, Demand, State, Zone};
 
 /// The most entries that a book holds: the hours of a leap year.
-pub const MOST_ENTRIES: usize = 8784;
+pub const MOST_ENTRIES: usize = ffi::ENTRIES;
 
 /// A book that the engine began or took up: every entry in it is what the hour step gives.
 #[derive(Clone, Debug)]
@@ -19,8 +22,9 @@ pub struct Book {
 }
 
 impl Book {
-    /// A book of no hours for the zone of this head.
-    pub fn begin(head: &[u8]) -> Result<Self, Refusal> {
+    /// A book of no hours for the zone of a head, given as a [`Head`](crate::Head), as a [`Zone`] or in
+    /// bytes.
+    pub fn begin(head: &(impl AsHead + ?Sized)) -> Result<Self, Refusal> {
         let zone = Zone::from_head(head)?;
         let mut bytes = vec![0; zone.head().len()];
         let mut state = State::empty();
@@ -46,6 +50,7 @@ impl Book {
     /// The book of these bytes, after each whole entry was calculated again and found to be the same.
     /// A rest that is shorter than an entry is left out: [`Book::bytes`] ends before it.
     pub fn take_up(bytes: &[u8]) -> Result<Self, Refusal> {
+        float::must_be_standard()?;
         let mut state = State::empty();
         let (mut count, mut used) = (0, 0);
         // SAFETY: `bytes` is valid for its length and only read, the state's array has 121 floats.
@@ -59,7 +64,7 @@ impl Book {
                 &mut used,
             )
         };
-        if answer & 255 == 18 {
+        if answer & 255 == Reason::FalseEntry as u32 {
             return Err(Refusal::new(answer, |_, index| false_entry(bytes, index as usize)));
         }
         judge(answer, &Given { head: bytes, ..Given::default() })?;
@@ -67,8 +72,11 @@ impl Book {
         Ok(Self { zone, bytes: bytes[..used as usize].to_vec(), state, count })
     }
 
-    /// Adds an hour and gives the bytes of its entry. A refusal leaves the book as it was.
-    pub fn append(&mut self, conditions: &[u8]) -> Result<&[u8], Refusal> {
+    /// Adds an hour, given as [`Conditions`] or in bytes, and gives the bytes of its entry. A refusal
+    /// leaves the book as it was.
+    pub fn append(&mut self, conditions: &(impl AsConditions + ?Sized)) -> Result<&[u8], Refusal> {
+        float::must_be_standard()?;
+        let conditions = &*conditions.conditions_bytes();
         let held = self.bytes.len();
         let mut used = held as u64;
         self.bytes.resize(held + self.zone.layout().entry_len(), 0);
@@ -148,12 +156,12 @@ impl<'a> Entry<'a> {
 
     /// Where the results begin: after length, version and conditions.
     fn results_at(&self) -> usize {
-        5 + self.zone.layout().conditions_len()
+        ENTRY_CONDITIONS + self.zone.layout().conditions_len()
     }
 
     /// Where the temperatures begin: after three floats, the trigger byte and the trigger rate.
     fn temps_at(&self) -> usize {
-        self.results_at() + 33
+        self.results_at() + RESULTS
     }
 
     /// All bytes of the entry, its length included.
@@ -163,7 +171,7 @@ impl<'a> Entry<'a> {
 
     /// The bytes of the conditions.
     pub fn conditions_bytes(&self) -> &'a [u8] {
-        &self.bytes[5..self.results_at()]
+        &self.bytes[ENTRY_CONDITIONS..self.results_at()]
     }
 
     /// The conditions by name.
@@ -188,9 +196,10 @@ impl<'a> Entry<'a> {
         State::new(&f64s_at(self.bytes, self.temps_at(), self.zone.layout().nodes()))
     }
 
-    /// The operative temperature after the hour, °C.
+    /// The operative temperature after the hour, °C. It is a NaN only where the calling thread has
+    /// changed its floating-point environment since the book was taken up.
     pub fn temp_operative(&self) -> f64 {
-        self.zone.temp_operative(&self.state())
+        self.zone.temp_operative(&self.state()).unwrap_or(f64::NAN)
     }
 }
 

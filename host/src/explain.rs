@@ -1,9 +1,10 @@
 //! The sentence of a refusal. Number and index are the engine's; here the value that it meant is
 //! looked up in the bytes, by the layouts and ranges of docs/FORMATS.md.
 use crate::bytes::{f64_at, length_at};
-use crate::conditions::RATE_CODE;
+use crate::conditions::{ElementHour, COMMON_SIZE, RATE_CODE};
 use crate::layout::{element_size, Layout, HEAD_COMMON};
 use crate::ranges::{plain, FRACTION, GAINS, OPEN, RATE};
+use crate::refusal::Reason;
 use crate::values::{conditions_values, head_values, treatments_text, Value};
 
 /// What a call was given, as far as its refusal may speak of it.
@@ -18,45 +19,28 @@ pub(crate) struct Given<'a> {
     pub(crate) own: Option<[f64; 3]>,
 }
 
-/// The sentence of a refusal with this number and index.
-pub(crate) fn sentence(number: u32, index: u32, given: &Given) -> String {
-    let found = match number {
-        1..=4 => head_form(number, index, given.head),
-        5 => first_fault(&head_values(given.head), index),
-        6 => state(given),
-        7 => conditions_size(given),
-        8 => conditions_form(given),
-        9 => conditions_fault(given, index),
-        10 | 11 => setpoints(number, given),
-        15 => passes(given.head),
+/// The sentence of a refusal for this reason, with this index.
+pub(crate) fn sentence(reason: Reason, index: u32, given: &Given) -> String {
+    let found = match reason {
+        Reason::HeadShort | Reason::HeadLength | Reason::HeadVersion | Reason::Structure => {
+            head_form(reason, index, given.head)
+        }
+        Reason::ZoneValue => first_fault(&head_values(given.head), index),
+        Reason::StateInvalid => state(given),
+        Reason::ConditionsSize => conditions_size(given),
+        Reason::ConditionsCode => conditions_form(given),
+        Reason::ConditionsValue => conditions_fault(given, index),
+        Reason::CoolingBelowHeating => setpoints("cooling", given.conditions, HOUR_SETPOINTS, 1),
+        Reason::VentilationBelowHeating if given.conditions.is_empty() => {
+            setpoints("first ventilation", given.head, HEAD_SETPOINTS, 1)
+        }
+        Reason::VentilationBelowHeating => {
+            setpoints("ventilation", given.conditions, HOUR_SETPOINTS, 2)
+        }
+        Reason::NotSettled => passes(given.head),
         _ => None,
     };
-    found.unwrap_or_else(|| at_element(index, general(number)))
-}
-
-/// What a number means, where no more is known.
-fn general(number: u32) -> &'static str {
-    match number {
-        1 => "the bytes of the head end early",
-        2 => "the head's length is wrong",
-        3 => "the head's version is unknown",
-        4 => "a basis, count, kind or treatment count of the head is bad",
-        5 => "a value of the head is out of range",
-        6 => "the node temperatures do not fit the head or are beyond ±1,000,000 °C",
-        7 => "the conditions have a wrong size",
-        8 => "the rate code or an open bit of the conditions is bad",
-        9 => "a value of the conditions is out of range",
-        10 => "the cooling setpoint is below the heating setpoint",
-        11 => "the ventilation setpoint is below the heating setpoint",
-        12 => "the heat balance has no solution: a divisor is zero or not finite",
-        13 => "a node temperature would not be finite or would lie beyond ±1,000,000 °C",
-        14 => "heating or cooling would not change the temperature, so no demand can be found",
-        15 => "start-up did not settle within its limit of passes",
-        16 => "the buffer of the book is too short",
-        17 => "a book holds at most 8,784 entries",
-        18 => "an entry is not what its hour gives",
-        _ => "the engine refused the call",
-    }
+    found.unwrap_or_else(|| at_element(index, &reason.to_string()))
 }
 
 /// The first value out of its range, of those that have this index.
@@ -76,18 +60,22 @@ fn at_element(index: u32, text: &str) -> String {
 
 // ---- heads ----
 
-fn head_form(number: u32, index: u32, head: &[u8]) -> Option<String> {
+fn head_form(reason: Reason, index: u32, head: &[u8]) -> Option<String> {
     if head.len() < 4 {
         return Some(format!("the head has {} bytes and not even its 4-byte length", head.len()));
     }
     let (length, body) = (length_at(head, 0), &head[4..]);
-    match number {
-        1 => Some(format!("the head ends early: {} bytes of {} are there", body.len(), length)),
-        2 if !(176..=4157).contains(&length) => {
+    match reason {
+        Reason::HeadShort => {
+            Some(format!("the head ends early: {} bytes of {} are there", body.len(), length))
+        }
+        Reason::HeadLength if !(176..=4157).contains(&length) => {
             Some(format!("the head's length is {length}, outside 176 to 4,157"))
         }
-        2 => Some(format!("the head's length is {length}, which is not what its elements take")),
-        3 => Some(format!("the head's version is {}, not 1", body.first()?)),
+        Reason::HeadLength => {
+            Some(format!("the head's length is {length}, which is not what its elements take"))
+        }
+        Reason::HeadVersion => Some(format!("the head's version is {}, not 1", body.first()?)),
         _ if index == 0 => basis_or_count(body),
         _ => kind_or_treatments(body, index),
     }
@@ -149,12 +137,12 @@ fn conditions_form(given: &Given) -> Option<String> {
     if code > 1 {
         return Some(format!("the rate code is {code}, not 0 (fixed) or 1 (target and open)"));
     }
-    if code == 0 && given.conditions.get(105..113)? != [0; 8] {
+    if code == 0 && given.conditions.get(RATE_CODE + 9..COMMON_SIZE)? != [0; 8] {
         return Some("a fixed rate has a second rate that is not all zero bits".into());
     }
     let layout = Layout::of_accepted(given.head);
     layout.treatments().iter().enumerate().find_map(|(i, &treatments)| {
-        let open = *given.conditions.get(113 + 41 * i + 40)?;
+        let open = *given.conditions.get(COMMON_SIZE + ElementHour::SIZE * (i + 1) - 1)?;
         let text = format!("it has {}, but open is {open}", treatments_text(treatments));
         (!OPEN[treatments.min(4)].contains(open as f64)).then(|| at_element(i as u32 + 1, &text))
     })
@@ -177,19 +165,20 @@ fn conditions_fault(given: &Given, index: u32) -> Option<String> {
     first_fault(&values, index)
 }
 
-/// Of an hour, or of start-up where there are no conditions.
-fn setpoints(number: u32, given: &Given) -> Option<String> {
-    let (name, bytes, heating, other) = match (number, given.conditions) {
-        (10, hour) => ("cooling", hour, 48, 56),
-        (_, []) => ("first ventilation", given.head, 41, 49),
-        (_, hour) => ("ventilation", hour, 48, 64),
-    };
+/// Where the heating setpoint stands in the conditions of an hour; cooling and ventilation follow it.
+const HOUR_SETPOINTS: usize = 48;
+/// Where the first set temperature stands in a head; the first ventilation setpoint follows it.
+const HEAD_SETPOINTS: usize = 41;
+
+/// The heating setpoint at `at`, and the one so many places behind it that lies below.
+fn setpoints(name: &str, bytes: &[u8], at: usize, behind: usize) -> Option<String> {
+    let other = at + 8 * behind;
     if bytes.len() < other + 8 {
         return None;
     }
     Some(format!(
         "the {name} setpoint {} °C is below the heating setpoint {} °C",
         plain(f64_at(bytes, other)),
-        plain(f64_at(bytes, heating))
+        plain(f64_at(bytes, at))
     ))
 }

@@ -1,17 +1,20 @@
 //! The C interface as it stands in `include/hem_zone.h`, where each function is described.
 //!
-//! Every pointer must be valid for the length beside it (121 for `temps`, 5 for `out`, 25 for
-//! `balance`), and what a call writes may overlap nothing else that it is given.
+//! Every pointer must be aligned and valid for the length beside it (121 for `temps`, 5 for `out`, 25
+//! for `balance`), what it leads to must be initialised, and what a call writes may overlap nothing else
+//! that it is given. The calling thread rounds to nearest with denormal numbers, and has 96 KB of stack.
 
-/// Length of every array of node temperatures.
+/// Length of every array of node temperatures (`HEM_TEMPS`).
 pub const TEMPS: usize = 121;
-/// Length of the array of a demand.
+/// Length of the array of a demand (`HEM_OUT`).
 pub const OUT: usize = 5;
-/// Length of the array of a heat balance.
+/// Length of the array of a heat balance (`HEM_BALANCE`).
 pub const BALANCE: usize = 25;
+/// The most entries that a book holds (`HEM_ENTRIES`).
+pub const ENTRIES: usize = 8784;
 
 #[allow(missing_docs)]
-extern "C" {
+unsafe extern "C" {
     pub fn hem_head(head: *const u8, head_len: usize) -> u32;
 
     pub fn hem_start_up(head: *const u8, head_len: usize, temps: *mut f64, nodes: *mut u64) -> u32;
@@ -48,6 +51,14 @@ extern "C" {
         cond_len: usize,
         out: *mut f64,
         balance: *mut f64,
+    ) -> u32;
+
+    pub fn hem_operative(
+        head: *const u8,
+        head_len: usize,
+        temps: *const f64,
+        nodes: u64,
+        operative: *mut f64,
     ) -> u32;
 
     pub fn hem_begin(

@@ -1,6 +1,9 @@
 //! A zone by name, and the bytes of its head.
-use crate::bytes::{count_byte, put_f64s};
+use crate::bytes::{count_byte, f64s_at, put_f64s};
 use crate::conditions::ElementHour;
+use crate::layout::{element_size, nodes_and_gaps, HEAD_COMMON, TRANSPARENT};
+use crate::refusal::Refusal;
+use crate::zone::Zone;
 
 /// Which temperature the setpoints are held against.
 #[derive(Clone, Copy, Debug, PartialEq)]
@@ -61,8 +64,24 @@ impl Kind {
         }
     }
 
+    /// The kind of a number and the values of its nodes, which are as many as the kind takes.
+    pub(crate) fn of_parts(number: u8, k_pli: &[f64], h_pli: &[f64], delta_r: &[f64]) -> Self {
+        if number == TRANSPARENT {
+            let (k_pli, delta_r) = (array(k_pli), delta_r.to_vec());
+            return Self::Transparent(Pane { k_pli, h_pli: h_pli[0], delta_r });
+        }
+        let layers = Layers { k_pli: array(k_pli), h_pli: array(h_pli) };
+        match number {
+            0 => Self::Opaque(layers),
+            1 => Self::AdjacentConditionedSpace(layers),
+            2 => Self::AdjacentUnconditionedSpaceSimple(layers),
+            3 => Self::Ground(layers),
+            _ => Self::PartyWall(layers),
+        }
+    }
+
     /// Heat capacities, conductances and treatments, in the order of the bytes.
-    fn parts(&self) -> (&[f64], &[f64], &[f64]) {
+    pub(crate) fn parts(&self) -> (&[f64], &[f64], &[f64]) {
         match self {
             Kind::Transparent(pane) => {
                 (&pane.k_pli, std::slice::from_ref(&pane.h_pli), &pane.delta_r)
@@ -74,6 +93,11 @@ impl Kind {
             | Kind::PartyWall(layers) => (&layers.k_pli, &layers.h_pli, &[]),
         }
     }
+}
+
+/// The first values of a slice that has enough of them.
+fn array<const N: usize>(values: &[f64]) -> [f64; N] {
+    std::array::from_fn(|j| values[j])
 }
 
 /// One element of the zone's envelope.
@@ -100,26 +124,56 @@ pub struct BuildingElement {
 }
 
 impl BuildingElement {
+    /// The seven values before the nodes, in the order of the bytes.
+    pub(crate) fn values(&self) -> [f64; 7] {
+        [
+            self.area,
+            self.pitch,
+            self.h_ce,
+            self.h_re,
+            self.h_ri,
+            self.solar_absorption_coeff,
+            self.therm_rad_to_sky,
+        ]
+    }
+
+    pub(crate) fn of_values(kind: Kind, values: [f64; 7], first_hour: ElementHour) -> Self {
+        let [area, pitch, h_ce, h_re, h_ri, solar_absorption_coeff, therm_rad_to_sky] = values;
+        Self {
+            kind,
+            area,
+            pitch,
+            h_ce,
+            h_re,
+            h_ri,
+            solar_absorption_coeff,
+            therm_rad_to_sky,
+            first_hour,
+        }
+    }
+
     fn put(&self, bytes: &mut Vec<u8>) {
         let (k_pli, h_pli, delta_r) = self.kind.parts();
         bytes.push(self.kind.number());
         bytes.push(count_byte(delta_r.len()));
-        put_f64s(
-            bytes,
-            &[
-                self.area,
-                self.pitch,
-                self.h_ce,
-                self.h_re,
-                self.h_ri,
-                self.solar_absorption_coeff,
-                self.therm_rad_to_sky,
-            ],
-        );
+        put_f64s(bytes, &self.values());
         put_f64s(bytes, k_pli);
         put_f64s(bytes, h_pli);
         put_f64s(bytes, delta_r);
         self.first_hour.put(bytes);
+    }
+
+    /// The element that stands at the beginning of bytes that the engine accepted.
+    fn of_accepted(bytes: &[u8]) -> Self {
+        let (number, treatments) = (bytes[0], bytes[1] as usize);
+        let (nodes, gaps) = nodes_and_gaps(number);
+        let floats = f64s_at(bytes, 2, 7 + nodes + gaps + treatments);
+        let (values, parts) = floats.split_at(7);
+        let (k_pli, parts) = parts.split_at(nodes);
+        let (h_pli, delta_r) = parts.split_at(gaps);
+        let hour = &bytes[element_size(number, treatments) - ElementHour::SIZE..];
+        let kind = Kind::of_parts(number, k_pli, h_pli, delta_r);
+        Self::of_values(kind, array(values), ElementHour::read(hour))
     }
 }
 
@@ -147,22 +201,66 @@ pub struct Head {
 }
 
 impl Head {
+    /// The six values after the start-up limit, in the order of the bytes.
+    pub(crate) fn values(&self) -> [f64; 6] {
+        [
+            self.useful_area,
+            self.volume,
+            self.tb_heat_trans_coeff,
+            self.temp_ext_air_init,
+            self.temp_setpnt_init,
+            self.temp_setpnt_vent_init,
+        ]
+    }
+
+    pub(crate) fn of_values(
+        temp_setpnt_basis: Basis,
+        start_up_limit: u16,
+        values: [f64; 6],
+        elements: Vec<BuildingElement>,
+    ) -> Self {
+        let [useful_area, volume, tb_heat_trans_coeff, temp_ext_air_init, temp_setpnt_init, vent] =
+            values;
+        Self {
+            temp_setpnt_basis,
+            start_up_limit,
+            useful_area,
+            volume,
+            tb_heat_trans_coeff,
+            temp_ext_air_init,
+            temp_setpnt_init,
+            temp_setpnt_vent_init: vent,
+            elements,
+        }
+    }
+
+    /// The head of these bytes, if the engine accepts them. Bytes after the head's own length are not
+    /// looked at.
+    pub fn from_bytes(bytes: &[u8]) -> Result<Self, Refusal> {
+        Zone::from_head(bytes).map(|zone| Self::of_accepted(zone.head()))
+    }
+
+    /// The head of bytes that the engine accepted.
+    pub(crate) fn of_accepted(bytes: &[u8]) -> Self {
+        let body = &bytes[4..];
+        let basis = if body[1] == 0 { Basis::Air } else { Basis::Operative };
+        let limit = u16::from_be_bytes([body[3], body[4]]);
+        let mut rest = &body[HEAD_COMMON..];
+        let elements = (0..body[2]).map(|_| {
+            let (element, after) = rest.split_at(element_size(rest[0], rest[1] as usize));
+            rest = after;
+            BuildingElement::of_accepted(element)
+        });
+        let elements = elements.collect();
+        Self::of_values(basis, limit, array(&f64s_at(body, 5, 6)), elements)
+    }
+
     /// The bytes of the head, its 4-byte length first. Whether they are accepted is for
     /// [`Zone::from_head`](crate::Zone::from_head) to say.
     pub fn to_bytes(&self) -> Vec<u8> {
         let mut body = vec![1, self.temp_setpnt_basis as u8, count_byte(self.elements.len())];
         body.extend(self.start_up_limit.to_be_bytes());
-        put_f64s(
-            &mut body,
-            &[
-                self.useful_area,
-                self.volume,
-                self.tb_heat_trans_coeff,
-                self.temp_ext_air_init,
-                self.temp_setpnt_init,
-                self.temp_setpnt_vent_init,
-            ],
-        );
+        put_f64s(&mut body, &self.values());
         for element in &self.elements {
             element.put(&mut body);
         }

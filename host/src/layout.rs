@@ -4,6 +4,10 @@ use crate::conditions::{ElementHour, COMMON_SIZE};
 
 /// Bytes of a head before its first element, counted from after the length.
 pub(crate) const HEAD_COMMON: usize = 53;
+/// Bytes of an entry before its conditions: length and version.
+pub(crate) const ENTRY_CONDITIONS: usize = 5;
+/// Bytes of the results before the temperatures: heating, cooling, rate, trigger and its rate.
+pub(crate) const RESULTS: usize = 33;
 /// The number of the transparent kind.
 pub(crate) const TRANSPARENT: u8 = 4;
 
@@ -28,8 +32,6 @@ pub(crate) fn element_size(kind: u8, treatments: usize) -> usize {
 pub struct Layout {
     head_len: usize,
     useful_area: f64,
-    areas: Vec<f64>,
-    inner_surfaces: Vec<usize>,
     treatments: Vec<usize>,
     nodes: usize,
 }
@@ -41,8 +43,6 @@ impl Layout {
         let mut layout = Self {
             head_len: 4 + length_at(head, 0),
             useful_area: f64_at(body, 5),
-            areas: vec![],
-            inner_surfaces: vec![],
             treatments: vec![],
             nodes: 0,
         };
@@ -50,8 +50,6 @@ impl Layout {
         for _ in 0..body[2] {
             let (kind, treatments) = (body[at], body[at + 1] as usize);
             layout.nodes += nodes_and_gaps(kind).0;
-            layout.areas.push(f64_at(body, at + 2));
-            layout.inner_surfaces.push(layout.nodes - 1);
             layout.treatments.push(treatments);
             at += element_size(kind, treatments);
         }
@@ -71,7 +69,7 @@ impl Layout {
 
     /// Number of elements.
     pub fn elements(&self) -> usize {
-        self.areas.len()
+        self.treatments.len()
     }
 
     /// Number of node temperatures, the air included.
@@ -86,32 +84,11 @@ impl Layout {
 
     /// Bytes of an entry, its 4-byte length included.
     pub fn entry_len(&self) -> usize {
-        4 + 147 + ElementHour::SIZE * self.elements() + 8 * self.nodes
+        ENTRY_CONDITIONS + self.conditions_len() + RESULTS + 8 * self.nodes
     }
 
     /// Treatments of each element.
     pub(crate) fn treatments(&self) -> &[usize] {
         &self.treatments
     }
-
-    /// Operative temperature of node temperatures (ISO 52016-1, 6.5.5.3): the mean of the air and of
-    /// the inner surfaces weighted by area, summed as the original does.
-    pub(crate) fn temp_operative(&self, temps: &[f64]) -> f64 {
-        let surfaces = self.areas.iter().zip(&self.inner_surfaces);
-        let weighted = sum2(surfaces.map(|(area, &node)| area * temps[node]));
-        let temp_mean_radiant = weighted / sum2(self.areas.iter().copied());
-        (temps[self.nodes - 1] + temp_mean_radiant) / 2.0
-    }
-}
-
-/// The original's `Sum2`: a sum that carries its rounding along.
-pub(crate) fn sum2(terms: impl Iterator<Item = f64>) -> f64 {
-    let (mut sum, mut correction) = (0.0, 0.0);
-    for term in terms {
-        let next = sum + term;
-        let gained = next - sum;
-        correction += (sum - (next - gained)) + (term - gained);
-        sum = next;
-    }
-    sum + correction
 }

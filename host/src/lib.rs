@@ -9,33 +9,39 @@
 //! - [`State`] holds the node temperatures, handed back by each call.
 //! - [`Book`] is a year: a head and the entry of each hour, which can be written to a file as it
 //!   grows and taken up again after a power cut.
-//! - [`Refusal`] says why the engine turned a call away: its number, its index and one sentence.
+//! - `text` (feature `text`) reads and writes heads as TOML and hours as CSV.
+//! - [`Refusal`] says why a call was turned away: its [`Reason`], number and index, and one sentence.
+//!
+//! The engine's values are those of rounding to nearest with denormal numbers. A thread that has another
+//! floating-point environment is refused ([`Reason::FloatEnvironment`]) before the engine is called.
 //!
 //! ```
-//! use hem_zone::{samples, Book};
+//! use hem_zone::{Book, samples};
 //!
-//! let house = samples::house_p();
-//! let mut book = Book::begin(&house.to_bytes())?;
-//! book.append(&samples::hour_p(21.0, 24.0).to_bytes())?;
+//! let mut book = Book::begin(&samples::house_p())?;
+//! book.append(&samples::hour_p(21.0, 24.0))?;
 //! assert_eq!(book.entry(0).unwrap().demand().space_heat_demand, 0.144);
 //!
 //! let again = Book::take_up(book.bytes())?;
 //! assert_eq!(again.state(), book.state());
 //! # Ok::<(), hem_zone::Refusal>(())
 //! ```
-#![warn(missing_docs)]
-
 mod book;
 mod bytes;
 mod conditions;
 mod explain;
 pub mod ffi;
+mod float;
 mod head;
 mod heat_balance;
 mod layout;
+mod lent;
+mod names;
 mod ranges;
 mod refusal;
 pub mod samples;
+#[cfg(feature = "text")]
+pub mod text;
 mod values;
 mod zone;
 
@@ -46,5 +52,6 @@ pub use heat_balance::{
     HeatBalance, HeatBalanceAirNode, HeatBalanceExternalBoundary, HeatBalanceInternalBoundary,
 };
 pub use layout::Layout;
-pub use refusal::Refusal;
+pub use lent::{AsConditions, AsHead};
+pub use refusal::{Reason, Refusal};
 pub use zone::{Demand, State, Zone};

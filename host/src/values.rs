@@ -1,7 +1,10 @@
 //! The values of heads and conditions by name, each with its range, in the order of the bytes.
 use crate::bytes::f64_at;
 use crate::layout::nodes_and_gaps;
-use crate::ranges::*;
+use crate::names::{self, Named};
+#[cfg(feature = "text")]
+use crate::ranges::plain;
+use crate::ranges::{Range, OPEN, RATE};
 
 /// A value of a head or of conditions: whose it is (element from 1, or 0), its name and its range.
 pub(crate) struct Value {
@@ -9,6 +12,18 @@ pub(crate) struct Value {
     pub(crate) name: String,
     pub(crate) value: f64,
     pub(crate) range: Range,
+}
+
+impl Value {
+    /// What is said of a value that is out of its range.
+    #[cfg(feature = "text")]
+    pub(crate) fn sentence(&self) -> String {
+        let at = match self.index {
+            0 => String::new(),
+            element => format!("element {element}: "),
+        };
+        format!("{at}{} is {}, out of its range {}", self.name, plain(self.value), self.range)
+    }
 }
 
 /// Reads values one after the other, and stops where the bytes end.
@@ -32,31 +47,21 @@ impl<'a> Walk<'a> {
         self.at += 8;
     }
 
-    fn floats(&mut self, names: &[(&str, Range)]) {
-        for (name, range) in names {
-            self.float(*name, *range);
+    fn floats(&mut self, values: &[Named]) {
+        for value in values {
+            self.float(value.name, value.range);
         }
     }
 
-    fn row(&mut self, name: &str, count: usize, range: Range) {
+    fn row(&mut self, of: &Named, count: usize) {
         for j in 0..count {
-            self.float(format!("{name}[{j}]"), range);
+            self.float(format!("{}[{j}]", of.name), of.range);
         }
     }
 
     fn byte(&mut self) -> Option<u8> {
         self.at += 1;
         self.bytes.get(self.at - 1).copied()
-    }
-
-    fn element_hour(&mut self) {
-        self.floats(&[
-            ("temp_ext", TEMPERATURE),
-            ("i_sol_dir", IRRADIANCE),
-            ("i_sol_dif", IRRADIANCE),
-            ("f_sh_dir", FRACTION),
-            ("f_sh_dif", FRACTION),
-        ]);
     }
 
     fn open(&mut self, treatments: usize) {
@@ -81,15 +86,9 @@ pub(crate) fn head_values(head: &[u8]) -> Vec<Value> {
     let mut walk = Walk::new(head, 7);
     let (high, low) = (walk.byte().unwrap_or(0), walk.byte().unwrap_or(0));
     let limit = u16::from_be_bytes([high, low]) as f64;
-    walk.values.push(Value { index: 0, name: "start_up_limit".into(), value: limit, range: LIMIT });
-    walk.floats(&[
-        ("useful_area", AREA),
-        ("volume", AREA),
-        ("tb_heat_trans_coeff", COEFFICIENT),
-        ("temp_ext_air_init", TEMPERATURE),
-        ("temp_setpnt_init", HEATING_SETPOINT),
-        ("temp_setpnt_vent_init", OTHER_SETPOINT),
-    ]);
+    let Named { name, range, .. } = names::START_UP_LIMIT;
+    walk.values.push(Value { index: 0, name: name.into(), value: limit, range });
+    walk.floats(&names::HEAD);
     for _ in 0..head.get(6).copied().unwrap_or(0) {
         walk.index += 1;
         head_element(&mut walk);
@@ -100,46 +99,28 @@ pub(crate) fn head_values(head: &[u8]) -> Vec<Value> {
 fn head_element(walk: &mut Walk) {
     let (Some(kind), Some(treatments)) = (walk.byte(), walk.byte()) else { return };
     let (nodes, gaps) = nodes_and_gaps(kind);
-    walk.floats(&[
-        ("area", AREA),
-        ("pitch", PITCH),
-        ("h_ce", COEFFICIENT),
-        ("h_re", COEFFICIENT),
-        ("h_ri", COEFFICIENT),
-        ("solar_absorption_coeff", FRACTION),
-        ("therm_rad_to_sky", SKY),
-    ]);
-    walk.row("k_pli", nodes, K_PLI);
-    walk.row("h_pli", gaps, H_PLI);
-    walk.row("delta_r", treatments as usize, DELTA_R);
-    walk.element_hour();
+    walk.floats(&names::ELEMENT);
+    walk.row(&names::CAPACITY, nodes);
+    walk.row(&names::CONDUCTANCE, gaps);
+    walk.row(&names::TREATMENT, treatments as usize);
+    walk.floats(&names::ELEMENT_HOUR);
     walk.open(treatments as usize);
 }
 
 /// The values of conditions.
 pub(crate) fn conditions_values(bytes: &[u8]) -> Vec<Value> {
     let mut walk = Walk::new(bytes, 0);
-    walk.floats(&[
-        ("delta_t_h", HOUR_LENGTH),
-        ("temp_ext_air", TEMPERATURE),
-        ("gains_internal", GAINS),
-        ("gains_solar", GAINS),
-        ("frac_convective_heat", FRACTION),
-        ("frac_convective_cool", FRACTION),
-        ("temp_setpnt_heat", HEATING_SETPOINT),
-        ("temp_setpnt_cool", OTHER_SETPOINT),
-        ("temp_setpnt_cool_vent", OTHER_SETPOINT),
-        ("avg_air_supply_temp", TEMPERATURE),
-        ("gains_heat_cool_convective", GAINS),
-        ("gains_heat_cool_radiative", GAINS),
-    ]);
+    walk.floats(&names::HOUR);
     match walk.byte() {
-        Some(0) => walk.floats(&[("ach_cooling", RATE), ("the unused second rate", RATE)]),
-        _ => walk.floats(&[("ach_target", RATE), ("ach_windows_open", RATE)]),
+        Some(0) => {
+            walk.floats(&names::RATES[..1]);
+            walk.float("the unused second rate", RATE);
+        }
+        _ => walk.floats(&names::RATES[1..]),
     }
     while walk.at < bytes.len() {
         walk.index += 1;
-        walk.element_hour();
+        walk.floats(&names::ELEMENT_HOUR);
         walk.byte();
     }
     walk.values

@@ -1,10 +1,12 @@
 //! A zone, its node temperatures and the calls on them.
 use crate::explain::{sentence, Given};
 use crate::ffi;
+use crate::float;
 use crate::head::Head;
 use crate::heat_balance::HeatBalance;
 use crate::layout::Layout;
-use crate::refusal::Refusal;
+use crate::lent::{AsConditions, AsHead};
+use crate::refusal::{Reason, Refusal};
 use std::fmt;
 
 /// The node temperatures of a zone, °C: element by element from the outer to the inner surface, then
@@ -17,7 +19,8 @@ pub struct State {
 
 impl State {
     /// A state of these temperatures. One of another number than the zone has nodes is refused by
-    /// the calls, with 6.
+    /// the calls, with 6. No zone has more than 121: of a longer list the first 121 are kept, and the
+    /// number that it had.
     pub fn new(temps: &[f64]) -> Self {
         let mut state = Self { nodes: temps.len() as u64, ..Self::empty() };
         let held = temps.len().min(ffi::TEMPS);
@@ -34,9 +37,11 @@ impl State {
         &self.temps[..(self.nodes as usize).min(ffi::TEMPS)]
     }
 
-    /// The temperature of the air, which is the last node.
+    /// The temperature of the air, which is the last node; NaN where that is not held, as in a state of
+    /// no temperatures or of more than 121.
     pub fn temp_internal_air(&self) -> f64 {
-        self.temps().last().copied().unwrap_or(f64::NAN)
+        let air = (self.nodes as usize).checked_sub(1);
+        air.and_then(|node| self.temps.get(node)).copied().unwrap_or(f64::NAN)
     }
 }
 
@@ -89,13 +94,21 @@ pub struct Zone {
 pub(crate) fn judge(answer: u32, given: &Given) -> Result<(), Refusal> {
     match answer {
         0 => Ok(()),
-        _ => Err(Refusal::new(answer, |number, index| sentence(number, index, given))),
+        _ => Err(Refusal::new(answer, |number, index| {
+            sentence(Reason::of_number(number), index, given)
+        })),
     }
 }
 
 impl Zone {
-    /// The zone of these bytes. Bytes after the head's own length are not kept.
-    pub fn from_head(bytes: &[u8]) -> Result<Self, Refusal> {
+    /// The zone of a head, given as a [`Head`] or in bytes. Bytes after the head's own length are not
+    /// kept.
+    pub fn from_head(head: &(impl AsHead + ?Sized)) -> Result<Self, Refusal> {
+        Self::of_bytes(&head.head_bytes())
+    }
+
+    fn of_bytes(bytes: &[u8]) -> Result<Self, Refusal> {
+        float::must_be_standard()?;
         // SAFETY: `bytes` is valid for its length and only read.
         let answer = unsafe { ffi::hem_head(bytes.as_ptr(), bytes.len()) };
         judge(answer, &Given { head: bytes, ..Given::default() })?;
@@ -105,7 +118,7 @@ impl Zone {
 
     /// The zone that a [`Head`] describes.
     pub fn new(head: &Head) -> Result<Self, Refusal> {
-        Self::from_head(&head.to_bytes())
+        Self::from_head(head)
     }
 
     /// The bytes of the head.
@@ -120,6 +133,7 @@ impl Zone {
 
     /// The settled node temperatures before the first hour.
     pub fn start_up(&self) -> Result<State, Refusal> {
+        float::must_be_standard()?;
         let mut state = State::empty();
         // SAFETY: the head is valid for its length, the state's array has 121 floats.
         let answer = unsafe {
@@ -144,12 +158,15 @@ impl Zone {
         }
     }
 
-    /// The demand of an hour, from the node temperatures before it and the bytes of its conditions.
+    /// The demand of an hour, from the node temperatures before it and its conditions, given as
+    /// [`Conditions`](crate::Conditions) or in bytes.
     pub fn space_heat_cool_demand(
         &self,
         before: &State,
-        conditions: &[u8],
+        conditions: &(impl AsConditions + ?Sized),
     ) -> Result<Demand, Refusal> {
+        float::must_be_standard()?;
+        let conditions = &*conditions.conditions_bytes();
         let mut out = [0.0; ffi::OUT];
         // SAFETY: byte strings are valid for their lengths, the arrays have 121 and 5 floats, and
         // what is written is borrowed from nowhere else.
@@ -173,11 +190,13 @@ impl Zone {
     pub fn update_temperatures(
         &self,
         before: &State,
-        conditions: &[u8],
+        conditions: &(impl AsConditions + ?Sized),
         gains_heat_cool: f64,
         frac_convective: f64,
         ach: f64,
     ) -> Result<(State, HeatBalance), Refusal> {
+        float::must_be_standard()?;
+        let conditions = &*conditions.conditions_bytes();
         let mut after = before.clone();
         let mut balance = [0.0; ffi::BALANCE];
         // SAFETY: byte strings are valid for their lengths, the arrays have 121 and 25 floats, and
@@ -205,8 +224,10 @@ impl Zone {
     pub fn hour_step(
         &self,
         before: &State,
-        conditions: &[u8],
+        conditions: &(impl AsConditions + ?Sized),
     ) -> Result<(State, Demand, HeatBalance), Refusal> {
+        float::must_be_standard()?;
+        let conditions = &*conditions.conditions_bytes();
         let mut after = before.clone();
         let mut out = [0.0; ffi::OUT];
         let mut balance = [0.0; ffi::BALANCE];
@@ -228,12 +249,23 @@ impl Zone {
         Ok((after, Demand::of_values(&out), HeatBalance::of_values(&balance)))
     }
 
-    /// Operative temperature of a state of this zone, °C; NaN where the state has another number of
-    /// nodes.
-    pub fn temp_operative(&self, state: &State) -> f64 {
-        if state.nodes as usize != self.layout.nodes() {
-            return f64::NAN;
-        }
-        self.layout.temp_operative(state.temps())
+    /// Operative temperature of a state, °C (ISO 52016-1, 6.5.5.3): the mean of the air and of the inner
+    /// surfaces weighted by area.
+    pub fn temp_operative(&self, state: &State) -> Result<f64, Refusal> {
+        float::must_be_standard()?;
+        let mut operative = f64::NAN;
+        // SAFETY: the head is valid for its length, the state's array has 121 floats, and the one that
+        // is written is borrowed from nowhere else.
+        let answer = unsafe {
+            ffi::hem_operative(
+                self.head.as_ptr(),
+                self.head.len(),
+                state.temps.as_ptr(),
+                state.nodes,
+                &mut operative,
+            )
+        };
+        judge(answer, &self.given(state, &[]))?;
+        Ok(operative)
     }
 }

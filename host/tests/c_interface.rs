@@ -1,4 +1,4 @@
-//! The eight functions of include/hem_zone.h, called as C calls them: once accepted, once refused.
+//! The nine functions of include/hem_zone.h, called as C calls them: once accepted, once refused.
 use hem_zone::ffi::*;
 use hem_zone::samples::{hour_p, house_p};
 
@@ -109,6 +109,18 @@ fn hour_step(head: &[u8], cond: &[u8], lent: &mut Lent) -> u32 {
     }
 }
 
+fn operative(head: &[u8], lent: &mut Lent) -> u32 {
+    unsafe {
+        hem_operative(
+            head.as_ptr(),
+            head.len(),
+            lent.temps.as_ptr(),
+            lent.nodes,
+            lent.out.as_mut_ptr(),
+        )
+    }
+}
+
 fn begin(head: &[u8], lent: &mut Lent) -> u32 {
     unsafe {
         hem_begin(
@@ -202,6 +214,25 @@ fn hour_step_of_house_p() {
     let mut wrong = Lent::at_twenty(0);
     wrong.nodes = 4;
     refused(wrong, 6, |lent| hour_step(&p(), &hour(21.0, 24.0), lent));
+}
+
+#[test]
+fn operative_of_house_p() {
+    let mut lent = Lent::at_twenty(0);
+    lent.temps[..3].copy_from_slice(&[50.0, 10.0, 31.0]);
+    assert_eq!(operative(&p(), &mut lent), 0);
+    assert_eq!(lent.out, [20.5, MARK, MARK, MARK, MARK]);
+    assert_eq!(lent.temps[..3], [50.0, 10.0, 31.0]);
+    refused(Lent::at_twenty(0), 1, |lent| operative(&p()[..179], lent));
+    let mut bad = house_p();
+    bad.elements[0].area = 0.0;
+    refused(Lent::at_twenty(0), 5 + 256, |lent| operative(&bad.to_bytes(), lent));
+    let mut wrong = Lent::at_twenty(0);
+    wrong.nodes = 4;
+    refused(wrong, 6, |lent| operative(&p(), lent));
+    let mut hot = Lent::at_twenty(0);
+    hot.temps[1] = 1.1e6;
+    refused(hot, 6, |lent| operative(&p(), lent));
 }
 
 #[test]

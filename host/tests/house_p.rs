@@ -21,7 +21,9 @@ fn sizes() {
 #[test]
 fn start_up_is_twenty_everywhere() {
     assert_eq!(zone().start_up().unwrap(), twenty());
-    assert_eq!(zone().temp_operative(&twenty()), 20.0);
+    assert_eq!(zone().temp_operative(&twenty()), Ok(20.0));
+    // The air at 30, the one inner surface at 10.
+    assert_eq!(zone().temp_operative(&State::new(&[50.0, 10.0, 30.0])), Ok(20.0));
 }
 
 #[test]

@@ -1,4 +1,5 @@
 //! Lines, areas, axes and words of a drawing.
+use crate::kind::DRAWING_MARK;
 use std::fmt::Write;
 
 pub const GRID: &str = "#e4e7eb";
@@ -54,13 +55,14 @@ impl Canvas {
             Anchor::Middle => "middle",
             Anchor::End => "end",
         };
+        let words = escaped(words);
         self.put(format_args!(
             r#"<text x="{x:.1}" y="{y:.1}" text-anchor="{anchor}" font-size="{size}" fill="{colour}">{words}</text>"#
         ));
     }
 
     pub fn heading(&mut self, at: (f64, f64), size: u32, words: &str) {
-        let (x, y) = at;
+        let ((x, y), words) = (at, escaped(words));
         self.put(format_args!(
             r#"<text x="{x:.1}" y="{y:.1}" font-size="{size}" font-weight="600" fill="{INK}">{words}</text>"#
         ));
@@ -70,13 +72,15 @@ impl Canvas {
     pub fn legend(&mut self, right: f64, y: f64, keys: &[(&str, &str)]) {
         let mut words = String::new();
         for (place, (colour, name)) in keys.iter().enumerate() {
-            let gap = if place == 0 { 0 } else { 20 };
+            let (gap, name) = (if place == 0 { 0 } else { 20 }, escaped(name));
             let _ = write!(
                 words,
                 r#"<tspan dx="{gap}" font-size="18" fill="{colour}">■</tspan><tspan dx="7">{name}</tspan>"#
             );
         }
-        self.text((right, y), Anchor::End, 13, FAINT_INK, &words);
+        self.put(format_args!(
+            r#"<text x="{right:.1}" y="{y:.1}" text-anchor="end" font-size="13" fill="{FAINT_INK}">{words}</text>"#
+        ));
     }
 
     fn put(&mut self, element: std::fmt::Arguments) {
@@ -86,14 +90,31 @@ impl Canvas {
     /// The whole drawing.
     pub fn finish(self, width: f64, height: f64, title: &str) -> String {
         format!(
-            "<svg xmlns=\"http://www.w3.org/2000/svg\" viewBox=\"0 0 {width} {height}\" \
+            "{DRAWING_MARK} viewBox=\"0 0 {width} {height}\" \
              width=\"{width}\" height=\"{height}\" \
              font-family=\"'Helvetica Neue', Helvetica, Arial, 'Liberation Sans', 'DejaVu Sans', sans-serif\">\n\
-             <title>{title}</title>\n\
+             <title>{}</title>\n\
              <rect width=\"{width}\" height=\"{height}\" fill=\"#ffffff\"/>\n{}</svg>\n",
+            escaped(title),
             self.body
         )
     }
+}
+
+/// Words as they stand in XML. Characters that XML does not have are left out.
+fn escaped(words: &str) -> String {
+    let mut text = String::new();
+    for character in words.chars() {
+        match character {
+            '&' => text += "&amp;",
+            '<' => text += "&lt;",
+            '>' => text += "&gt;",
+            '"' => text += "&quot;",
+            c if c.is_control() || matches!(c, '\u{fffe}' | '\u{ffff}') => (),
+            c => text.push(c),
+        }
+    }
+    text
 }
 
 fn path(points: &[(f64, f64)]) -> String {

@@ -1,12 +1,13 @@
-//! Reading files, and writing them so that nothing is lost when it goes wrong.
+//! Reading files, and printing.
 use crate::failure::Failure;
-use std::fs::{self, File, OpenOptions};
+use std::fs;
 use std::io::{self, ErrorKind, Write};
 use std::os::unix::fs::MetadataExt;
-use std::path::{Path, PathBuf};
+use std::path::Path;
 
-/// Far more than the largest book has. A larger file is not read at all.
-const MOST_BYTES: u64 = 1 << 30;
+/// More than the largest book has (18,476,913 bytes), and than its hours have as text. A larger file
+/// is not read at all.
+const MOST_BYTES: u64 = 64 << 20;
 
 /// The bytes of a regular file.
 pub fn read(path: &Path) -> Result<Vec<u8>, Failure> {
@@ -20,89 +21,31 @@ pub fn must_be_readable(path: &Path) -> Result<(), Failure> {
     if !data.is_file() {
         Err(Failure::file(path, "is not a regular file"))
     } else if data.len() > MOST_BYTES {
-        Err(Failure::file(path, format!("is too large ({} bytes)", data.len())))
+        let text = format!("is too large: {} bytes, of at most {MOST_BYTES}", data.len());
+        Err(Failure::file(path, text))
     } else {
         Ok(())
     }
 }
 
-/// Whether two paths lead to one file.
+/// Whether two paths lead to one file; where there is none yet, to one name in one folder.
 pub fn same_file(a: &Path, b: &Path) -> bool {
-    match (fs::metadata(a), fs::metadata(b)) {
-        (Ok(a), Ok(b)) => (a.dev(), a.ino()) == (b.dev(), b.ino()),
-        _ => a == b,
+    let place = |path: &Path| fs::metadata(path).map(|data| (data.dev(), data.ino())).ok();
+    match (place(a), place(b)) {
+        (Some(a), Some(b)) => a == b,
+        (None, None) => {
+            a == b || a.file_name() == b.file_name() && place(folder_of(a)) == place(folder_of(b))
+        }
+        _ => false,
     }
 }
 
-/// Nothing may stand at the path of a file that is to be written, or a regular file that it replaces.
-/// A link is turned away too: replacing it would leave the file behind it as it was.
-pub fn must_be_replaceable(path: &Path) -> Result<(), Failure> {
-    match fs::symlink_metadata(path) {
-        Ok(data) if data.is_file() => Ok(()),
-        Ok(data) if data.is_dir() => Err(Failure::file(path, "is a folder")),
-        Ok(_) => Err(Failure::file(path, "is not a regular file")),
-        Err(e) if e.kind() == ErrorKind::NotFound => Ok(()),
-        Err(e) => Err(Failure::io("be written", path, e)),
-    }
-}
-
-/// Puts a file in its place whole: first written and synced beside it, then renamed.
-pub fn replace(path: &Path, bytes: &[u8]) -> Result<(), Failure> {
-    must_be_replaceable(path)?;
-    place(path, bytes, |from, to| fs::rename(from, to))
-}
-
-/// As `replace`, but never over a file that exists.
-pub fn create(path: &Path, bytes: &[u8]) -> Result<(), Failure> {
-    place(path, bytes, link_or_rename)
-}
-
-/// Gives the new file its name. A link fails where the name is taken; a file system without links
-/// has the name tested before.
-fn link_or_rename(from: &Path, to: &Path) -> io::Result<()> {
-    match fs::hard_link(from, to) {
-        Ok(()) => fs::remove_file(from),
-        Err(e) if e.kind() == ErrorKind::AlreadyExists => Err(e),
-        Err(_) if fs::symlink_metadata(to).is_ok() => Err(ErrorKind::AlreadyExists.into()),
-        Err(_) => fs::rename(from, to),
-    }
-}
-
-fn place(
-    path: &Path,
-    bytes: &[u8],
-    name: impl FnOnce(&Path, &Path) -> io::Result<()>,
-) -> Result<(), Failure> {
-    let beside = name_beside(path)?;
-    let done = write_new(&beside, bytes).and_then(|()| name(&beside, path));
-    if done.is_err() {
-        let _ = fs::remove_file(&beside);
-    }
-    done.and_then(|()| sync_folder(path)).map_err(|e| Failure::io("be written", path, e))
-}
-
-fn name_beside(path: &Path) -> Result<PathBuf, Failure> {
-    let Some(name) = path.file_name() else {
-        return Err(Failure::file(path, "is not the name of a file"));
-    };
-    let mut beside = name.to_os_string();
-    beside.push(format!(".{}.new", std::process::id()));
-    Ok(path.with_file_name(beside))
-}
-
-fn write_new(path: &Path, bytes: &[u8]) -> io::Result<()> {
-    let mut file = OpenOptions::new().write(true).create_new(true).open(path)?;
-    file.write_all(bytes)?;
-    file.sync_all()
-}
-
-/// Makes the name of a new file last.
-fn sync_folder(path: &Path) -> io::Result<()> {
-    let folder = match path.parent() {
+/// The folder that a file lies in.
+pub fn folder_of(path: &Path) -> &Path {
+    match path.parent() {
         Some(folder) if !folder.as_os_str().is_empty() => folder,
         _ => Path::new("."),
-    };
-    File::open(folder)?.sync_all()
+    }
 }
 
 /// Prints to standard output. A reader that has gone away (a closed pipe) is no failure.

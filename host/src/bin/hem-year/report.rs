@@ -1,112 +1,85 @@
 //! `hem-year report`: what a designer needs of a year.
-use crate::calendar::Moment;
+use crate::calendar::{months, Moment};
+use crate::damage;
 use crate::failure::Failure;
+use crate::figures::{exceeded_for, falling, HourFigures, Sums};
 use crate::files;
-use crate::run;
+use crate::inputs::House;
+use crate::kind::Kind;
+use crate::output::{self, Output};
+use crate::print::{Print, PROGRAM};
 use crate::svg;
-use hem_zone::{AirChangesPerHour, Book, Entry};
+use crate::table::{self, Columns};
+use crate::words::{count, length_of_time};
+use hem_zone::text::Plan;
+use hem_zone::Book;
 use std::fmt::Write;
 use std::path::Path;
 
 /// How many of the highest hours are listed.
 const LISTED: usize = 10;
+/// The share of the time for which a design load may be exceeded.
+const EXCEEDED: f64 = 0.004;
 
-/// The figures of one hour.
-pub struct HourFigures {
-    /// Beginning, in hours since the year began.
-    pub start: f64,
-    /// Length, hours.
-    pub length: f64,
-    /// Temperatures, °C: outside during the hour, air and operative at its end.
-    pub external: f64,
-    pub air: f64,
-    pub operative: f64,
-    /// Demand, kWh, both at least 0.
-    pub heating: f64,
-    pub cooling: f64,
-    /// Air changes per hour.
-    pub rate: f64,
-    /// Windows were opened beyond the required rate.
-    pub windows: bool,
+/// What a report is asked for.
+pub struct Report<'a> {
+    pub book: &'a Path,
+    pub name: Option<String>,
+    /// The house that the book must be of, which has names.
+    pub house: Option<&'a Path>,
+    pub csv: Option<&'a Path>,
+    pub svg: Option<&'a Path>,
+    pub columns: Columns,
+    pub force: bool,
 }
 
-impl HourFigures {
-    fn of(entry: &Entry, start: f64) -> Self {
-        let (conditions, demand) = (entry.conditions(), entry.demand());
-        let windows = match conditions.ach {
-            AirChangesPerHour::Cooling { .. } => false,
-            AirChangesPerHour::TargetAndWindowsOpen { ach_target, .. } => {
-                demand.ach_cooling != ach_target
-            }
-        };
-        Self {
-            start,
-            length: conditions.delta_t_h,
-            external: conditions.temp_ext_air,
-            air: entry.state().temp_internal_air(),
-            operative: entry.temp_operative(),
-            heating: demand.space_heat_demand,
-            // 0 − 0 is 0, where a negation would show −0.
-            cooling: 0.0 - demand.space_cool_demand,
-            rate: demand.ach_cooling,
-            windows,
-        }
-    }
-
-    /// Mean heating power of the hour, kW.
-    pub fn heating_power(&self) -> f64 {
-        self.heating / self.length
-    }
-
-    /// Mean cooling power of the hour, kW.
-    pub fn cooling_power(&self) -> f64 {
-        self.cooling / self.length
-    }
-
-    fn date(&self) -> String {
-        Moment(self.start).date()
-    }
+pub fn report(given: &Report) -> Result<(), Failure> {
+    targets_must_be_apart(given)?;
+    let check = |path: Option<&Path>, kind| {
+        path.map(|path| Output::check(path, &kind, given.force)).transpose()
+    };
+    let (csv, svg) = (check(given.csv, Kind::Table)?, check(given.svg, Kind::Drawing)?);
+    let bytes = files::read(given.book)?;
+    let (book, plan) = take_up(given, &bytes)?;
+    let print = Print::of(house_name(given, &plan), plan.names().to_vec(), &book);
+    let table = csv.is_some().then(|| table::table(&print, &given.columns)).transpose()?;
+    let drawing = svg.is_some().then(|| svg::draw(&print).into_bytes());
+    let targets = [(csv, &table), (svg, &drawing)];
+    let pairs = targets.into_iter().filter_map(|(to, bytes)| Some((to?, bytes.as_deref()?)));
+    output::put_all(pairs.collect())?;
+    files::print(&text(given.book, &print, bytes.len() - book.bytes().len()))
 }
 
-fn figures(book: &Book) -> Vec<HourFigures> {
-    let mut start = 0.0;
-    let mut hours = Vec::with_capacity(book.hours());
-    for entry in book.entries() {
-        let hour = HourFigures::of(&entry, start);
-        start += hour.length;
-        hours.push(hour);
+/// The book, and the names that its elements have in the house that is given, or else by number.
+fn take_up(given: &Report, bytes: &[u8]) -> Result<(Book, Plan), Failure> {
+    if let Some(path) = given.house {
+        let house = House::read(path)?;
+        let book = damage::take_up_with_head(given.book, bytes, path, &house.zone)?;
+        return Ok((book, house.plan));
     }
-    hours
+    let book = damage::take_up(given.book, bytes)?;
+    let plan = Plan::of_elements(book.zone().layout().elements());
+    Ok((book, plan))
 }
 
-pub fn report(path: &Path, csv: Option<&Path>, svg: Option<&Path>) -> Result<(), Failure> {
-    targets_must_be_free(path, csv, svg)?;
-    let bytes = files::read(path)?;
-    let book = run::take_up(path, &bytes)?;
-    let hours = figures(&book);
-    let torn = bytes.len() - book.bytes().len();
-    if let Some(file) = csv {
-        files::replace(file, table(&hours).as_bytes())?;
-    }
-    if let Some(file) = svg {
-        files::replace(file, svg::draw(&hours).as_bytes())?;
-    }
-    files::print(&text(path, &book, &hours, torn))
+/// The name that is given, that of the house file, or that of the book's file.
+fn house_name(given: &Report, plan: &Plan) -> String {
+    let of_house = || plan.house_name().map(String::from);
+    let of_file = || given.book.file_stem().map(|stem| stem.to_string_lossy().into_owned());
+    given.name.clone().or_else(of_house).or_else(of_file).unwrap_or_default()
 }
 
-/// Tested before anything is written: no target is the book, or the other target.
-fn targets_must_be_free(
-    book: &Path,
-    csv: Option<&Path>,
-    svg: Option<&Path>,
-) -> Result<(), Failure> {
-    for target in [csv, svg].into_iter().flatten() {
-        files::must_be_replaceable(target)?;
-        if files::same_file(target, book) {
+/// No target is the book, the house or the other target.
+fn targets_must_be_apart(given: &Report) -> Result<(), Failure> {
+    for target in [given.csv, given.svg].into_iter().flatten() {
+        if files::same_file(target, given.book) {
             return Err(Failure::file(target, "is the book, which a report does not replace"));
         }
+        if given.house.is_some_and(|house| files::same_file(target, house)) {
+            return Err(Failure::file(target, "is the house, which a report does not replace"));
+        }
     }
-    match (csv, svg) {
+    match (given.csv, given.svg) {
         (Some(a), Some(b)) if files::same_file(a, b) => {
             Err(Failure::file(a, "is given for the table and for the drawing"))
         }
@@ -114,85 +87,77 @@ fn targets_must_be_free(
     }
 }
 
-// ---- the table ----
-
-fn table(hours: &[HourFigures]) -> String {
-    let mut text = String::from(
-        "time,external (C),air (C),operative (C),heating (kWh),cooling (kWh),air changes (1/h)\n",
-    );
-    for h in hours {
-        let _ = writeln!(
-            text,
-            "{},{},{},{},{},{},{}",
-            Moment(h.start).stamp(),
-            h.external,
-            h.air,
-            h.operative,
-            h.heating,
-            h.cooling,
-            h.rate
-        );
-    }
-    text
-}
-
 // ---- the text ----
 
-fn text(path: &Path, book: &Book, hours: &[HourFigures], torn: usize) -> String {
-    let mut text = title(path, book, hours);
+fn text(path: &Path, print: &Print, torn: usize) -> String {
+    let mut text = title(path, print);
     if torn > 0 {
-        let _ =
-            writeln!(text, "The last {torn} bytes are an unfinished hour, which is not counted.");
+        let bytes = count(torn, "byte");
+        let _ = writeln!(text, "The last {bytes} are an unfinished hour, which is not counted.");
     }
-    if hours.is_empty() {
-        return text;
+    if !print.hours.is_empty() {
+        text.push('\n');
+        text += &totals(print);
+        text += &extremes(&print.hours);
+        text += &monthly(&print.hours);
+        text += &highest("heating", &print.hours, &HEATING);
+        text += &highest("cooling", &print.hours, &COOLING);
+        text +=
+            "\nHours are named by their beginning; temperatures inside are those at their end.\n";
     }
-    let area = book.zone().layout().useful_area();
     text.push('\n');
-    text += &total("Heating", hours, |h| h.heating, HourFigures::heating_power, area);
-    text += &total("Cooling", hours, |h| h.cooling, HourFigures::cooling_power, area);
-    let _ =
-        writeln!(text, "Windows    used in {} hours", hours.iter().filter(|h| h.windows).count());
-    text += &extremes(hours);
-    text += &highest(hours);
-    text += "\nHours are named by their beginning; temperatures are those at their end.\n";
+    for (name, digits) in print.fingerprints.named() {
+        let _ = writeln!(text, "SHA-256 of {name:10}  {digits}");
+    }
     text
 }
 
-fn title(path: &Path, book: &Book, hours: &[HourFigures]) -> String {
-    let layout = book.zone().layout();
+fn title(path: &Path, print: &Print) -> String {
+    let layout = print.book.zone().layout();
     let mut text = format!(
-        "{}: {} elements, {} nodes, useful area {} m²\n",
+        "{}: useful floor area {} m², {}, {}\n{}, by {PROGRAM}: ",
+        print.name,
+        layout.useful_area(),
+        count(layout.elements(), "element"),
+        count(layout.nodes(), "node"),
         path.display(),
-        layout.elements(),
-        layout.nodes(),
-        layout.useful_area()
     );
-    let _ = match (hours.first(), hours.last()) {
-        (Some(first), Some(last)) => writeln!(
-            text,
-            "{} hours held, from {} to {}",
-            hours.len(),
-            first.date().trim(),
-            Moment(last.start + last.length).end_date().trim()
-        ),
-        _ => writeln!(text, "No hours held."),
-    };
+    match (print.hours.first(), print.hours.last()) {
+        (Some(first), Some(last)) => {
+            let end = Moment(last.end()).end_date();
+            let (from, to) = (first.date(), end.trim());
+            let _ = writeln!(text, "{} held, from {} to {to}", print.length(), from.trim());
+        }
+        _ => text += "no hours held\n",
+    }
     text
 }
 
-fn total(
-    name: &str,
-    hours: &[HourFigures],
-    energy: impl Fn(&HourFigures) -> f64,
-    power: impl Fn(&HourFigures) -> f64,
-    area: f64,
-) -> String {
-    let sum: f64 = hours.iter().map(&energy).sum();
-    let count = hours.iter().filter(|h| energy(h) > 0.0).count();
-    let peak = hours.iter().map(power).fold(0.0, f64::max);
-    let by_area = sum / area;
-    format!("{name} {sum:10.1} kWh ({by_area:.1} kWh/m²) in {count} hours, highest {peak:.2} kW\n")
+fn totals(print: &Print) -> String {
+    let sums = &print.sums;
+    let heating = falling(&print.hours, HourFigures::heating_power);
+    let cooling = falling(&print.hours, HourFigures::cooling_power);
+    total("Heating", print, sums.heating, sums.heated, &heating)
+        + &total("Cooling", print, sums.cooling, sums.cooled, &cooling)
+        + &format!("Windows    used in {}\n", length_of_time(sums.windows))
+}
+
+/// Energy, how long it was needed, and the powers, the greatest first.
+fn total(name: &str, print: &Print, energy: f64, time: f64, steps: &[(f64, f64)]) -> String {
+    let mut text = format!(
+        "{name} {energy:10.1} kWh ({:.1} kWh/m²) in {}",
+        energy / print.area(),
+        length_of_time(time)
+    );
+    if let Some((highest, _)) = steps.first() {
+        let design = exceeded_for(steps, EXCEEDED * print.sums.length);
+        let percent = 100.0 * EXCEEDED;
+        let _ = write!(
+            text,
+            ", highest {highest:.2} kW, above {design:.2} kW for at most {percent:.1} % of the time"
+        );
+    }
+    text + "\n"
 }
 
 fn extremes(hours: &[HourFigures]) -> String {
@@ -212,25 +177,111 @@ fn extremes(hours: &[HourFigures]) -> String {
     }
 }
 
-/// The highest hours of heating and of cooling, side by side.
-fn highest(hours: &[HourFigures]) -> String {
-    let heating = highest_of(hours, HourFigures::heating_power);
-    let cooling = highest_of(hours, HourFigures::cooling_power);
-    let mut text = format!("\n    {:28}{}\n", "Highest heating", "Highest cooling");
-    for row in 0..heating.len().max(cooling.len()) {
-        let cell = |list: &[String]| list.get(row).cloned().unwrap_or_default();
-        let line = format!("{:2}  {:28}{}", row + 1, cell(&heating), cell(&cooling));
-        let _ = writeln!(text, "{}", line.trim_end());
-    }
-    if heating.is_empty() && cooling.is_empty() {
-        text += "    none                        none\n";
+// ---- the months ----
+
+/// A line for each month that the book reaches, and one for what lies past the year.
+fn monthly(hours: &[HourFigures]) -> String {
+    let mut text = String::from(
+        "\n          Heating   highest   Cooling   highest   Windows  External  Operative\
+         \n              kWh        kW       kWh        kW         h   mean °C    mean °C\n",
+    );
+    let day = |number: u32| f64::from(number) * 24.0;
+    let later = ("later", day(365)..f64::MAX);
+    let times = months().map(|(name, first, end)| (name, day(first)..day(end))).chain([later]);
+    for (name, time) in times {
+        let mut sums = Sums::default();
+        hours.iter().for_each(|hour| sums.add(hour, hour.share_in(&time)));
+        if sums.length > 0.0 {
+            text += &month_line(name, &sums);
+        }
     }
     text
 }
 
+fn month_line(name: &str, sums: &Sums) -> String {
+    format!(
+        "{name:7} {:9.1} {:9.2} {:9.1} {:9.2} {:9.1} {:9.1} {:10.1}\n",
+        sums.heating,
+        sums.heating_peak,
+        sums.cooling,
+        sums.cooling_peak,
+        sums.windows,
+        sums.external.mean(),
+        sums.operative.mean(),
+    )
+}
+
+// ---- the highest hours ----
+
+/// How heating or cooling is told.
+struct Load {
+    power: fn(&HourFigures) -> f64,
+    setpoint: fn(&HourFigures) -> f64,
+    /// Whether the setpoint has just changed so that there is more to do.
+    after_setback: fn(&HourFigures) -> bool,
+    word: &'static str,
+    explained: &'static str,
+}
+
+const HEATING: Load = Load {
+    power: HourFigures::heating_power,
+    setpoint: |h| h.setpoint_heat,
+    after_setback: |h| h.warm_up,
+    word: "warm-up",
+    explained: "after a setback: the setpoint is higher than in the hour before",
+};
+
+const COOLING: Load = Load {
+    power: HourFigures::cooling_power,
+    setpoint: |h| h.setpoint_cool,
+    after_setback: |h| h.cool_down,
+    word: "cool-down",
+    explained: "after a setback: the setpoint is lower than in the hour before",
+};
+
 /// The hours of greatest power, the earlier first where they are equal; hours without any are left out.
-fn highest_of(hours: &[HourFigures], power: impl Fn(&HourFigures) -> f64) -> Vec<String> {
+fn by_power<'a>(hours: &'a [HourFigures], load: &Load) -> Vec<&'a HourFigures> {
+    let power = load.power;
     let mut loaded: Vec<&HourFigures> = hours.iter().filter(|h| power(h) > 0.0).collect();
     loaded.sort_by(|a, b| power(b).total_cmp(&power(a)));
-    loaded.iter().take(LISTED).map(|h| format!("{}  {:6.2} kW", h.date(), power(h))).collect()
+    loaded
+}
+
+fn highest(name: &str, hours: &[HourFigures], load: &Load) -> String {
+    let loaded = by_power(hours, load);
+    if loaded.is_empty() {
+        return format!("\nHighest {name}: none\n");
+    }
+    let mut text =
+        format!("\nHighest {name}                   kW   external  setpoint  operative before\n");
+    for (row, hour) in loaded.iter().take(LISTED).enumerate() {
+        text += &highest_line(row + 1, hour, load);
+    }
+    text + &setback_note(&loaded, load)
+}
+
+fn highest_line(row: usize, hour: &HourFigures, load: &Load) -> String {
+    let note = if (load.after_setback)(hour) { load.word } else { "" };
+    let line = format!(
+        "{row:2}  hour {:4}  {:>15} {:6.2} {:8.1} °C {:6.1} °C {:14.1} °C  {note}",
+        hour.number,
+        hour.date(),
+        (load.power)(hour),
+        hour.external,
+        (load.setpoint)(hour),
+        hour.before,
+    );
+    line.trim_end().to_string() + "\n"
+}
+
+/// What the word behind an hour means, and the highest hour without it.
+fn setback_note(loaded: &[&HourFigures], load: &Load) -> String {
+    if !loaded.iter().take(LISTED).any(|hour| (load.after_setback)(hour)) {
+        return String::new();
+    }
+    let steady = loaded.iter().find(|hour| !(load.after_setback)(hour));
+    let steady = steady.map_or("no other hour has any".into(), |hour| {
+        format!("the highest other hour has {:.2} kW ({})", (load.power)(hour), hour.date().trim())
+    });
+    format!("    {}: {}; {steady}\n", load.word, load.explained)
 }

@@ -1,0 +1,50 @@
+/* Every function, called on the largest house by a thread that has HEM_STACK bytes of stack and no more. */
+#include "hem_zone.h"
+#include "test.h"
+
+#include <pthread.h>
+#include <stdlib.h>
+#include <string.h>
+
+typedef struct {
+    uint8_t *head, *hour, *book;
+    size_t head_len, hour_len, book_len;
+    double temps[HEM_TEMPS], out[HEM_OUT], balance[HEM_BALANCE];
+    uint64_t nodes, count, used;
+    uint32_t answers;
+} Calls;
+
+static void *every_call(void *given) {
+    Calls *c = given;
+    c->answers = hem_head(c->head, c->head_len);
+    c->answers |= hem_start_up(c->head, c->head_len, c->temps, &c->nodes);
+    c->answers |= hem_demand(c->head, c->head_len, c->temps, c->nodes, c->hour, c->hour_len, c->out);
+    c->answers |= hem_update(c->head, c->head_len, c->temps, c->nodes, c->hour, c->hour_len, 0, 1, 0.5, c->balance);
+    c->answers |= hem_hour_step(c->head, c->head_len, c->temps, c->nodes, c->hour, c->hour_len, c->out, c->balance);
+    c->answers |= hem_operative(c->head, c->head_len, c->temps, c->nodes, c->out);
+    c->answers |= hem_begin(c->head, c->head_len, c->book, c->book_len, c->temps, &c->nodes, &c->count, &c->used);
+    c->answers |= hem_append(c->head, c->head_len, c->book, c->book_len, c->temps, &c->nodes, &c->count, &c->used, c->hour, c->hour_len);
+    c->answers |= hem_take_up(c->book, c->book_len, c->temps, &c->nodes, &c->count, &c->used);
+    return NULL;
+}
+
+static void run_with(size_t stack, Calls *calls) {
+    pthread_attr_t attributes;
+    pthread_t thread;
+    if (pthread_attr_init(&attributes) || pthread_attr_setstacksize(&attributes, stack)) abort();
+    if (pthread_create(&thread, &attributes, every_call, calls) || pthread_join(thread, NULL)) abort();
+    pthread_attr_destroy(&attributes);
+}
+
+void test_stack_of(uint8_t *head, size_t head_len, uint8_t *hour, size_t hour_len) {
+    Calls *calls = lent(sizeof *calls);
+    memset(calls, 0, sizeof *calls);
+    calls->head = head, calls->head_len = head_len;
+    calls->hour = hour, calls->hour_len = hour_len;
+    calls->book_len = head_len + HEM_ENTRY(HEM_ELEMENTS, HEM_TEMPS);
+    calls->book = lent(calls->book_len);
+    run_with(HEM_STACK, calls);
+    expect("HEM_STACK is enough for every call", calls->answers == 0 && calls->count == 1);
+    free(calls->book);
+    free(calls);
+}

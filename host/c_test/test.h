@@ -1,0 +1,25 @@
+/* What the parts of the C test share. */
+#ifndef TEST_H
+#define TEST_H
+
+#include <stddef.h>
+#include <stdint.h>
+
+extern int failures;
+
+/* Prints what was looked at and counts it where it does not hold. */
+void expect(const char *what, int holds);
+/* Memory of exactly this size, filled with 0xA5. */
+void *lent(size_t size);
+/* Floats as big-endian patterns; both give the place behind them. */
+uint8_t *put_double(uint8_t *at, double value);
+uint8_t *put_doubles(uint8_t *at, const double *values, size_t count);
+double get_double(const uint8_t *at);
+
+/* The sizes and places of hem_zone.h, as the engine has them; the stack that it says is enough. */
+void test_sizes(void);
+void test_places(void);
+void test_stack(void);
+void test_stack_of(uint8_t *head, size_t head_len, uint8_t *hour, size_t hour_len);
+
+#endif

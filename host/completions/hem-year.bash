@@ -1,0 +1,38 @@
+# Completion of hem-year in bash. tests/program_usage.rs holds it against the program's own help.
+
+_hem_year() {
+    local word=${COMP_WORDS[COMP_CWORD]} before=${COMP_WORDS[COMP_CWORD - 1]} command='' i
+    local commands='sample house hours check run report show cut help'
+    for ((i = 1; i < COMP_CWORD; i++)); do
+        if [[ ${COMP_WORDS[i]} != -* && " $commands " == *" ${COMP_WORDS[i]} "* ]]; then
+            command=${COMP_WORDS[i]}
+            break
+        fi
+    done
+
+    local options='--help'
+    case $command in
+        house) options+=' --force' ;;
+        hours) options+=' --head --force' ;;
+        report) options+=' --csv --svg --balance --nodes --head --name --force' ;;
+        show) options+=' --hour --hours --head' ;;
+        cut) options+=' --head --force' ;;
+        '' | help) options+=' --version' ;;
+    esac
+
+    COMPREPLY=()
+    if [[ $before == --hour || $before == --name ]]; then
+        return
+    elif [[ $word == -* && $before != --csv && $before != --svg && $before != --head ]]; then
+        mapfile -t COMPREPLY < <(compgen -W "$options" -- "$word")
+    elif [[ -z $command ]]; then
+        mapfile -t COMPREPLY < <(compgen -W "$commands" -- "$word")
+    elif [[ $command == help ]]; then
+        mapfile -t COMPREPLY < <(compgen -W "$commands" -- "$word")
+    else
+        compopt -o filenames 2> /dev/null
+        mapfile -t COMPREPLY < <(compgen -f -- "$word")
+    fi
+}
+
+complete -F _hem_year hem-year

@@ -1,0 +1,168 @@
+//! The commands: what each takes, and its help.
+
+/// A command with its words.
+pub struct Command {
+    pub name: &'static str,
+    /// The words that are no options, by name.
+    pub places: &'static [&'static str],
+    pub options: &'static [&'static str],
+    pub help: &'static str,
+}
+
+/// Options that take a value, and what it is.
+pub const VALUED: &[(&str, &str)] =
+    &[("csv", "file"), ("svg", "file"), ("name", "name"), ("head", "file"), ("hour", "number")];
+
+/// Options that take none.
+pub const FLAGS: &[&str] = &["balance", "force", "hours", "nodes"];
+
+pub const COMMANDS: &[Command] = &[
+    Command { name: "sample", places: &["DIR"], options: &[], help: SAMPLE },
+    Command { name: "house", places: &["HOUSE.toml", "HEAD"], options: &["force"], help: HOUSE },
+    Command {
+        name: "hours",
+        places: &["HOURS.csv", "YEAR"],
+        options: &["head", "force"],
+        help: HOURS,
+    },
+    Command { name: "check", places: &["HOUSE", "HOURS"], options: &[], help: CHECK },
+    Command { name: "run", places: &["HOUSE", "HOURS", "BOOK"], options: &[], help: RUN },
+    Command {
+        name: "report",
+        places: &["BOOK"],
+        options: &["csv", "svg", "name", "head", "balance", "nodes", "force"],
+        help: REPORT,
+    },
+    Command { name: "show", places: &["FILE"], options: &["hour", "hours", "head"], help: SHOW },
+    Command {
+        name: "cut",
+        places: &["BOOK", "HOURS", "NEW"],
+        options: &["head", "force"],
+        help: CUT,
+    },
+];
+
+pub const HELP: &str = "\
+hem-year: the heating and cooling of a house, hour by hour
+
+  hem-year sample DIR                writes a sample house and its year
+  hem-year check HOUSE HOURS         lists all faults of a house and its hours
+  hem-year run HOUSE HOURS BOOK      calculates the hours of a year into a book
+  hem-year report BOOK               prints its totals and highest loads, as text, table and drawing
+  hem-year cut BOOK HOURS NEW        keeps the first hours of a book
+  hem-year house HOUSE.toml HEAD     makes the bytes of a house
+  hem-year hours HOURS.csv YEAR      makes the bytes of its hours
+  hem-year show FILE                 prints such bytes, or a book's, as text
+  hem-year help [COMMAND]            prints this, or the help of a command
+  hem-year --version                 prints the version
+
+HOUSE is a house file (HOUSE.toml) or the bytes that `house` makes of it (HEAD), HOURS is a table
+(HOURS.csv) or the bytes that `hours` makes of it (YEAR). Options may stand anywhere; `--` ends
+them. A file that is written replaces only one of its own kind: for any other --force is asked
+for.
+";
+
+/// What every help ends with.
+pub const ENDING: &str = "
+Exit status: 0 done; 1 refused by the engine, or a fault in a text, with the place and a sentence;
+2 usage or file error; 130 stopped by Ctrl-C (143 by a request to end).
+";
+
+const SAMPLE: &str = "\
+hem-year sample DIR
+
+Writes a sample house to DIR: terrace.toml, and terrace.csv with 8,760 hours; terrace.head and
+terrace.year are the same in bytes. DIR is made if it is missing; a file that exists already and
+is not the sample's own is not overwritten.
+";
+
+const HOUSE: &str = "\
+hem-year house HOUSE.toml HEAD [--force]
+
+Writes HEAD, the bytes of the house that HOUSE.toml describes. `hem-year sample DIR` writes one to
+begin with, host/README.md has all names. Every fault of the file is told, with line, name, value
+and range.
+
+  --force      replaces HEAD whatever it holds; without it, only a head
+";
+
+const HOURS: &str = "\
+hem-year hours HOURS.csv YEAR [--head HOUSE] [--force]
+
+Writes YEAR, the conditions of the hours of HOURS.csv: a heading line with the names of the
+columns, in any order, then a line for each hour. A column NAME.temp_ext (i_sol_dir, i_sol_dif,
+f_sh_dir, f_sh_dif, open) is that of the element NAME, a column temp_ext that of all elements
+which have none of their own. What has no column is taken from the table [conditions] of HOUSE.
+The column time is not read; the column hour counts up, so that a missing line is found. Every
+fault of the file is told, with line, column, value and range.
+
+  --head HOUSE the house, as HOUSE.toml or HEAD; without it each element needs a column
+  --force      replaces YEAR whatever it holds; without it, only a file of conditions
+";
+
+const CHECK: &str = "\
+hem-year check HOUSE HOURS
+
+Lists all faults of a house (HOUSE.toml or HEAD) and its hours (HOURS.csv or YEAR), a line each:
+the first 100, then their number. Where there are none, start-up and all hours are calculated, and
+what the engine refuses is told. Nothing is written.
+";
+
+const RUN: &str = "\
+hem-year run HOUSE HOURS BOOK
+
+Begins BOOK for a house (HOUSE.toml or HEAD), or takes it up, and appends those of its hours
+(HOURS.csv or YEAR) that it does not hold yet. Every hour that is held is calculated again first
+and must be the same bytes.
+
+A run may be stopped at any time, by Ctrl-C, by a kill or by a power cut: the same command goes on
+from there, and the finished book is the same, byte for byte. After Ctrl-C it says what is held.
+
+A book that is damaged, that belongs to another house or other hours, or that another run is
+writing is left as it is. Where a part of it is good, `hem-year cut` keeps that part.
+";
+
+const REPORT: &str = "\
+hem-year report BOOK [--csv FILE [--balance] [--nodes]] [--svg FILE]
+                     [--head HOUSE] [--name NAME] [--force]
+
+Calculates the hours of BOOK again and prints totals, kWh/m², a table of months, the ten hours of
+greatest heating and cooling load and the fingerprints (SHA-256) of head, conditions and book. Two
+prints with one fingerprint are of one book.
+
+  --csv FILE   writes the hours as a table: number, beginning, length, all that was given for the hour,
+               demand, air change rate and temperatures. Lines with # say what it is of. The
+               beginning is written with the year 2001, since hours have no year
+  --balance    adds the heat balance's 25 columns, W
+  --nodes      adds the temperature of each node, °C
+  --svg FILE   draws the year
+  --head HOUSE the house, as HOUSE.toml or HEAD: BOOK must be of it, and the table has its names
+  --name NAME  the house's name, else that of HOUSE.toml, else that of BOOK
+  --force      replaces FILE whatever it holds; without it, only a table or drawing of a report
+
+An hour that is damaged is found, because it is not what its conditions give. What cannot be found
+is a changed condition that has no effect in its hour (as a cooling setpoint in winter): that is
+another true book, and has another fingerprint.
+";
+
+const SHOW: &str = "\
+hem-year show FILE [--hour N | --hours] [--head HOUSE]
+
+Prints a head as the text of a house file, and conditions as a table of hours. Of a book it prints
+the head. The text makes the same bytes again.
+
+  --hour N     the conditions of the hour N, from 1; of a book what it led to as well
+  --hours      the conditions of all hours of a book
+  --head HOUSE the house that names the elements, as HOUSE.toml or HEAD
+";
+
+const CUT: &str = "\
+hem-year cut BOOK HOURS NEW [--head HOUSE] [--force]
+
+Writes the first hours of BOOK, as many as HOURS says, to NEW, as a book of its own. What stands
+behind them in BOOK may be damaged and is not looked at. BOOK stays as it is.
+
+  --head HOUSE takes the head of this house (HOUSE.toml or HEAD) in place of BOOK's own, where that one
+               is damaged
+  --force      replaces NEW whatever it holds; without it, only a book of the same head
+";

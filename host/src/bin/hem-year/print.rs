@@ -1,0 +1,45 @@
+//! What is told of a book: in words, as a table and as a drawing, from one reading of it.
+use crate::figures::{figures, HourFigures, Sums};
+use crate::fingerprint::Fingerprints;
+use crate::words::{count, length_of_time};
+use hem_zone::Book;
+
+/// The name and version of this program, as every print gives it.
+pub const PROGRAM: &str = concat!("hem-year ", env!("CARGO_PKG_VERSION"));
+
+pub struct Print<'a> {
+    /// The house's name.
+    pub name: String,
+    /// The names of its elements.
+    pub elements: Vec<String>,
+    pub book: &'a Book,
+    pub hours: Vec<HourFigures>,
+    pub sums: Sums,
+    pub fingerprints: Fingerprints,
+}
+
+impl<'a> Print<'a> {
+    /// A house of this name, whose elements have these names.
+    pub fn of(name: String, elements: Vec<String>, book: &'a Book) -> Self {
+        let hours = figures(book);
+        let (sums, fingerprints) = (Sums::of(&hours), Fingerprints::of(book));
+        // A name is one line in every print.
+        let name = name.replace(char::is_control, " ");
+        Self { name, elements, book, hours, sums, fingerprints }
+    }
+
+    /// Useful floor area, m².
+    pub fn area(&self) -> f64 {
+        self.book.zone().layout().useful_area()
+    }
+
+    /// How long the book is: as `8,760 hours`, or `2,190 hours in 8,760 steps` where its entries are
+    /// not all an hour long.
+    pub fn length(&self) -> String {
+        let all = length_of_time(self.sums.length);
+        match self.hours.iter().all(|hour| hour.length == 1.0) {
+            true => all,
+            false => format!("{all} in {}", count(self.hours.len(), "step")),
+        }
+    }
+}

@@ -1,0 +1,70 @@
+//! Numbers with their words.
+
+/// A whole number in groups of three: 8784 is 8,784.
+pub fn grouped(number: usize) -> String {
+    let digits = number.to_string();
+    let mut text = String::new();
+    for (place, digit) in digits.chars().enumerate() {
+        if place > 0 && (digits.len() - place) % 3 == 0 {
+            text.push(',');
+        }
+        text.push(digit);
+    }
+    text
+}
+
+/// A number of hours or other things, as `1 hour` and `8,760 hours`.
+pub fn count(number: usize, thing: &str) -> String {
+    match number {
+        1 => format!("1 {thing}"),
+        _ => format!("{} {thing}s", grouped(number)),
+    }
+}
+
+/// A number of hours of a book.
+pub fn hours(number: usize) -> String {
+    count(number, "hour")
+}
+
+/// A length of time in hours, to the thousandth, as `1,227.5`.
+pub fn length(hours: f64) -> String {
+    let thousandths = (hours * 1000.0).round() as u64;
+    let mut text = grouped((thousandths / 1000) as usize);
+    if thousandths % 1000 > 0 {
+        text += format!(".{:03}", thousandths % 1000).trim_end_matches('0');
+    }
+    text
+}
+
+/// A length of time with its word, as `1 hour` and `0.25 hours`.
+pub fn length_of_time(hours: f64) -> String {
+    match length(hours).as_str() {
+        "1" => "1 hour".into(),
+        number => format!("{number} hours"),
+    }
+}
+
+#[cfg(test)]
+mod tests {
+    use super::*;
+
+    #[test]
+    fn numbers_have_groups_and_their_words() {
+        assert_eq!(
+            (grouped(0), grouped(999), grouped(8760)),
+            ("0".into(), "999".into(), "8,760".into())
+        );
+        assert_eq!(
+            (hours(1), hours(0), hours(1_000_000)),
+            ("1 hour".into(), "0 hours".into(), "1,000,000 hours".into())
+        );
+        assert_eq!(
+            (length(1227.5), length(0.1 + 0.2), length(8760.0)),
+            ("1,227.5".into(), "0.3".into(), "8,760".into())
+        );
+        assert_eq!(
+            (length_of_time(1.0), length_of_time(0.25)),
+            ("1 hour".into(), "0.25 hours".into())
+        );
+    }
+}

@@ -1,0 +1,194 @@
+//! The command line of hem-year: its words, its help, the manual page and the completion.
+mod common;
+
+use common::Folder;
+use std::fs;
+use std::path::Path;
+use std::process::Command;
+
+const COMMANDS: [&str; 8] = ["sample", "house", "hours", "check", "run", "report", "show", "cut"];
+
+fn folder(name: &str) -> Folder {
+    let folder = Folder::with_house_p(name, 3);
+    folder.run().done();
+    folder
+}
+
+#[test]
+fn a_usage_error_is_one_sentence_with_where_to_read_more() {
+    let folder = Folder::new("errors");
+    for (words, sentence) in [
+        (&[][..], "no command is given; see `hem-year help`"),
+        (&["walk"], "\"walk\" is not a command; see `hem-year help`"),
+        (&["help", "walk"], "\"walk\" is not a command; see `hem-year help`"),
+        (&["help", "run", "cut"], "help: \"cut\" is one word too many; see `hem-year help`"),
+        (&["run", "a", "b"], "run: BOOK is missing; see `hem-year help run`"),
+        (&["run", "a", "b", "c", "d"], "run: \"d\" is one word too many; see `hem-year help run`"),
+        (&["report"], "report: BOOK is missing; see `hem-year help report`"),
+        (&["report", "b", "--csv"], "report: --csv needs a file; see `hem-year help report`"),
+        (&["report", "b", "--csv", "--svg", "x"], "report: --csv needs a file; see"),
+        (&["report", "b", "--pdf", "x"], "report: --pdf is not an option; see"),
+        (&["report", "b", "-x"], "report: -x is not an option; see"),
+        (&["report", "b", "--force=1"], "report: --force takes no value; see"),
+        (&["report", "b", "--csv", "x", "--csv", "y"], "report: --csv is given twice; see"),
+        (&["report", "b", "--force", "--force"], "report: --force is given twice; see"),
+        (&["report", "b", "--balance"], "report: --balance is of use only with --csv; see"),
+        (&["report", ""], "report: the word for BOOK is empty; see"),
+        (&["report", "b", "--csv="], "report: the word for --csv is empty; see"),
+        (&["run", "a", "b", "c", "--csv", "x"], "run: --csv is not an option of this command; see"),
+        (&["cut", "a", "-1", "b"], "cut: -1 is not an option; see"),
+        (
+            &["cut", "a", "1.5", "b"],
+            "cut: HOURS is \"1.5\", which is not a whole number from 0; see",
+        ),
+        (&["show", "a", "--hour", "x"], "show: --hour is \"x\", which is not a whole number"),
+        (&["show", "a", "--hour=1", "--hours"], "show: --hours and --hour exclude each other; see"),
+        (&["--csv"], "--csv needs a file; see `hem-year help`"),
+    ] {
+        folder.call(words).failed(2, sentence);
+    }
+    assert!(folder.names().is_empty(), "no command made a file");
+}
+
+#[test]
+fn options_stand_anywhere() {
+    let folder = folder("anywhere");
+    let report = folder.call(&["report", "p.book"]).done();
+    for words in [
+        &["report", "--csv", "x.csv", "p.book"][..],
+        &["report", "p.book", "--csv=x.csv"],
+        &["--csv=x.csv", "report", "p.book"],
+        &["--csv", "x.csv", "report", "--", "p.book"],
+    ] {
+        assert_eq!(folder.call(words).done(), report, "{words:?}");
+        assert!(folder.text("x.csv").starts_with("# hem-year table"));
+        folder.remove("x.csv");
+    }
+    // After -- every word is a file.
+    folder.write("--csv", &folder.read("p.book"));
+    let odd = folder.call(&["report", "--", "--csv"]).done();
+    assert!(odd.starts_with("--csv: "), "{odd}");
+    folder.call(&["report", "p.book", "--svg=--svg"]).done();
+    assert!(folder.text("--svg").starts_with("<svg "));
+    folder.call(&["report", "--", "p.book", "--svg"]).failed(2, "\"--svg\" is one word too many");
+}
+
+#[test]
+fn help_and_version_are_everywhere() {
+    let folder = Folder::new("help");
+    let general = folder.call(&["help"]).done();
+    for words in [&["--help"][..], &["-h"], &["help", "help"]] {
+        assert_eq!(folder.call(words).done(), general);
+    }
+    for command in COMMANDS {
+        assert!(general.contains(&format!("\n  hem-year {command} ")), "{command}");
+        let help = folder.call(&["help", command]).done();
+        assert!(help.starts_with(&format!("hem-year {command} ")), "{help}");
+        assert!(help.contains("Exit status: 0 done") && !help.ends_with("\n\n"));
+        for words in
+            [&[command, "--help"][..], &["--help", command], &[command, "a", "-h", "--force"]]
+        {
+            assert_eq!(folder.call(words).done(), help);
+        }
+        let version = format!("hem-year {}\n", env!("CARGO_PKG_VERSION"));
+        for words in [&["--version"][..], &["-V"], &[command, "--version"]] {
+            assert_eq!(folder.call(words).done(), version);
+        }
+        assert!(
+            help.lines().all(|line| line.chars().count() <= 104),
+            "{command}: a line is too long"
+        );
+    }
+    assert!(folder.names().is_empty(), "sample --help makes no folder");
+}
+
+/// The options that a text names, without their hyphens.
+fn options(text: &str) -> Vec<String> {
+    let mut found: Vec<String> = text
+        .split("--")
+        .skip(1)
+        .map(|rest| rest.chars().take_while(|c| c.is_ascii_alphabetic()).collect())
+        .filter(|name: &String| !name.is_empty())
+        .collect();
+    found.sort();
+    found.dedup();
+    found
+}
+
+#[test]
+fn the_options_of_a_help_are_taken_and_no_others() {
+    let folder = Folder::new("options");
+    let all = ["balance", "csv", "force", "head", "hour", "hours", "name", "nodes", "svg"];
+    for command in COMMANDS {
+        let help = folder.call(&["help", command]).done();
+        let usage = help.split("\n\n").next().unwrap();
+        let named = options(usage);
+        assert!(options(&help).iter().all(|name| named.contains(name)), "{help}");
+        for option in all {
+            let valued = ["csv", "head", "hour", "name", "svg"].contains(&option);
+            let word = if valued { format!("--{option}=1") } else { format!("--{option}") };
+            let errors = folder.call(&[command, &word]).errors();
+            let refused = errors.contains("is not an option of this command");
+            assert_eq!(refused, !named.iter().any(|n| n == option), "{command} {option}: {errors}");
+        }
+    }
+}
+
+fn host_file(name: &str) -> String {
+    fs::read_to_string(Path::new(env!("CARGO_MANIFEST_DIR")).join(name)).unwrap()
+}
+
+#[test]
+fn the_manual_page_has_every_command_and_option() {
+    let (folder, page) = (Folder::new("manual"), host_file("hem-year.1"));
+    for command in COMMANDS {
+        assert!(page.contains(&format!("\n.It Cm {command} Ar ")), "{command}");
+        let help = folder.call(&["help", command]).done();
+        let after =
+            page.split(&format!("\n.Cm {command}\n")).nth(1).unwrap_or_else(|| panic!("{command}"));
+        let synopsis = after.split("\n.Nm").next().unwrap();
+        for option in options(&help) {
+            assert!(page.contains(&format!("\n.It Fl -{option}")), "--{option}");
+            assert!(synopsis.contains(&format!("Fl -{option}")), "{command} --{option}");
+        }
+    }
+    assert_eq!(page.matches("\n.It Cm ").count(), COMMANDS.len() + 1);
+}
+
+/// What bash offers behind some words, the last of which is being typed.
+fn completed(folder: &Folder, words: &[&str]) -> Vec<String> {
+    let script = Path::new(env!("CARGO_MANIFEST_DIR")).join("completions/hem-year.bash");
+    let run = "source \"$1\"; shift; COMP_WORDS=(\"$@\"); COMP_CWORD=$(($# - 1)); _hem_year; \
+               printf '%s\\n' \"${COMPREPLY[@]}\"";
+    let mut bash = Command::new("bash");
+    bash.args(["-c", run, "bash"]).arg(script).arg("hem-year").args(words);
+    let output = bash.current_dir(&folder.0).output().unwrap();
+    assert_eq!(String::from_utf8_lossy(&output.stderr), "");
+    let text = String::from_utf8(output.stdout).unwrap();
+    let mut found: Vec<String> = text.lines().filter(|l| !l.is_empty()).map(String::from).collect();
+    found.sort();
+    found
+}
+
+#[test]
+fn the_completion_offers_commands_options_and_files() {
+    let folder = folder("completion");
+    assert_eq!(completed(&folder, &["r"]), ["report", "run"]);
+    let mut all: Vec<&str> = [&COMMANDS[..], &["help"]].concat();
+    all.sort();
+    assert_eq!(completed(&folder, &[""]), all);
+    assert_eq!(completed(&folder, &["help", "c"]), ["check", "cut"]);
+    assert_eq!(completed(&folder, &["-"]), ["--help", "--version"]);
+    for command in COMMANDS {
+        let help = folder.call(&["help", command]).done();
+        let mut expected: Vec<String> =
+            options(&help).iter().map(|name| format!("--{name}")).collect();
+        expected.push("--help".into());
+        expected.sort();
+        assert_eq!(completed(&folder, &[command, "--"]), expected, "{command}");
+        assert_eq!(completed(&folder, &[command, "p."]), ["p.book", "p.head", "p.year"]);
+    }
+    assert_eq!(completed(&folder, &["report", "p.book", "--csv", "p.y"]), ["p.year"]);
+    assert_eq!(completed(&folder, &["--force", "report", "--s"]), ["--svg"]);
+    assert!(completed(&folder, &["show", "p.book", "--hour", ""]).is_empty());
+}
