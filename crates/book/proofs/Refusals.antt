@@ -26,6 +26,7 @@ use Rattle.book.specs.Refusals.{
   takeUpStartUp,
   takeUpMany,
   takeUpFalse,
+  BookRefusals,
 }
 
 pub begin-refusals : (head buf : List ℕ) → RefusesOnly BeginRefusal (beginRes year head buf)
@@ -53,3 +54,6 @@ take-up-refusals bytes =
     (λ bs. refuses-also (λ n i p. takeUpHead p) (head-refusals bs))
     (λ z. refuses-also (λ n i p. takeUpStartUp p) (start-up-refusals standardCoefficients z))
     takeUpMany takeUpFalse bytes
+
+pub book-refusals : BookRefusals
+book-refusals = record { begins = begin-refusals; appends = append-refusals; takeUps = take-up-refusals }

@@ -1,7 +1,13 @@
 -- Document 01, "Refused, operation by operation": which numbers and indices begin, append and take-up can be refused with.
 use Prim.Native.Nat.{ℕ, _<_}
+use mathlib.Core.List.{List}
+use Rattle.zone.specs.Promise.{RefusesOnly}
+use Rattle.zone.specs.declared.record.zone_record.Zone.{Zone}
+use Rattle.zone.specs.declared.calls.state.State.{State}
 use Rattle.zone.specs.Claims.HeadRefusals.{HeadRefusal, ZoneRefusal}
 use Rattle.zone.specs.Claims.Refusals.{HourRefusal, StartUpRefusal}
+use Rattle.book.specs.Model.Calls.{Values, beginRes, appendRes, takeUpRes}
+use Rattle.book.specs.Year.{year}
 use Rattle.book.specs.Numbers.{bufferShort, bookFull, falseEntry}
 use Rattle.book.specs.Layout.{mostEntries}
 
@@ -24,3 +30,9 @@ pub data TakeUpRefusal : (number index : ℕ) → Type 0 where
   takeUpStartUp : {number index : ℕ} → StartUpRefusal number index → TakeUpRefusal number index
   takeUpMany : TakeUpRefusal bookFull 0
   takeUpFalse : (entry : ℕ) → entry < mostEntries → TakeUpRefusal falseEntry entry
+
+-- which refusals each call can give, for every input
+pub record BookRefusals : Type 0 where
+  pub begins : (head buf : List ℕ) → RefusesOnly BeginRefusal (beginRes year head buf)
+  pub appends : (z : Zone) (given : Values State) (conditions buf : List ℕ) → RefusesOnly AppendRefusal (appendRes year z given conditions buf)
+  pub takeUps : (bytes : List ℕ) → RefusesOnly TakeUpRefusal (takeUpRes year bytes)

@@ -6,9 +6,12 @@ use Rattle.zone.proofs.Claims.State.{update-state-tested, hour-state-tested, st
 use Rattle.zone.proofs.Claims.Reasons.{demand-reasons, hour-reasons, update-reasons, start-up-reasons}
 use Rattle.zone.proofs.Claims.HeadClaims.{head-claims, zone-claims, conditions-claims}
 use Rattle.zone.proofs.Claims.Index.{indices-of-zone}
+use Rattle.zone.proofs.Claims.Refusals.{call-refusals, state-kept}
+use Rattle.zone.proofs.Claims.NodeOrder.{node-order}
 use Rattle.zone.proofs.Claims.HouseP.{house-p, claim}
 use Rattle.book.proofs.Demand3.{year-claims}
 use Rattle.book.proofs.HouseP.{begin-of-p, book-of-p}
+use Rattle.book.proofs.Refusals.{book-refusals}
 use Rattle.hem_zone.specs.Demands.{Demands}
 use Rattle.hem_zone.proofs.Claims.{claims}
 use Rattle.hem_zone.proofs.Ties.{Ties, ties}
@@ -23,6 +26,7 @@ demands =
         heads = head-claims;
         zone = zone-claims z;
         conditions = conditions-claims z;
+        refusals = call-refusals standardCoefficients z;
         demand-reasons = demand-reasons standardCoefficients z;
         hour-reasons = hour-reasons standardCoefficients z;
         update-reasons = update-reasons standardCoefficients z;
@@ -34,6 +38,7 @@ demands =
         is-fifteen = start-up-is-15 standardCoefficients z;
         settled = start-up-settled standardCoefficients z;
         is-settled = start-up-is-settled standardCoefficients z;
+        kept = state-kept;
         update-state = update-state-tested standardCoefficients z;
         hour-state = hour-state-tested standardCoefficients z;
         start-up-state = start-up-state-tested standardCoefficients z;
@@ -45,8 +50,10 @@ demands =
         take-up-is = take-up-is;
         every-list = C.session-exactly;
         from-any-book = C.session-from;
+        refusals = book-refusals;
         books = year-claims;
       };
+      node-order = node-order;
       house-p = house-p;
       rows = claim;
       begin-of-p = begin-of-p;

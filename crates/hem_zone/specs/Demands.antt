@@ -2,7 +2,7 @@
 -- (specs/Zone.antt, specs/Book.antt): that is the contract's, which the check proves, as it proves that the call ends, and `Ties` (proofs/Ties.antt) says it of each contract. So the
 -- demands are stated of the definitions. Each line is a type that is proved elsewhere.
 use mathlib.Core.Path.{_≡_}
-use mathlib.Core.Bool.{true}
+use mathlib.Core.Bool.{Bool, true}
 use mathlib.Core.List.{List, _++_}
 use lib.ListN.{take}
 use Prim.Native.Nat.{ℕ}
@@ -11,10 +11,11 @@ use Rattle.zone.specs.Promise.{ok}
 use Rattle.zone.specs.Format.Head.{ReadHead, headOf}
 use Rattle.zone.specs.Record.BuildingElement.{standardCoefficients}
 use Rattle.zone.specs.Claims.Head.{HeadClaims, ZoneClaims, ConditionsClaims}
-use Rattle.zone.specs.Claims.Refusals.{IndicesOfZone}
+use Rattle.zone.specs.Claims.Refusals.{CallRefusals, IndicesOfZone}
 use Rattle.zone.specs.Claims.DemandClaims.{DemandCallSigns, HourCallSigns}
 use Rattle.zone.specs.Claims.StartUpClaims.{StartUp15, StartUpIs15, StartUpSettled, StartUpIsSettled}
-use Rattle.zone.specs.Claims.StateClaims.{UpdateStateTested, HourStateTested, StartUpStateTested}
+use Rattle.zone.specs.Claims.NodeOrder.{NodeOrder}
+use Rattle.zone.specs.Claims.StateClaims.{StateKept, UpdateStateTested, HourStateTested, StartUpStateTested}
 use Rattle.zone.specs.Claims.Reasons.{DemandReasons, HourReasons, UpdateReasons, StartUpReasons}
 use Rattle.zone.specs.Claims.HouseP.{HousePClaims, allHold, table}
 use Rattle.book.specs.Model.Plain.{empty, book, WellFormed}
@@ -22,6 +23,7 @@ use Rattle.book.specs.Model.Calls as Calls
 use Rattle.book.specs.Model.Session.{Meets}
 use Rattle.book.specs.Model.Claims as Book
 use Rattle.book.specs.HouseP.{BeginOfP, BookOfP}
+use Rattle.book.specs.Refusals.{BookRefusals}
 use Rattle.book.specs.Year.{year}
 use Rattle.hem_zone.specs.Claims.{Claims}
 use Rattle.hem_zone.specs.Book.{Held, valuesOf, hemBegin, hemAppend, hemTakeUp}
@@ -43,7 +45,8 @@ pub record Demand2 (z : Zone) : Type 0 where
   pub heads : HeadClaims
   pub zone : ZoneClaims z
   pub conditions : (bytes : List ℕ) → ConditionsClaims z bytes
-  -- refusals come only under the paper's conditions,
+  -- the refusals of each call are the paper's, and come only under its conditions,
+  pub refusals : CallRefusals standardCoefficients z
   pub demand-reasons : DemandReasons standardCoefficients z
   pub hour-reasons : HourReasons standardCoefficients z
   pub update-reasons : UpdateReasons standardCoefficients z
@@ -57,7 +60,8 @@ pub record Demand2 (z : Zone) : Type 0 where
   pub is-fifteen : StartUpIs15 standardCoefficients z
   pub settled : StartUpSettled standardCoefficients z
   pub is-settled : StartUpIsSettled standardCoefficients z
-  -- and a state that is handed back is taken by the next call.
+  -- and a state that is handed back is the given one where a call is refused, and is taken by the next call.
+  pub kept : StateKept
   pub update-state : UpdateStateTested standardCoefficients z
   pub hour-state : HourStateTested standardCoefficients z
   pub start-up-state : StartUpStateTested standardCoefficients z
@@ -76,13 +80,16 @@ pub record Demand3 : Type 1 where
   -- the lists that this speaks of are all those whose calls may be made, starting with no book or with any that is held;
   pub every-list : Book.SessionFrom year cTypes empty
   pub from-any-book : (head : List ℕ) (is : List (year .Item)) → WellFormed year head is → Book.SessionFrom year cTypes (book head is)
-  -- and what else is claimed of books.
+  -- their refusals are the paper's; and what else is claimed of books.
+  pub refusals : BookRefusals
   pub books : Book.Claims year
 
 pub record Demands (Ties : Type 0) : Type 1 where
   pub demand-1 : Demand1 Ties
   pub demand-2 : (z : Zone) → Demand2 z
   pub demand-3 : Demand3
+  -- node order and the solver's slots, there and back
+  pub node-order : (twoNodes : List Bool) (count : ℕ) → NodeOrder twoNodes count
   -- House P: its head, start-up and hour, and its marked rows; its book's begin, entry and cuts
   pub house-p : HousePClaims
   pub rows : allHold table ≡ true

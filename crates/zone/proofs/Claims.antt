@@ -11,6 +11,7 @@ pub mod StartUp
 pub mod State
 pub mod Refusals
 pub mod Reasons
+pub mod NodeOrder
 pub mod HouseP
 pub mod Index
 pub mod ForBook

@@ -5,4 +5,5 @@ pub mod StartUpClaims
 pub mod StateClaims
 pub mod Refusals
 pub mod Reasons
+pub mod NodeOrder
 pub mod HouseP

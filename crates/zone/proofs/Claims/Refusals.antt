@@ -2,7 +2,7 @@
 use mathlib.Core.Path.{_≡_, refl}
 use Prim.Native.Nat.{ℕ, zero, suc}
 use mathlib.Core.Bool.{_&&_}
-use mathlib.Core.List.{List}
+use mathlib.Core.List.{List, []}
 use native.Mathlib.Omega.{arith}
 use lib.Ieee.{Float}
 use Rattle.solver.specs.Result.{Result, ok, refused}
@@ -47,7 +47,9 @@ use Rattle.zone.specs.Claims.Refusals.{
   startUpSolve,
   startUpClose,
   startUpLimit,
+  CallRefusals,
 }
+use Rattle.zone.specs.Claims.StateClaims.{StateKept}
 use Rattle.zone.proofs.Laws.Refusals.{before-refuses, tested-refuses, step-refuses, demand-refuses, pass-refuses}
 
 module _ (c : Coefficients) (z : Zone) where
@@ -110,3 +112,16 @@ update-keeps s (refused k j) n i e = refl
 pub hour-keeps : (s : State) (x : Result HourResult) (n i : ℕ) → hourStepReply s x .answer ≡ HourAnswer.Refused n i → hourStepReply s x .state ≡ s
 hour-keeps s (ok r) n i e = let w : _≡_ {A = ℕ} 0 1 = cc in absurd (omega arith)
 hour-keeps s (refused k j) n i e = refl
+
+pub call-refusals : (c : Coefficients) (z : Zone) → CallRefusals c z
+call-refusals c z =
+    record {
+      operatives = λ s. operative-refusals c z s [];
+      demands = demand-refusals c z;
+      hourSteps = hour-step-refusals c z;
+      updates = update-refusals c z;
+      startUps = start-up-refusals c z;
+    }
+
+pub state-kept : StateKept
+state-kept = record { demands = demand-keeps; updates = update-keeps; hourSteps = hour-keeps }

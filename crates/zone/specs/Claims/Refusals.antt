@@ -60,3 +60,11 @@ pub record IndicesOfZone (c : Coefficients) (z : Zone) : Type 0 where
   pub hourSteps : (s : State) (bytes : List ℕ) → RefusesOnly (OfZone z) (hourStep c z s bytes)
   pub updates : (s : State) (bytes : List ℕ) (gains fraction ach : Float) → RefusesOnly (OfZone z) (updateTemperatures c z s bytes gains fraction ach)
   pub startUp : RefusesOnly (OfZone z) (initNodeTemps c z)
+
+-- which refusals each call can give, for every input
+pub record CallRefusals (c : Coefficients) (z : Zone) : Type 0 where
+  pub operatives : (s : State) → RefusesOnly OperativeRefusal (operative z s)
+  pub demands : (s : State) (bytes : List ℕ) → RefusesOnly HourRefusal (demand c z s bytes)
+  pub hourSteps : (s : State) (bytes : List ℕ) → RefusesOnly HourRefusal (hourStep c z s bytes)
+  pub updates : (s : State) (bytes : List ℕ) (gains fraction ach : Float) → RefusesOnly UpdateRefusal (updateTemperatures c z s bytes gains fraction ach)
+  pub startUps : RefusesOnly StartUpRefusal (initNodeTemps c z)
