@@ -24,10 +24,11 @@ are the paper's tests in the paper's order; the houses that give 12 to 15 are co
 are those of House P in balance, where every result is 0 and every temperature 20. A row:
 
     u32   length of what follows
-    u8    call (1 demand, 2 update, 3 start-up, 4 hour step, 5 begin, 6 append, 7 take-up, 8 zone_of_head, 9 zone_test)
+    u8    call (1 demand, 2 update, 3 start-up, 4 hour step, 5 begin, 6 append, 7 take-up, 8 the head alone,
+          structure and values, printed as zone_of_head, 9 zone_test)
     u8    expected number (0: accepted), u16 expected index
     u32   length, the head (of a take-up: the whole book)
-    u8    change of the zone's record after the head is read (0 none, 1 count, 2 treatments of the first element,
+    u8    change of the zone after its head is read (0 none, 1 count, 2 treatments of the first element,
           3 useful area, 4 area of the second element), u16 its value
     u16   the state's node count, u16 count of temperatures, the temperatures
     u16   length, the conditions; 3 f64 update's gains, fraction and rate

@@ -12,13 +12,13 @@ use Rattle.zone.specs.Claims.HouseP.{houseP, headOfP, hourOfP, twenty, noDemand
 use Rattle.zone.proofs.Claims.HouseP.{house-p, count-of-p, nodes-of-p, head-of-p-length}
 use Rattle.zone.specs.declared.calls.state.State.{State}
 use Rattle.book.specs.Model.Interface.{Written}
-use Rattle.book.specs.Model.Calls.{Values, accepted, beginRes, takeUp}
-use Rattle.book.specs.Model.Plain.{book, entriesOf, usedBytes, ownValues, itemsEndingBy, WellFormed}
+use Rattle.book.specs.Model.Calls.{BookState, accepted, beginRes, takeUp}
+use Rattle.book.specs.Model.Plain.{book, entriesOf, usedBytes, ownBookState, itemsEndingBy, WellFormed}
 use Rattle.book.specs.Model.PlainTakeUp.{takeUpPlain}
 use Rattle.book.specs.Model.Claims.{keptBy}
 use Rattle.book.specs.Layout.{wholeLength}
 use Rattle.book.specs.Entry.{entryOf}
-use Rattle.book.specs.Year.{hourEntry, year}
+use Rattle.book.specs.Year.{hourEntry, yearInterface}
 use Rattle.book.specs.HouseP.{begun, BeginOfP, BookOfP}
 use Rattle.book.proofs.Model.AppendCut.{cut-is, cut-take-up}
 use Rattle.book.proofs.Model.Books.Cuts.{take-up-ok}
@@ -35,7 +35,7 @@ begin-of-p buf room =
 entry : Written State
 entry = record { bytes = entryOf houseP hourOfP noDemand twenty; after = twenty }
 
-gives : year .step houseP 0 twenty hourOfP ≡ ok entry
+gives : yearInterface .step houseP 0 twenty hourOfP ≡ ok entry
 unfolding hourEntry entry
 gives = bind-is _ _ _ _ (house-p .hour) refl
 
@@ -47,10 +47,10 @@ long = step-length houseP 0 twenty hourOfP entry gives ∙ whole
 
 -- ---- the book with this hour, and cuts of it
 
-head-is : year .headOf headOfP ≡ ok (record { zone = houseP; length = length headOfP })
+head-is : yearInterface .headOf headOfP ≡ ok (record { zone = houseP; length = length headOfP })
 head-is = house-p .head ∙ ap (λ n. ok (record { zone = houseP; length = n })) (sym head-of-p-length)
 
-formed : WellFormed year headOfP (hourOfP ∷ [])
+formed : WellFormed yearInterface headOfP (hourOfP ∷ [])
 unfolding entriesOf
 formed =
     record {
@@ -61,7 +61,7 @@ formed =
       within-limit = omega arith;
     }
 
-none-formed : WellFormed year headOfP []
+none-formed : WellFormed yearInterface headOfP []
 unfolding entriesOf
 none-formed =
     record {
@@ -72,32 +72,32 @@ none-formed =
       within-limit = omega arith;
     }
 
-used-is : usedBytes year headOfP (formed .contents) ≡ headOfP ++ entry .bytes
+used-is : usedBytes yearInterface headOfP (formed .contents) ≡ headOfP ++ entry .bytes
 unfolding formed
 used-is = ap (λ x. headOfP ++ x) (append-nil (entry .bytes))
 
 used-length : length (headOfP ++ entry .bytes) ≡ 396
 used-length = omega (arith, length-append headOfP (entry .bytes), head-of-p-length, long)
 
-kept-none : keptBy year 395 headOfP (hourOfP ∷ []) formed ≡ []
+kept-none : keptBy yearInterface 395 headOfP (hourOfP ∷ []) formed ≡ []
 unfolding formed itemsEndingBy
 kept-none = rw (lt-leb (length headOfP + length (entry .bytes)) 395 (omega (arith, long, head-of-p-length)))
 
-kept-one : keptBy year 396 headOfP (hourOfP ∷ []) formed ≡ hourOfP ∷ []
+kept-one : keptBy yearInterface 396 headOfP (hourOfP ∷ []) formed ≡ hourOfP ∷ []
 unfolding formed itemsEndingBy
 kept-one = rw (le-leb (length headOfP + length (entry .bytes)) 396 (omega (arith, long, head-of-p-length)))
 
 -- a cut leaves the hours that it keeps
-taken : (g : Values State) (at : ℕ) (is : List (List ℕ)) → 180 ≤ at → keptBy year at headOfP (hourOfP ∷ []) formed ≡ is → (S : WellFormed year headOfP is)
-    → takeUp year g (take at (headOfP ++ entry .bytes)) ≡ accepted (ownValues year headOfP (S .contents))
+taken : (g : BookState State) (at : ℕ) (is : List (List ℕ)) → 180 ≤ at → keptBy yearInterface at headOfP (hourOfP ∷ []) formed ≡ is → (S : WellFormed yearInterface headOfP is)
+    → takeUp yearInterface g (take at (headOfP ++ entry .bytes)) ≡ accepted (ownBookState yearInterface headOfP (S .contents))
 taken g at is lo e S =
-    take-up-ok year year-laws g (take at (headOfP ++ entry .bytes)) headOfP is
-    (ap (λ x. takeUpPlain year (take at x)) (sym used-is)
-    ∙ sym (cut-take-up year year-laws headOfP (hourOfP ∷ []) formed at (omega (arith, lo, head-of-p-length)))
-    ∙ cut-is year year-laws headOfP (hourOfP ∷ []) formed at
+    take-up-ok yearInterface year-laws g (take at (headOfP ++ entry .bytes)) headOfP is
+    (ap (λ x. takeUpPlain yearInterface (take at x)) (sym used-is)
+    ∙ sym (cut-take-up yearInterface year-laws headOfP (hourOfP ∷ []) formed at (omega (arith, lo, head-of-p-length)))
+    ∙ cut-is yearInterface year-laws headOfP (hourOfP ∷ []) formed at
     ∙ ap (λ x. ok (book headOfP x)) e) S
 
-at-395 : (g : Values State) → takeUp year g (take 395 (headOfP ++ entry .bytes)) ≡ accepted begun
+at-395 : (g : BookState State) → takeUp yearInterface g (take 395 (headOfP ++ entry .bytes)) ≡ accepted begun
 unfolding none-formed
 at-395 g =
     taken g 395 [] (omega arith) kept-none none-formed
@@ -107,7 +107,7 @@ same-after : entry .after ≡ twenty
 unfolding entry
 same-after = refl
 
-at-396 : (g : Values State) → takeUp year g (take 396 (headOfP ++ entry .bytes)) ≡ accepted (record { state = twenty; count = 1; used = 396 })
+at-396 : (g : BookState State) → takeUp yearInterface g (take 396 (headOfP ++ entry .bytes)) ≡ accepted (record { state = twenty; count = 1; used = 396 })
 unfolding formed
 at-396 g =
     taken g 396 (hourOfP ∷ []) (omega arith) kept-one formed

@@ -4,27 +4,27 @@ use Rattle.zone.specs.declared.record.zone_record.Verdict.the-variants.{Accepte
 use Rattle.zone.specs.declared.calls.state.State.{State}
 use Rattle.book.specs.Model.Calls as Book
 use Rattle.book.specs.Model.Session.{CodeTypes}
-use Rattle.book.specs.Year.{year}
-use Rattle.book.specs.declared.book.Values.{Values}
+use Rattle.book.specs.Year.{yearInterface}
+use Rattle.book.specs.declared.book.BookState.{BookState}
 use Rattle.book.specs.declared.book.Reply.{Reply}
 
-abbrev pub givenOf : Values → Book.Values State
+abbrev pub givenOf : BookState → Book.BookState State
 givenOf v = record { state = v .state; count = v .count; used = v .used }
 
-abbrev pub valuesIn : Book.Values State → Values
-valuesIn v = record { state = v .state; count = v .count; used = v .used }
+abbrev pub bookStateIn : Book.BookState State → BookState
+bookStateIn v = record { state = v .state; count = v .count; used = v .used }
 
 -- the reply of a call
 abbrev pub replyIn : Book.Answer State → Reply
-replyIn (Book.accepted v) = record { verdict = Accepted; values = valuesIn v }
-replyIn (Book.refusedWith number index v) = record { verdict = Refused number index; values = valuesIn v }
+replyIn (Book.accepted v) = record { verdict = Accepted; values = bookStateIn v }
+replyIn (Book.refusedWith number index v) = record { verdict = Refused number index; values = bookStateIn v }
 
-abbrev pub answerBy : Verdict → Book.Values State → Book.Answer State
+abbrev pub answerBy : Verdict → Book.BookState State → Book.Answer State
 answerBy Accepted v = Book.accepted v
 answerBy (Refused number index) v = Book.refusedWith number index v
 
 abbrev pub answerOf : Reply → Book.Answer State
 answerOf r = answerBy (r .verdict) (givenOf (r .values))
 
-abbrev pub rustTypes : CodeTypes year
-rustTypes = record { Values = Values; Reply = Reply; givenOf = givenOf; answerOf = answerOf; replyIn = replyIn }
+abbrev pub rustTypes : CodeTypes yearInterface
+rustTypes = record { BookState = BookState; Reply = Reply; givenOf = givenOf; answerOf = answerOf; replyIn = replyIn }

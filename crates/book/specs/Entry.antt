@@ -10,7 +10,7 @@ use Rattle.zone.specs.declared.calls.state.State.{State}
 use Rattle.zone.specs.declared.calls.state.Demand.{Demand}
 use Rattle.zone.specs.declared.calls.state.AchToTriggerHeating.{AchToTriggerHeating}
 use Rattle.zone.specs.declared.calls.state.AchToTriggerHeating.the-variants.{Absent, At}
-use Rattle.zone.specs.Format.Layout.{lengthSize}
+use Rattle.zone.specs.Format.Layout.{floatSize, lengthSize}
 use Rattle.book.specs.Layout.{version, followingLength}
 
 -- "4-byte length of what follows, then version byte 1"
@@ -19,7 +19,7 @@ frontBytes z = bytesOf lengthSize (followingLength z) ++ (version ∷ [])
 
 -- "trigger byte 0 or 1, trigger rate (zero bits if 0)"
 abbrev pub triggerBytes : AchToTriggerHeating → List ℕ
-triggerBytes Absent = bytesOf 1 0 ++ bytesOf 8 0
+triggerBytes Absent = bytesOf 1 0 ++ bytesOf floatSize 0
 triggerBytes (At rate) = bytesOf 1 1 ++ floatBytes rate
 
 -- "heating, cooling, rate", then the trigger

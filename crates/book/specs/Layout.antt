@@ -1,7 +1,7 @@
 -- Sizes in the bytes of a book.
 use Prim.Native.Nat.{ℕ, _+_, _*_}
 use Rattle.zone.specs.Record.BuildingElement.{nodeCount}
-use Rattle.zone.specs.Format.Layout.{lengthSize}
+use Rattle.zone.specs.Format.Layout.{floatSize, lengthSize, elementHourSize}
 use Rattle.zone.specs.declared.record.zone_record.Zone.{Zone}
 
 -- the most entries: a leap year's hours
@@ -16,8 +16,11 @@ abbrev pub frontSize : ℕ
 frontSize = lengthSize + 1
 
 -- "Length 147 + 41n + 8N, fixed by the head": of what follows the 4 bytes in which it stands
+abbrev pub fixedLength : ℕ
+fixedLength = 147
+
 abbrev pub followingLength : Zone → ℕ
-followingLength z = 147 + 41 * z .count + 8 * nodeCount z
+followingLength z = fixedLength + elementHourSize * z .count + floatSize * nodeCount z
 
 -- all bytes of an entry
 abbrev pub wholeLength : Zone → ℕ

@@ -6,8 +6,8 @@ use Rattle.zone.specs.declared.record.zone_record.Zone.{Zone}
 use Rattle.zone.specs.declared.calls.state.State.{State}
 use Rattle.zone.specs.Claims.HeadRefusals.{HeadRefusal, ZoneRefusal}
 use Rattle.zone.specs.Claims.Refusals.{HourRefusal, StartUpRefusal}
-use Rattle.book.specs.Model.Calls.{Values, beginRes, appendRes, takeUpRes}
-use Rattle.book.specs.Year.{year}
+use Rattle.book.specs.Model.Calls.{BookState, beginRes, appendRes, takeUpRes}
+use Rattle.book.specs.Year.{yearInterface}
 use Rattle.book.specs.Numbers.{bufferShort, bookFull, falseEntry}
 use Rattle.book.specs.Layout.{mostEntries}
 
@@ -15,24 +15,24 @@ use Rattle.book.specs.Layout.{mostEntries}
 pub data BeginRefusal : (number index : ℕ) → Type 0 where
   beginHead : {number index : ℕ} → HeadRefusal number index → BeginRefusal number index
   beginStartUp : {number index : ℕ} → StartUpRefusal number index → BeginRefusal number index
-  beginBuffer : BeginRefusal bufferShort 0
+  beginBufferShort : BeginRefusal bufferShort 0
 
 -- "Append: 8,784 entries held, 17; the hour step's; buffer, 16." The zone is tested first.
 pub data AppendRefusal : (number index : ℕ) → Type 0 where
   appendZone : {number index : ℕ} → ZoneRefusal number index → AppendRefusal number index
-  appendHeld : AppendRefusal bookFull 0
+  appendBookFull : AppendRefusal bookFull 0
   appendHour : {number index : ℕ} → HourRefusal number index → AppendRefusal number index
-  appendBuffer : AppendRefusal bufferShort 0
+  appendBufferShort : AppendRefusal bufferShort 0
 
 -- "Take up: head; start-up; then per whole entry, a 8,785th 17, a false one 18", with the entry's index from 0
 pub data TakeUpRefusal : (number index : ℕ) → Type 0 where
   takeUpHead : {number index : ℕ} → HeadRefusal number index → TakeUpRefusal number index
   takeUpStartUp : {number index : ℕ} → StartUpRefusal number index → TakeUpRefusal number index
-  takeUpMany : TakeUpRefusal bookFull 0
-  takeUpFalse : (entry : ℕ) → entry < mostEntries → TakeUpRefusal falseEntry entry
+  takeUpBookFull : TakeUpRefusal bookFull 0
+  takeUpFalseEntry : (entry : ℕ) → entry < mostEntries → TakeUpRefusal falseEntry entry
 
 -- which refusals each call can give, for every input
 pub record BookRefusals : Type 0 where
-  pub begins : (head buf : List ℕ) → RefusesOnly BeginRefusal (beginRes year head buf)
-  pub appends : (z : Zone) (given : Values State) (conditions buf : List ℕ) → RefusesOnly AppendRefusal (appendRes year z given conditions buf)
-  pub takeUps : (bytes : List ℕ) → RefusesOnly TakeUpRefusal (takeUpRes year bytes)
+  pub begins : (head buf : List ℕ) → RefusesOnly BeginRefusal (beginRes yearInterface head buf)
+  pub appends : (z : Zone) (given : BookState State) (conditions buf : List ℕ) → RefusesOnly AppendRefusal (appendRes yearInterface z given conditions buf)
+  pub takeUps : (bytes : List ℕ) → RefusesOnly TakeUpRefusal (takeUpRes yearInterface bytes)

@@ -38,8 +38,8 @@ entryLength z rest = cond (leb (wholeLength z) (length rest)) (some (wholeLength
 abbrev pub conditionsIn : Zone → (entry : List ℕ) → List ℕ
 conditionsIn z e = take (conditionsLength (z .count)) (drop frontSize e)
 
-abbrev pub year : Interface
-year =
+abbrev pub yearInterface : Interface
+yearInterface =
     record {
       Zone = Zone;
       State = State;

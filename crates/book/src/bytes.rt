@@ -1,8 +1,10 @@
 // Numbers, floats and copies written into a lent buffer, and the comparison of bytes.
+use crate::layout::FLOAT_SIZE;
 ghost use mathlib.Core.Path.{_≡_};
 ghost use Prim.Native.Nat.{_+_, _*_, _≤_};
 ghost use lib.ListN.{length, take};
 ghost use lib.Ieee.{binary64, toBits};
+ghost use Rattle.zone.specs.Format.Layout.{floatSize};
 ghost use Rattle.zone.specs.Format.Bytes.{bytesOf};
 ghost use Rattle.book.specs.Model.Bytes.{equalBytes};
 ghost use Rattle.zone.specs.Format.Encode.{floatBytes, rowBytes};
@@ -33,22 +35,22 @@ pub fn write_be(b: &mut [u8], at: usize, count: usize, n: u64)
 }
 
 pub fn write_f64_be(b: &mut [u8], at: usize, x: f64)
-    requires { ⌜ at + 8 ≤ length (now b) ⌝ }
+    requires { ⌜ at + floatSize ≤ length (now b) ⌝ }
     ensures { λ _. ⌜ now (b .exit) ≡ replaceAt at (floatBytes x) (now (b .entry)) ⌝ }
 {
-    write_be(b, at, 8, bits_of(x));
+    write_be(b, at, FLOAT_SIZE, bits_of(x));
 }
 
 // The first `count` floats of `xs`, one behind the other from `at` on.
 pub fn write_f64s_be(b: &mut [u8], at: usize, xs: &[f64], count: usize)
-    requires { ⌜ (count ≤ length (now xs)) × (at + 8 * count ≤ length (now b)) ⌝ }
+    requires { ⌜ (count ≤ length (now xs)) × (at + floatSize * count ≤ length (now b)) ⌝ }
     ensures { λ _. ⌜ now (b .exit) ≡ replaceAt at (rowBytes (take count (now (xs .entry)))) (now (b .entry)) ⌝ }
 {
     let mut i = 0;
     let mut p = at;
     while i < count {
         write_f64_be(b, p, xs[i]);
-        p += 8;
+        p += FLOAT_SIZE;
         i += 1;
     }
 }

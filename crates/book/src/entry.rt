@@ -8,6 +8,7 @@ use crate::layout::CONDITIONS_ELEMENT;
 use crate::layout::CONDITIONS_SIZE;
 use crate::layout::DEMAND_SIZE;
 use crate::layout::FIXED_LENGTH;
+use crate::layout::FLOAT_SIZE;
 use crate::layout::FRONT_SIZE;
 use crate::layout::LENGTH_SIZE;
 use crate::layout::LONGEST_ENTRY;
@@ -16,30 +17,31 @@ use crate::layout::VERSION;
 use zone::AchToTriggerHeating;
 use zone::Demand;
 use zone::State;
-use zone::Zone;
+use zone::ZoneFront;
 use zone::node_count;
 ghost use mathlib.Core.Path.{_≡_};
 ghost use Prim.Native.Nat.{_+_, _*_, _≤_};
 ghost use lib.ListN.{length, take};
+ghost use Rattle.zone.specs.Inner.Lent.{zoneIn};
 ghost use Rattle.zone.specs.Record.BuildingElement.{nodeCount};
 ghost use Rattle.book.specs.Model.Bytes.{equalBytes};
 ghost use Rattle.zone.specs.Format.Encode.{rowBytes};
-ghost use Rattle.zone.specs.Format.Layout.{conditionsLength};
+ghost use Rattle.zone.specs.Format.Layout.{floatSize, conditionsLength};
 ghost use Rattle.book.specs.Layout.{frontSize, followingLength, wholeLength};
 ghost use Rattle.book.specs.Entry.{frontBytes, triggerBytes, demandBytes, entryOf};
 ghost use Rattle.book.specs.Inner.Replace.{replaceAt};
 ghost use Rattle.book.specs.Inner.Sizes.{triggerSize, demandSize, longestFollowing, longestEntry};
 
 // N, the air's node included.
-fn nodes_of(z: Zone) -> usize
+fn nodes_of(z: ZoneFront, codes: &[u8; 72], values: &[f64; 600]) -> usize
     requires { ⌜ z .count ≤ 24 ⌝ }
-    ensures { λ r. ⌜ (r ≡ nodeCount z) × (r ≤ 121) ⌝ }
+    ensures { λ r. ⌜ (r ≡ nodeCount (zoneIn z (now (codes .entry)) (now (values .entry)))) × (r ≤ 121) ⌝ }
 {
-    node_count(z)
+    node_count(z, codes, values)
 }
 
 // The bytes of an hour's conditions.
-pub fn conditions_length(z: Zone) -> usize
+pub fn conditions_length(z: ZoneFront) -> usize
     requires { ⌜ z .count ≤ 24 ⌝ }
     ensures { λ r. ⌜ r ≡ conditionsLength (z .count) ⌝ }
 {
@@ -47,27 +49,27 @@ pub fn conditions_length(z: Zone) -> usize
 }
 
 // The length that stands in an entry's first 4 bytes.
-fn length_field(z: Zone) -> usize
+fn length_field(z: ZoneFront, codes: &[u8; 72], values: &[f64; 600]) -> usize
     requires { ⌜ z .count ≤ 24 ⌝ }
-    ensures { λ r. ⌜ (r ≡ followingLength z) × (r ≤ longestFollowing) ⌝ }
+    ensures { λ r. ⌜ (r ≡ followingLength (zoneIn z (now (codes .entry)) (now (values .entry)))) × (r ≤ longestFollowing) ⌝ }
 {
-    FIXED_LENGTH + CONDITIONS_ELEMENT * z.count + 8 * nodes_of(z)
+    FIXED_LENGTH + CONDITIONS_ELEMENT * z.count + FLOAT_SIZE * nodes_of(z, codes, values)
 }
 
 // All bytes of an entry.
-pub fn entry_length(z: Zone) -> usize
+pub fn entry_length(z: ZoneFront, codes: &[u8; 72], values: &[f64; 600]) -> usize
     requires { ⌜ z .count ≤ 24 ⌝ }
-    ensures { λ r. ⌜ (r ≡ wholeLength z) × (r ≤ longestEntry) ⌝ }
+    ensures { λ r. ⌜ (r ≡ wholeLength (zoneIn z (now (codes .entry)) (now (values .entry)))) × (r ≤ longestEntry) ⌝ }
 {
-    LENGTH_SIZE + length_field(z)
+    LENGTH_SIZE + length_field(z, codes, values)
 }
 
 // Length and version. The version is read in a comparison with these bytes, and nowhere else.
-fn put_front(z: Zone, b: &mut [u8], at: usize)
+fn put_front(z: ZoneFront, codes: &[u8; 72], values: &[f64; 600], b: &mut [u8], at: usize)
     requires { ⌜ (z .count ≤ 24) × (at + frontSize ≤ length (now b)) ⌝ }
-    ensures { λ _. ⌜ now (b .exit) ≡ replaceAt at (frontBytes z) (now (b .entry)) ⌝ }
+    ensures { λ _. ⌜ now (b .exit) ≡ replaceAt at (frontBytes (zoneIn z (now (codes .entry)) (now (values .entry)))) (now (b .entry)) ⌝ }
 {
-    let length = length_field(z);
+    let length = length_field(z, codes, values);
     write_be(b, at, LENGTH_SIZE, length as u64);
     write_be(b, at + LENGTH_SIZE, 1, VERSION);
 }
@@ -79,7 +81,7 @@ fn put_trigger(trigger: AchToTriggerHeating, b: &mut [u8], at: usize)
     match trigger {
         AchToTriggerHeating::Absent => {
             write_be(b, at, 1, 0);
-            write_be(b, at + 1, 8, 0);
+            write_be(b, at + 1, FLOAT_SIZE, 0);
         }
         AchToTriggerHeating::At(rate) => {
             write_be(b, at, 1, 1);
@@ -100,7 +102,7 @@ fn put_demand(d: Demand, b: &mut [u8], at: usize)
 
 // The first `nodes` temperatures.
 fn put_temperatures(s: State, nodes: usize, b: &mut [u8], at: usize)
-    requires { ⌜ (nodes ≤ 121) × (at + 8 * nodes ≤ length (now b)) ⌝ }
+    requires { ⌜ (nodes ≤ 121) × (at + floatSize * nodes ≤ length (now b)) ⌝ }
     ensures { λ _. ⌜ now (b .exit) ≡ replaceAt at (rowBytes (take nodes (s .temps))) (now (b .entry)) ⌝ }
 {
     let temps = s.temps;
@@ -108,24 +110,41 @@ fn put_temperatures(s: State, nodes: usize, b: &mut [u8], at: usize)
 }
 
 // An entry from `at` on: length and version, the conditions as they were given, the demand and the temperatures after the hour.
-pub fn put_entry(z: Zone, conditions: &[u8], d: Demand, s: State, b: &mut [u8], at: usize)
-    requires { ⌜ (z .count ≤ 24) × (length (now conditions) ≡ conditionsLength (z .count)) × (at + wholeLength z ≤ length (now b)) ⌝ }
-    ensures { λ _. ⌜ now (b .exit) ≡ replaceAt at (entryOf z (now (conditions .entry)) d s) (now (b .entry)) ⌝ }
+pub fn put_entry(
+    z: ZoneFront,
+    codes: &[u8; 72],
+    values: &[f64; 600],
+    conditions: &[u8],
+    d: Demand,
+    s: State,
+    b: &mut [u8],
+    at: usize,
+)
+    requires { ⌜ (z .count ≤ 24) × (length (now conditions) ≡ conditionsLength (z .count)) × (at + wholeLength (zoneIn z (now codes) (now values)) ≤ length (now b)) ⌝ }
+    ensures { λ _. ⌜ now (b .exit) ≡ replaceAt at (entryOf (zoneIn z (now (codes .entry)) (now (values .entry))) (now (conditions .entry)) d s) (now (b .entry)) ⌝ }
 {
     let n = conditions.len();
-    let nodes = nodes_of(z);
-    put_front(z, b, at);
+    let nodes = nodes_of(z, codes, values);
+    put_front(z, codes, values, b, at);
     copy(conditions, n, b, at + FRONT_SIZE);
     put_demand(d, b, at + FRONT_SIZE + n);
     put_temperatures(s, nodes, b, at + FRONT_SIZE + n + DEMAND_SIZE);
 }
 
 // Is a whole entry the one that these conditions, this demand and these temperatures have: it is written anew and compared.
-pub fn is_entry(z: Zone, conditions: &[u8], d: Demand, s: State, entry: &[u8]) -> bool
-    requires { ⌜ (z .count ≤ 24) × (length (now conditions) ≡ conditionsLength (z .count)) × (length (now entry) ≡ wholeLength z) × (length (entryOf z (now conditions) d s) ≡ wholeLength z) × (wholeLength z ≤ longestEntry) ⌝ }
-    ensures { λ r. ⌜ r ≡ equalBytes (entryOf z (now (conditions .entry)) d s) (now (entry .entry)) ⌝ }
+pub fn is_entry(
+    z: ZoneFront,
+    codes: &[u8; 72],
+    values: &[f64; 600],
+    conditions: &[u8],
+    d: Demand,
+    s: State,
+    entry: &[u8],
+) -> bool
+    requires { ⌜ (z .count ≤ 24) × (length (now conditions) ≡ conditionsLength (z .count)) × (length (now entry) ≡ wholeLength (zoneIn z (now codes) (now values))) × (length (entryOf (zoneIn z (now codes) (now values)) (now conditions) d s) ≡ wholeLength (zoneIn z (now codes) (now values))) × (wholeLength (zoneIn z (now codes) (now values)) ≤ longestEntry) ⌝ }
+    ensures { λ r. ⌜ r ≡ equalBytes (entryOf (zoneIn z (now (codes .entry)) (now (values .entry))) (now (conditions .entry)) d s) (now (entry .entry)) ⌝ }
 {
     let mut expected = [0u8; LONGEST_ENTRY];
-    put_entry(z, conditions, d, s, &mut expected, 0);
+    put_entry(z, codes, values, conditions, d, s, &mut expected, 0);
     begins_with(&expected, entry)
 }

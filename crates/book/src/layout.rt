@@ -3,6 +3,8 @@
 // A leap year's hours.
 pub const MOST_ENTRIES: usize = 8784;
 
+pub const FLOAT_SIZE: usize = 8;
+
 // Of each record: the length of what follows.
 pub const LENGTH_SIZE: usize = 4;
 // The version that entries are written with.
@@ -16,12 +18,14 @@ pub const CONDITIONS_SIZE: usize = 113;
 pub const CONDITIONS_ELEMENT: usize = 41;
 
 // Heating, cooling and rate.
-pub const RATES_SIZE: usize = 24;
+pub const RATES_SIZE: usize = 3 * FLOAT_SIZE;
 // Those, the trigger byte and the trigger rate.
-pub const DEMAND_SIZE: usize = RATES_SIZE + 9;
+pub const DEMAND_SIZE: usize = RATES_SIZE + 1 + FLOAT_SIZE;
 
-// What follows the length: version, conditions, demand and 8 bytes for each node.
+// What follows the length: version, conditions, demand and a float for each node.
 pub const FIXED_LENGTH: usize = 1 + CONDITIONS_SIZE + DEMAND_SIZE;
 
 // 24 elements of five nodes, and the air.
-pub const LONGEST_ENTRY: usize = LENGTH_SIZE + FIXED_LENGTH + 24 * CONDITIONS_ELEMENT + 121 * 8;
+pub const LONGEST_FOLLOWING: usize = FIXED_LENGTH + 24 * CONDITIONS_ELEMENT + 121 * FLOAT_SIZE;
+
+pub const LONGEST_ENTRY: usize = LENGTH_SIZE + LONGEST_FOLLOWING;

@@ -8,13 +8,13 @@ use crate::year::append_hours;
 use crate::year::is_accepted;
 use crate::year::nothing;
 use crate::year::refused_with;
-use crate::year::same_values;
+use crate::year::same_book_states;
+use book::BookState;
 use book::Reply;
-use book::Values;
 use std::num::wrapping_add_u64;
 use std::num::wrapping_add_usize;
 use std::num::wrapping_sub_usize;
-use zone::Zone;
+use zone::ZoneFront;
 
 // Hours and bytes of the small book.
 pub const HOURS: usize = 40;
@@ -52,40 +52,58 @@ fn taken_right(r: Reply, count: usize) -> bool {
 }
 
 fn continued(
-    z: Zone,
+    z: ZoneFront,
+    codes: &[u8; 72],
+    values: &[f64; 600],
     whole: &[u8; SMALL],
     other: &mut [u8; SMALL],
-    end: Values,
+    end: BookState,
     cut: usize,
 ) -> bool {
     copy(whole, other, cut);
     let count = entries_of(cut);
     let r = book::take_up(nothing(), part(other, 0, cut));
     let right = taken_right(r, count);
-    let filled = append_hours(z, r.values, count, HOURS, other);
+    let filled = append_hours(z, codes, values, r.values, count, HOURS, other);
     let same = same_bytes(other, whole);
-    let ended = same_values(filled.values, end);
+    let ended = same_book_states(filled.values, end);
     right && filled.refused == 0 && same && ended
 }
 
-fn cut_in_entries(z: Zone, whole: &[u8; SMALL], end: Values, cut: usize) -> bool {
+fn cut_in_entries(
+    z: ZoneFront,
+    codes: &[u8; 72],
+    values: &[f64; 600],
+    whole: &[u8; SMALL],
+    end: BookState,
+    cut: usize,
+) -> bool {
     let mut other = [170u8; SMALL];
-    continued(z, whole, &mut other, end, cut)
+    continued(z, codes, values, whole, &mut other, end, cut)
 }
 
-fn cut_at(z: Zone, whole: &[u8; SMALL], end: Values, cut: usize) -> bool {
+fn cut_at(
+    z: ZoneFront,
+    codes: &[u8; 72],
+    values: &[f64; 600],
+    whole: &[u8; SMALL],
+    end: BookState,
+    cut: usize,
+) -> bool {
     if cut < HEAD {
         cut_in_head(whole, cut)
     } else {
-        cut_in_entries(z, whole, end, cut)
+        cut_in_entries(z, codes, values, whole, end, cut)
     }
 }
 
 // `count` cuts, `step` bytes apart.
 pub fn check_cuts(
-    z: Zone,
+    z: ZoneFront,
+    codes: &[u8; 72],
+    values: &[f64; 600],
     whole: &[u8; SMALL],
-    end: Values,
+    end: BookState,
     from: usize,
     step: usize,
     count: usize,
@@ -93,7 +111,7 @@ pub fn check_cuts(
     let mut right: u64 = 0;
     let mut cut = from;
     for _ in 0..count {
-        if cut_at(z, whole, end, cut) {
+        if cut_at(z, codes, values, whole, end, cut) {
             right = wrapping_add_u64(right, 1);
         }
         cut = wrapping_add_usize(cut, step);

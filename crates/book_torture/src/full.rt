@@ -17,11 +17,11 @@ use crate::year::append_hours;
 use crate::year::is_accepted;
 use crate::year::nothing;
 use crate::year::refused_with;
-use crate::year::same_values;
-use book::Values;
+use crate::year::same_book_states;
+use book::BookState;
 use std::num::wrapping_add_u64;
 use std::num::wrapping_add_usize;
-use zone::Zone;
+use zone::ZoneFront;
 
 pub const YEAR: usize = 8784;
 // Head and 8,784 entries, and with one more.
@@ -30,10 +30,16 @@ pub const USED: usize = 2609215;
 const ROOM: usize = 2609512;
 
 // The 8,785th hour, appended, is refused and changes nothing.
-fn print_one_more(z: Zone, end: Values, b: &mut [u8; ROOM]) {
+fn print_one_more(
+    z: ZoneFront,
+    codes: &[u8; 72],
+    values: &[f64; 600],
+    end: BookState,
+    b: &mut [u8; ROOM],
+) {
     let c = conditions(YEAR);
     let before = hash(b);
-    let r = book::append(z, end, &c, b);
+    let r = book::append(z, codes, values, end, &c, b);
     let kept = before == hash(b);
     line(
         b"append of the 8,785th hour refused with 17",
@@ -41,15 +47,15 @@ fn print_one_more(z: Zone, end: Values, b: &mut [u8; ROOM]) {
     );
 }
 
-fn print_take_up(end: Values, b: &[u8; ROOM]) {
+fn print_take_up(end: BookState, b: &[u8; ROOM]) {
     let r = book::take_up(nothing(), part(b, 0, USED));
-    let same = same_values(r.values, end);
+    let same = same_book_states(r.values, end);
     line(
         b"take-up of the year: 8,784 entries, the same temperatures",
         is_accepted(r) && same,
     );
     let s = book::take_up(nothing(), part(b, 0, ROOM - 1));
-    let also = same_values(s.values, end);
+    let also = same_book_states(s.values, end);
     line(
         b"take-up with a rest one byte short of an entry: the same",
         is_accepted(s) && also,
@@ -62,22 +68,31 @@ fn print_take_up(end: Values, b: &[u8; ROOM]) {
 }
 
 // Cut, taken up, and filled again to the end.
-fn cut_year(z: Zone, end: Values, b: &mut [u8; ROOM], cut: usize) -> bool {
+fn cut_year(
+    z: ZoneFront,
+    codes: &[u8; 72],
+    values: &[f64; 600],
+    end: BookState,
+    b: &mut [u8; ROOM],
+    cut: usize,
+) -> bool {
     let before = hash(b);
     fill_from(b, cut, 170);
     let r = book::take_up(nothing(), part(b, 0, cut));
     let taken = r.values;
     let count = taken.count;
-    let filled = append_hours(z, taken, count, YEAR, b);
+    let filled = append_hours(z, codes, values, taken, count, YEAR, b);
     fill_from(b, USED, 0);
-    let same = same_values(filled.values, end);
+    let same = same_book_states(filled.values, end);
     is_accepted(r) && filled.refused == 0 && same && before == hash(b)
 }
 
 // `count` cuts of the year, `step` bytes apart.
 fn check_year(
-    z: Zone,
-    end: Values,
+    z: ZoneFront,
+    codes: &[u8; 72],
+    values: &[f64; 600],
+    end: BookState,
     b: &mut [u8; ROOM],
     from: usize,
     step: usize,
@@ -86,7 +101,7 @@ fn check_year(
     let mut right: u64 = 0;
     let mut cut = from;
     for _ in 0..count {
-        if cut_year(z, end, b, cut) {
+        if cut_year(z, codes, values, end, b, cut) {
             right = wrapping_add_u64(right, 1);
         }
         cut = wrapping_add_usize(cut, step);
@@ -98,31 +113,46 @@ fn check_year(
 }
 
 // At every byte of the last three entries, and at 2,000 places from the head's end on.
-fn print_many_cuts(z: Zone, end: Values, b: &mut [u8; ROOM]) {
-    let last = check_year(z, end, b, USED - 3 * ENTRY, 1, 892);
+fn print_many_cuts(
+    z: ZoneFront,
+    codes: &[u8; 72],
+    values: &[f64; 600],
+    end: BookState,
+    b: &mut [u8; ROOM],
+) {
+    let last = check_year(z, codes, values, end, b, USED - 3 * ENTRY, 1, 892);
     of(
         b"cuts of the year at every byte of its last three entries",
         last.right,
         last.cuts,
     );
-    let spread = check_year(z, end, b, HEAD, 1304, 2000);
+    let spread = check_year(z, codes, values, end, b, HEAD, 1304, 2000);
     of(b"cuts spread over the year", spread.right, spread.cuts);
 }
 
-fn print_cuts(z: Zone, end: Values, b: &mut [u8; ROOM]) {
+fn print_cuts(
+    z: ZoneFront,
+    codes: &[u8; 72],
+    values: &[f64; 600],
+    end: BookState,
+    b: &mut [u8; ROOM],
+) {
     line(
         b"cut at the head's end, continued: the same bytes",
-        cut_year(z, end, b, HEAD),
+        cut_year(z, codes, values, end, b, HEAD),
     );
     line(
         b"cut at 1,000,000, continued: the same bytes",
-        cut_year(z, end, b, 1000000),
+        cut_year(z, codes, values, end, b, 1000000),
     );
     line(
         b"cut a byte before the end, continued: the same bytes",
-        cut_year(z, end, b, USED - 1),
+        cut_year(z, codes, values, end, b, USED - 1),
     );
-    line(b"cut at the end: the same bytes", cut_year(z, end, b, USED));
+    line(
+        b"cut at the end: the same bytes",
+        cut_year(z, codes, values, end, b, USED),
+    );
 }
 
 // One bit of the last byte of an entry changed, and back.
@@ -195,9 +225,15 @@ fn print_hours(b: &[u8; ROOM]) {
     count(b"  hours with windows open", t.windows);
 }
 
-fn fill_year(z: Zone, h: &[u8], b: &mut [u8; ROOM]) -> Values {
+fn fill_year(
+    z: ZoneFront,
+    codes: &[u8; 72],
+    values: &[f64; 600],
+    h: &[u8],
+    b: &mut [u8; ROOM],
+) -> BookState {
     let begun = book::begin(nothing(), h, b);
-    let filled = append_hours(z, begun.values, 0, YEAR, b);
+    let filled = append_hours(z, codes, values, begun.values, 0, YEAR, b);
     let end = filled.values;
     line(
         b"a year of 8,784 hours begun and appended",
@@ -209,13 +245,15 @@ fn fill_year(z: Zone, h: &[u8], b: &mut [u8; ROOM]) -> Values {
 pub fn print_year() {
     let mut b = [0u8; ROOM];
     let h = head();
-    let zone = zone::zone_of_head(&h);
-    let z = zone.zone;
-    let end = fill_year(z, &h, &mut b);
+    let mut codes = [0; 72];
+    let mut values = [0.0; 600];
+    let read = zone::read_head(&h, &mut codes, &mut values);
+    let z = read.zone;
+    let end = fill_year(z, &codes, &values, &h, &mut b);
     print_hours(&b);
-    print_one_more(z, end, &mut b);
+    print_one_more(z, &codes, &values, end, &mut b);
     print_take_up(end, &b);
-    print_cuts(z, end, &mut b);
-    print_many_cuts(z, end, &mut b);
+    print_cuts(z, &codes, &values, end, &mut b);
+    print_many_cuts(z, &codes, &values, end, &mut b);
     print_damage(&mut b);
 }

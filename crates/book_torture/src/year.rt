@@ -1,25 +1,25 @@
 // A book begun and filled hour by hour.
 use crate::bytes::bits_of;
 use crate::house::conditions;
+use book::BookState;
 use book::Reply;
-use book::Values;
 use std::num::wrapping_add_u64;
 use zone::State;
 use zone::Verdict;
-use zone::Zone;
+use zone::ZoneFront;
 
 // The values after some appends, and how many of them were refused.
 pub struct Filled {
-    pub values: Values,
+    pub values: BookState,
     pub refused: u64,
 }
 
-pub fn nothing() -> Values {
+pub fn nothing() -> BookState {
     let state = State {
         nodes: 0,
         temps: [0.0; 121],
     };
-    Values {
+    BookState {
         state,
         count: 0,
         used: 0,
@@ -45,28 +45,46 @@ pub fn is_accepted(r: Reply) -> bool {
     number_of(verdict) == 0
 }
 
-fn append_hour(z: Zone, filled: Filled, hour: usize, buf: &mut [u8]) -> Filled {
+fn append_hour(
+    z: ZoneFront,
+    codes: &[u8; 72],
+    values: &[f64; 600],
+    filled: Filled,
+    hour: usize,
+    buf: &mut [u8],
+) -> Filled {
     let c = conditions(hour);
-    let r = book::append(z, filled.values, &c, buf);
-    let values = r.values;
+    let r = book::append(z, codes, values, filled.values, &c, buf);
+    let after = r.values;
     if is_accepted(r) {
         Filled {
-            values,
+            values: after,
             refused: filled.refused,
         }
     } else {
         Filled {
-            values,
+            values: after,
             refused: wrapping_add_u64(filled.refused, 1),
         }
     }
 }
 
 // The hours `from` to `to` - 1.
-pub fn append_hours(z: Zone, values: Values, from: usize, to: usize, buf: &mut [u8]) -> Filled {
-    let mut filled = Filled { values, refused: 0 };
+pub fn append_hours(
+    z: ZoneFront,
+    codes: &[u8; 72],
+    values: &[f64; 600],
+    given: BookState,
+    from: usize,
+    to: usize,
+    buf: &mut [u8],
+) -> Filled {
+    let mut filled = Filled {
+        values: given,
+        refused: 0,
+    };
     for hour in from..to {
-        filled = append_hour(z, filled, hour, buf);
+        filled = append_hour(z, codes, values, filled, hour, buf);
     }
     filled
 }
@@ -85,7 +103,7 @@ fn same_temps(a: &[f64; 121], b: &[f64; 121]) -> bool {
     same
 }
 
-pub fn same_values(a: Values, b: Values) -> bool {
+pub fn same_book_states(a: BookState, b: BookState) -> bool {
     let s = a.state;
     let t = b.state;
     let x = s.temps;
@@ -95,8 +113,8 @@ pub fn same_values(a: Values, b: Values) -> bool {
 }
 
 // Refused so, with the values that were given.
-pub fn refused_with(r: Reply, given: Values, number: u64, index: usize) -> bool {
+pub fn refused_with(r: Reply, given: BookState, number: u64, index: usize) -> bool {
     let verdict = r.verdict;
-    let kept = same_values(r.values, given);
+    let kept = same_book_states(r.values, given);
     kept && number_of(verdict) == number && index_of(verdict) == index
 }

@@ -1,15 +1,18 @@
 -- What each call returns and leaves at each of its returns, from the callees' answers on the way.
 use Prim.Native.Nat.{ℕ}
-use mathlib.Core.Path.{_≡_, refl, ap, _∙_}
+use mathlib.Core.Path.{_≡_, refl, sym, ap, _∙_}
 use mathlib.Core.List.{List, [], _∷_}
 use lib.Ieee.{Float}
-use Rattle.zone.specs.Promise.{zero64, one64, Result}
+use Rattle.zone.specs.Promise.{zero64, one64, Result, refused, bind}
 use Rattle.zone.specs.declared.calls.state.AchToTriggerHeating.the-variants.{Absent, At}
 use Rattle.zone.specs.declared.record.zone_record.Zone.{Zone}
+use Rattle.zone.specs.declared.record.zone_record.Verdict.{Verdict}
 use Rattle.zone.specs.declared.record.zone_record.Verdict.the-variants.{Accepted, Refused}
 use Rattle.zone.specs.declared.format.head.Head.{Head}
 use Rattle.zone.specs.Record.BuildingElement.{standardCoefficients}
-use Rattle.zone.specs.Format.Head.{headOf, headAnswer}
+use Rattle.zone.specs.Inner.Lent.{zoneIn}
+use Rattle.zone.specs.Check.ZoneTest.{zoneTest, verdictOf}
+use Rattle.zone.specs.Inner.Head.{structuredHead, headIn}
 use Rattle.zone.specs.declared.physics.balance.HeatBalance.{HeatBalance}
 use Rattle.zone.specs.declared.calls.state.State.{State}
 use Rattle.zone.specs.declared.calls.state.Demand.{Demand}
@@ -28,33 +31,116 @@ use Rattle.zone.specs.Calls.StartUp.{initNodeTemps}
 use Rattle.zone.specs.Calls.Answers.{operativeReply, demandReply, updateReply, hourStepReply, startUpReply}
 use Rattle.hem_zone.specs.Code.{refusalCode, answerCode, answered}
 use Rattle.hem_zone.specs.Arrays.{stateIn, demandOut, balanceOut}
-use Rattle.hem_zone.specs.Zone.{withZone, startUpOut, updateOut, hourOut, hemHead}
+use Rattle.hem_zone.specs.Zone.{withZone, startUpOut, updateOut, hourOut, hemHead, hemStartUp, hemOperative, hemDemand, hemUpdate, hemHourStep}
 use Rattle.hem_zone.proofs.Laws.Code.{answered-refused, answered-ok}
+use Rattle.zone.proofs.Promise.{head-judged, head-wrong, head-fails, head-passes, start-up-judges, operative-judges, demand-judges, update-judges, hour-judges, verdict-accepted, verdict-refused}
 use Rattle.zone.proofs.Promise.{head-no, head-yes, start-no, start-yes, operative-no, operative-yes, demand-no, demand-yes, update-no, update-yes, hour-no, hour-yes}
 
 -- ---- the head's refusal, or what the call makes of its zone
 
-module _ (head : List ℕ) (h : Head) (e : h ≡ headAnswer (headOf head)) where
-  module _ {A B : Type 0} (w : A → B) (before : B) (f : Zone → Result A) where
-    pub zone-refused : (n j code : ℕ) → h .verdict ≡ Refused n j → code ≡ refusalCode n j → (code, before) ≡ answered w before (withZone head f)
-    unfolding withZone
-    zone-refused n j code v q = answered-refused w before (withZone head f) n j code q (rw (head-no (headOf head) h e n j v))
+module _ (head : List ℕ) (h : Head) (codes : List ℕ) (values : List Float) (e : headIn h codes values ≡ structuredHead head) where
+  abbrev zone : Zone
+  zone = zoneIn (h .zone) codes values
 
-    pub zone-accepted : (x : ℕ × B) → h .verdict ≡ Accepted → x ≡ answered w before (f (h .zone)) → x ≡ answered w before (withZone head f)
+  -- a call refuses each zone that the zone's test refuses, with its number and index: so of the head it needs no more than the structure
+  module _ {A B : Type 0} (w : A → B) (before : B) (f : Zone → Result A)
+      (judges : (z : Zone) (a b : ℕ) → zoneTest z ≡ refused a b → f z ≡ refused a b) where
+    by-structure : withZone head f ≡ bind (structuredHead head) (λ x. f (x .zone))
     unfolding withZone
-    zone-accepted x v q = q ∙ ap (answered w before) (rw (head-yes (headOf head) h e v))
+    by-structure = head-judged (λ x. f (x .zone)) (λ x. judges (x .zone)) head
+
+    pub zone-refused : (n j code : ℕ) → h .verdict ≡ Refused n j → code ≡ refusalCode n j → (code, before) ≡ answered w before (withZone head f)
+    zone-refused n j code v q =
+        answered-refused w before (withZone head f) n j code q (by-structure ∙ rw (head-no (structuredHead head) h codes values e n j v))
+
+    pub zone-accepted : (x : ℕ × B) → h .verdict ≡ Accepted → x ≡ answered w before (f zone) → x ≡ answered w before (withZone head f)
+    zone-accepted x v q = q ∙ ap (answered w before) (sym (by-structure ∙ rw (head-yes (structuredHead head) h codes values e v)))
+
+  -- each call on the zone of a head
+  module _ (temps : List Float) (nodes : ℕ) where
+    pub start-up-no-head : (n j code : ℕ) → h .verdict ≡ Refused n j → code ≡ refusalCode n j → (code, (temps, nodes)) ≡ hemStartUp head temps nodes
+    unfolding hemStartUp
+    start-up-no-head = zone-refused startUpOut (temps, nodes) _ (λ z a b q. start-up-judges z a b q standardCoefficients)
+
+    pub start-up-of-head : (x : ℕ × (List Float × ℕ)) → h .verdict ≡ Accepted → x ≡ answered startUpOut (temps, nodes) (initNodeTemps standardCoefficients zone)
+        → x ≡ hemStartUp head temps nodes
+    unfolding hemStartUp
+    start-up-of-head = zone-accepted startUpOut (temps, nodes) _ (λ z a b q. start-up-judges z a b q standardCoefficients)
+
+    abbrev given : State
+    given = stateIn temps nodes
+
+    module _ (before : Float) where
+      pub operative-no-head : (n j code : ℕ) → h .verdict ≡ Refused n j → code ≡ refusalCode n j → (code, before) ≡ hemOperative head temps nodes before
+      unfolding hemOperative
+      operative-no-head = zone-refused (λ t. t) before (λ z. operative z given) (λ z a b q. operative-judges z a b q given)
+
+      pub operative-of-head : (x : ℕ × Float) → h .verdict ≡ Accepted → x ≡ answered (λ t. t) before (operative zone given) → x ≡ hemOperative head temps nodes before
+      unfolding hemOperative
+      operative-of-head = zone-accepted (λ t. t) before (λ z. operative z given) (λ z a b q. operative-judges z a b q given)
+
+    module _ (conditions : List ℕ) where
+      module _ (out : List Float) where
+        pub demand-no-head : (n j code : ℕ) → h .verdict ≡ Refused n j → code ≡ refusalCode n j → (code, out) ≡ hemDemand head temps nodes conditions out
+        unfolding hemDemand
+        demand-no-head =
+            zone-refused demandOut out (λ z. demand standardCoefficients z given conditions) (λ z a b q. demand-judges z a b q standardCoefficients given conditions)
+
+        pub demand-of-head : (x : ℕ × List Float) → h .verdict ≡ Accepted → x ≡ answered demandOut out (demand standardCoefficients zone given conditions)
+            → x ≡ hemDemand head temps nodes conditions out
+        unfolding hemDemand
+        demand-of-head =
+            zone-accepted demandOut out (λ z. demand standardCoefficients z given conditions) (λ z a b q. demand-judges z a b q standardCoefficients given conditions)
+
+        module _ (balance : List Float) where
+          pub hour-no-head : (n j code : ℕ) → h .verdict ≡ Refused n j → code ≡ refusalCode n j
+              → (code, (temps, out, balance)) ≡ hemHourStep head temps nodes conditions out balance
+          unfolding hemHourStep
+          hour-no-head =
+              zone-refused hourOut (temps, out, balance) (λ z. hourStep standardCoefficients z given conditions)
+              (λ z a b q. hour-judges z a b q standardCoefficients given conditions)
+
+          pub hour-of-head : (x : ℕ × (List Float × List Float × List Float)) → h .verdict ≡ Accepted
+              → x ≡ answered hourOut (temps, out, balance) (hourStep standardCoefficients zone given conditions) → x ≡ hemHourStep head temps nodes conditions out balance
+          unfolding hemHourStep
+          hour-of-head =
+              zone-accepted hourOut (temps, out, balance) (λ z. hourStep standardCoefficients z given conditions)
+              (λ z a b q. hour-judges z a b q standardCoefficients given conditions)
+
+      module _ (gains fraction rate : Float) (balance : List Float) where
+        pub update-no-head : (n j code : ℕ) → h .verdict ≡ Refused n j → code ≡ refusalCode n j
+            → (code, (temps, balance)) ≡ hemUpdate head temps nodes conditions gains fraction rate balance
+        unfolding hemUpdate
+        update-no-head =
+            zone-refused updateOut (temps, balance) (λ z. updateTemperatures standardCoefficients z given conditions gains fraction rate)
+            (λ z a b q. update-judges z a b q standardCoefficients given conditions gains fraction rate)
+
+        pub update-of-head : (x : ℕ × (List Float × List Float)) → h .verdict ≡ Accepted
+            → x ≡ answered updateOut (temps, balance) (updateTemperatures standardCoefficients zone given conditions gains fraction rate)
+            → x ≡ hemUpdate head temps nodes conditions gains fraction rate balance
+        unfolding hemUpdate
+        update-of-head =
+            zone-accepted updateOut (temps, balance) (λ z. updateTemperatures standardCoefficients z given conditions gains fraction rate)
+            (λ z a b q. update-judges z a b q standardCoefficients given conditions gains fraction rate)
 
   pub head-refused : (n j code : ℕ) → h .verdict ≡ Refused n j → code ≡ refusalCode n j → code ≡ hemHead head
   unfolding hemHead answerCode
-  head-refused n j code v q = rw (head-no (headOf head) h e n j v) q
+  head-refused n j code v q = rw (head-wrong head n j (head-no (structuredHead head) h codes values e n j v)) q
 
-  pub head-accepted : h .verdict ≡ Accepted → 0 ≡ hemHead head
-  unfolding hemHead answerCode
-  head-accepted v = rw (head-yes (headOf head) h e v)
+  module _ (v : h .verdict ≡ Accepted) (t : Verdict) (p : t ≡ verdictOf (zoneTest zone)) where
+    pub zone-fails : (n j code : ℕ) → t ≡ Refused n j → code ≡ refusalCode n j → code ≡ hemHead head
+    unfolding hemHead answerCode
+    zone-fails n j code u q =
+        rw (head-fails head _ (head-yes (structuredHead head) h codes values e v) n j (verdict-refused (zoneTest zone) n j (sym p ∙ u))) q
 
-pub ruleset zone-cases = (zone-refused, zone-accepted)
+    pub head-accepted : t ≡ Accepted → 0 ≡ hemHead head
+    unfolding hemHead answerCode
+    head-accepted u = rw (head-passes head _ (head-yes (structuredHead head) h codes values e v) (verdict-accepted (zoneTest zone) (sym p ∙ u)))
 
-pub ruleset head-cases = (head-refused, head-accepted)
+pub ruleset zone-cases =
+    (start-up-no-head, start-up-of-head, operative-no-head, operative-of-head, demand-no-head, demand-of-head, hour-no-head, hour-of-head, update-no-head, update-of-head)
+
+pub ruleset head-cases = (head-refused, zone-fails, head-accepted)
 
 -- ---- start-up
 

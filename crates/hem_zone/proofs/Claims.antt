@@ -13,8 +13,8 @@ use Rattle.book.proofs.Refusals.{begin-refusals, append-refusals, take-up-refus
 use Rattle.hem_zone.specs.Code.{refusalCode, answerCode, lentAfter, answered}
 use Rattle.hem_zone.specs.Arrays.{stateIn}
 use Rattle.hem_zone.specs.Zone.{withZone, hemHead, hemStartUp, hemOperative, hemDemand, hemUpdate, hemHourStep}
-use Rattle.hem_zone.specs.Book.{valuesOf, hemBegin, hemAppend, hemTakeUp}
-use Rattle.hem_zone.specs.Claims.{AfterHead, ofHead, ofCall, Returned, Answered, Claims}
+use Rattle.hem_zone.specs.Book.{bookStateOf, hemBegin, hemAppend, hemTakeUp}
+use Rattle.hem_zone.specs.Claims.{AfterHead, ofHead, ofCall, ReturnCodeSpec, Answered, Claims}
 use Rattle.hem_zone.proofs.Laws.Numbered.{Numbered, head-numbered, operative-numbered, hour-numbered, update-numbered, start-up-numbered, begin-numbered, append-numbered, take-up-numbered, after-head-numbered}
 
 -- nothing of it is cut off, and both are read back
@@ -33,7 +33,7 @@ module _ (number index : ℕ) (p : Numbered number index) where
 
 module _ {P : ℕ → ℕ → Type 0} (numbered : (number index : ℕ) → P number index → Numbered number index) where
   -- 0 is returned exactly where it is accepted
-  pub returned : {A : Type 0} {r : Result A} → RefusesOnly P r → Returned P r (answerCode r)
+  pub returned : {A : Type 0} {r : Result A} → RefusesOnly P r → ReturnCodeSpec P r (answerCode r)
   unfolding answerCode
   returned (accepts a) = record { accepted = (λ _. (a, refl), λ _. refl); not-accepted = λ h. absurd (h refl) }
   returned (refuses {number = n} {index = i} p) =
@@ -46,6 +46,7 @@ module _ {P : ℕ → ℕ → Type 0} (numbered : (number index : ℕ) → P num
           index = i;
           is-refused = refl;
           allowed = p;
+          in-answer = record { from-1 = q .from-1; to-18 = q .to-18; room = omega (arith, q .few) };
           exact = e;
           «HEM_NUMBER» = code-number n i q;
           «HEM_INDEX» = code-index n i q;
@@ -89,6 +90,6 @@ claims =
       «hem_begin» = λ head buf held. answers begin-numbered _ _ (begin-refusals head buf);
       «hem_append» = λ head buf held conditions.
           answers (after-head-numbered append-numbered) _ _
-          (with-zone-refuses head _ λ z. append-refusals z (valuesOf held) conditions buf);
+          (with-zone-refuses head _ λ z. append-refusals z (bookStateOf held) conditions buf);
       «hem_take_up» = λ bytes held. answers take-up-numbered _ _ (take-up-refusals bytes);
     }

@@ -1,7 +1,7 @@
 -- The three demands of specs/Demands.antt, from the theorems that prove them.
 use Rattle.zone.specs.Record.BuildingElement.{standardCoefficients}
 use Rattle.zone.proofs.Claims.Demand.{demand-call-signs, hour-call-signs}
-use Rattle.zone.proofs.Claims.StartUp.{start-up-15, start-up-is-15, start-up-settled, start-up-is-settled}
+use Rattle.zone.proofs.Claims.StartUp.{start-up-not-settled, start-up-is-not-settled, start-up-settled, start-up-is-settled}
 use Rattle.zone.proofs.Claims.State.{update-state-tested, hour-state-tested, start-up-state-tested}
 use Rattle.zone.proofs.Claims.Reasons.{demand-reasons, hour-reasons, update-reasons, start-up-reasons}
 use Rattle.zone.proofs.Claims.HeadClaims.{head-claims, zone-claims, conditions-claims}
@@ -14,14 +14,16 @@ use Rattle.book.proofs.HouseP.{begin-of-p, book-of-p}
 use Rattle.book.proofs.Refusals.{book-refusals}
 use Rattle.hem_zone.specs.Demands.{Demands}
 use Rattle.hem_zone.proofs.Claims.{claims}
+use Rattle.hem_zone.proofs.ToldApart.{told-apart}
 use Rattle.hem_zone.proofs.Ties.{Ties, ties}
+use Rattle.hem_zone.proofs.BookTypes.{handed-on}
 use Rattle.hem_zone.proofs.Contracts.{begin-meets, append-meets, take-up-is}
 use Rattle.hem_zone.proofs.Demand3 as C
 
 pub demands : Demands Ties
 demands =
     record {
-      demand-1 = record { every-input = ties; refusals = claims };
+      demand-1 = record { every-input = ties; refusals = claims; told-apart = told-apart };
       demand-2 = λ z. record {
         heads = head-claims;
         zone = zone-claims z;
@@ -34,8 +36,8 @@ demands =
         indices = indices-of-zone standardCoefficients z;
         demand-signs = demand-call-signs standardCoefficients z;
         hour-signs = hour-call-signs standardCoefficients z;
-        fifteen = start-up-15 standardCoefficients z;
-        is-fifteen = start-up-is-15 standardCoefficients z;
+        not-settled = start-up-not-settled standardCoefficients z;
+        is-not-settled = start-up-is-not-settled standardCoefficients z;
         settled = start-up-settled standardCoefficients z;
         is-settled = start-up-is-settled standardCoefficients z;
         kept = state-kept;
@@ -48,6 +50,7 @@ demands =
         begin-meets = begin-meets;
         append-meets = append-meets;
         take-up-is = take-up-is;
+        handed-on = handed-on;
         every-list = C.session-exactly;
         from-any-book = C.session-from;
         refusals = book-refusals;

@@ -4,7 +4,7 @@ use contract.Lifetimes.{Lfts}
 use denote.Ref.{now}
 use borrow.Author.Needs.{needs}
 use Rattle.hem_zone.specs.Zone.{hemHead, hemStartUp, hemOperative, hemDemand, hemUpdate, hemHourStep}
-use Rattle.hem_zone.specs.Book.{holding, hemBegin, hemAppend, hemTakeUp}
+use Rattle.hem_zone.specs.Book.{cBookState, hemBegin, hemAppend, hemTakeUp}
 use Rattle.hem_zone.specs.Ties.{Tied}
 use Rattle.hem_zone.proofs.head.hem_head.Reads as head-reads
 use Rattle.hem_zone.proofs.step.hem_start_up.Reads as start-up-reads
@@ -16,7 +16,7 @@ use Rattle.hem_zone.proofs.book_calls.hem_begin.Reads as begin-reads
 use Rattle.hem_zone.proofs.book_calls.hem_append.Reads as append-reads
 use Rattle.hem_zone.proofs.book_calls.hem_take_up.Reads as take-up-reads
 
--- each for the lifetimes κs of its references
+-- each for the lifetimes κs of its references. The record stands in proofs/, since specs/ cannot name a function's contract; its form is in specs/Ties.antt
 pub record Ties : Type 0 where
   -- fn hem_head(head)
   pub «hem_head» : (κs : Lfts 1) → Tied (head-reads.Pre κs) (head-reads.Post κs) (λ r e. r) (λ a. hemHead (now (a .0)))
@@ -48,18 +48,18 @@ pub record Ties : Type 0 where
   -- fn hem_begin(head, buf, temps, nodes, count, used)
   pub «hem_begin» :
       (κs : Lfts 6) → Tied (begin-reads.Pre κs) (begin-reads.Post κs)
-      (λ r e. (r, (now (e .1 .0), holding (now (e .1 .1 .0)) (now (e .1 .1 .1 .0)) (now (e .1 .1 .1 .1 .0)) (now (e .1 .1 .1 .1 .1 .0)))))
-      (λ a. hemBegin (now (a .0)) (now (a .1 .0)) (holding (now (a .1 .1 .0)) (now (a .1 .1 .1 .0)) (now (a .1 .1 .1 .1 .0)) (now (a .1 .1 .1 .1 .1 .0))))
+      (λ r e. (r, (now (e .1 .0), cBookState (now (e .1 .1 .0)) (now (e .1 .1 .1 .0)) (now (e .1 .1 .1 .1 .0)) (now (e .1 .1 .1 .1 .1 .0)))))
+      (λ a. hemBegin (now (a .0)) (now (a .1 .0)) (cBookState (now (a .1 .1 .0)) (now (a .1 .1 .1 .0)) (now (a .1 .1 .1 .1 .0)) (now (a .1 .1 .1 .1 .1 .0))))
   -- fn hem_append(head, buf, temps, nodes, count, used, conditions)
   pub «hem_append» :
       (κs : Lfts 7) → Tied (append-reads.Pre κs) (append-reads.Post κs)
-      (λ r e. (r, (now (e .1 .0), holding (now (e .1 .1 .0)) (now (e .1 .1 .1 .0)) (now (e .1 .1 .1 .1 .0)) (now (e .1 .1 .1 .1 .1 .0)))))
-      (λ a. hemAppend (now (a .0)) (now (a .1 .0)) (holding (now (a .1 .1 .0)) (now (a .1 .1 .1 .0)) (now (a .1 .1 .1 .1 .0)) (now (a .1 .1 .1 .1 .1 .0))) (now (a .1 .1 .1 .1 .1 .1 .0)))
+      (λ r e. (r, (now (e .1 .0), cBookState (now (e .1 .1 .0)) (now (e .1 .1 .1 .0)) (now (e .1 .1 .1 .1 .0)) (now (e .1 .1 .1 .1 .1 .0)))))
+      (λ a. hemAppend (now (a .0)) (now (a .1 .0)) (cBookState (now (a .1 .1 .0)) (now (a .1 .1 .1 .0)) (now (a .1 .1 .1 .1 .0)) (now (a .1 .1 .1 .1 .1 .0))) (now (a .1 .1 .1 .1 .1 .1 .0)))
   -- fn hem_take_up(bytes, temps, nodes, count, used)
   pub «hem_take_up» :
       (κs : Lfts 5) → Tied (take-up-reads.Pre κs) (take-up-reads.Post κs)
-      (λ r e. (r, holding (now (e .1 .0)) (now (e .1 .1 .0)) (now (e .1 .1 .1 .0)) (now (e .1 .1 .1 .1 .0))))
-      (λ a. hemTakeUp (now (a .0)) (holding (now (a .1 .0)) (now (a .1 .1 .0)) (now (a .1 .1 .1 .0)) (now (a .1 .1 .1 .1 .0))))
+      (λ r e. (r, cBookState (now (e .1 .0)) (now (e .1 .1 .0)) (now (e .1 .1 .1 .0)) (now (e .1 .1 .1 .1 .0))))
+      (λ a. hemTakeUp (now (a .0)) (cBookState (now (a .1 .0)) (now (a .1 .1 .0)) (now (a .1 .1 .1 .0)) (now (a .1 .1 .1 .1 .0))))
 
 pub ties : Ties
 ties =

@@ -3,33 +3,33 @@ use Prim.Native.Nat.{ℕ, zero, suc, _%_, _/_}
 use Rattle.book.specs.Model.Calls as Book
 use Rattle.book.specs.Model.Session.{CodeTypes}
 use Rattle.zone.specs.declared.calls.state.State.{State}
-use Rattle.book.specs.Year.{year}
+use Rattle.book.specs.Year.{yearInterface}
 use Rattle.hem_zone.specs.Code.{refusalCode}
-use Rattle.hem_zone.specs.Book.{Held, valuesOf, heldOf}
+use Rattle.hem_zone.specs.Book.{CBookState, bookStateOf, cBookStateOf}
 
 -- the returned number, and `temps`, `nodes`, `count`, `used` after the call
 abbrev pub Reply : Type 0
-Reply = ℕ × Held
+Reply = ℕ × CBookState
 
 -- 0 where a call is accepted, else number + 256 × index, and then nothing is written: a refusal leaves the values that it was given
 abbrev pub replyIn : Book.Answer State → Reply
-replyIn (Book.accepted v) = (0, heldOf v)
-replyIn (Book.refusedWith number index v) = (refusalCode number index, heldOf v)
+replyIn (Book.accepted v) = (0, cBookStateOf v)
+replyIn (Book.refusedWith number index v) = (refusalCode number index, cBookStateOf v)
 
 -- and back: number and index as HEM_NUMBER and HEM_INDEX of the C header read them
-abbrev pub answerBy : (returned : ℕ) → Book.Values State → Book.Answer State
+abbrev pub answerBy : (returned : ℕ) → Book.BookState State → Book.Answer State
 answerBy zero v = Book.accepted v
 answerBy (suc c) v = Book.refusedWith (suc c % 256) (suc c / 256) v
 
 abbrev pub answerOf : Reply → Book.Answer State
-answerOf r = answerBy (r .0) (valuesOf (r .1))
+answerOf r = answerBy (r .0) (bookStateOf (r .1))
 
-abbrev pub cTypes : CodeTypes year
+abbrev pub cTypes : CodeTypes yearInterface
 cTypes =
     record {
-      Values = Held;
+      BookState = CBookState;
       Reply = Reply;
-      givenOf = valuesOf;
+      givenOf = bookStateOf;
       answerOf = answerOf;
       replyIn = replyIn;
     }

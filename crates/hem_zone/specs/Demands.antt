@@ -13,20 +13,20 @@ use Rattle.zone.specs.Record.BuildingElement.{standardCoefficients}
 use Rattle.zone.specs.Claims.Head.{HeadClaims, ZoneClaims, ConditionsClaims}
 use Rattle.zone.specs.Claims.Refusals.{CallRefusals, IndicesOfZone}
 use Rattle.zone.specs.Claims.DemandClaims.{DemandCallSigns, HourCallSigns}
-use Rattle.zone.specs.Claims.StartUpClaims.{StartUp15, StartUpIs15, StartUpSettled, StartUpIsSettled}
+use Rattle.zone.specs.Claims.StartUpClaims.{StartUpNotSettled, StartUpIsNotSettled, StartUpSettled, StartUpIsSettled}
 use Rattle.zone.specs.Claims.NodeOrder.{NodeOrder}
 use Rattle.zone.specs.Claims.StateClaims.{StateKept, UpdateStateTested, HourStateTested, StartUpStateTested}
 use Rattle.zone.specs.Claims.Reasons.{DemandReasons, HourReasons, UpdateReasons, StartUpReasons}
 use Rattle.zone.specs.Claims.HouseP.{HousePClaims, allHold, table}
 use Rattle.book.specs.Model.Plain.{empty, book, WellFormed}
 use Rattle.book.specs.Model.Calls as Calls
-use Rattle.book.specs.Model.Session.{Meets}
+use Rattle.book.specs.Model.Session.{CallSpec}
 use Rattle.book.specs.Model.Claims as Book
 use Rattle.book.specs.HouseP.{BeginOfP, BookOfP}
 use Rattle.book.specs.Refusals.{BookRefusals}
-use Rattle.book.specs.Year.{year}
-use Rattle.hem_zone.specs.Claims.{Claims}
-use Rattle.hem_zone.specs.Book.{Held, valuesOf, hemBegin, hemAppend, hemTakeUp}
+use Rattle.book.specs.Year.{yearInterface}
+use Rattle.hem_zone.specs.Claims.{Claims, ToldApart}
+use Rattle.hem_zone.specs.Book.{CBookState, bookStateOf, hemBegin, hemAppend, hemTakeUp}
 use Rattle.hem_zone.specs.BookTypes.{replyIn, cTypes}
 
 -- Ties is the record of proofs/Ties.antt, whose statement is to be read too: specs/ cannot name a function's contract.
@@ -37,6 +37,8 @@ pub record Demand1 (Ties : Type 0) : Type 0 where
   -- "A refusal carries its number, changes no lent byte, hands the temperatures back unchanged": 0 is returned exactly where a call is accepted; else
   -- the number and index of a refusal that the paper has for this call, and then nothing is written.
   pub refusals : Claims
+  -- No two refusals are returned as one number.
+  pub told-apart : ToldApart
 
 -- "Values equal BS EN ISO 52016-1's equations with one rounding per operation in the Rust's written order": what an accepted call writes is the value
 -- of `initNodeTemps`, `operative`, `demand`, `updateTemperatures`, `hourStep` (`writes` in Claims.antt), which are those equations. Of these:
@@ -56,8 +58,8 @@ pub record Demand2 (z : Zone) : Type 0 where
   pub demand-signs : DemandCallSigns standardCoefficients z
   pub hour-signs : HourCallSigns standardCoefficients z
   -- 15 means that no pass up to the limit settled, and an answer is the temperatures before the first pass that did,
-  pub fifteen : StartUp15 standardCoefficients z
-  pub is-fifteen : StartUpIs15 standardCoefficients z
+  pub not-settled : StartUpNotSettled standardCoefficients z
+  pub is-not-settled : StartUpIsNotSettled standardCoefficients z
   pub settled : StartUpSettled standardCoefficients z
   pub is-settled : StartUpIsSettled standardCoefficients z
   -- and a state that is handed back is the given one where a call is refused, and is taken by the next call.
@@ -69,20 +71,22 @@ pub record Demand2 (z : Zone) : Type 0 where
 pub record Demand3 : Type 1 where
   -- "For every list of calls on a year book each answer, the used bytes, count and temperatures are those of the plain book", for whatever `hem_begin`,
   -- `hem_append` and `hem_take_up` returned and left in what they were lent;
-  pub whole-lists : Book.Demand3 year cTypes
+  pub whole-lists : Book.Demand3 yearInterface cTypes
   -- what the definitions of these three functions leave is what such a list has of their calls;
-  pub begin-meets : (head buf : List ℕ) (held : Held) (c : ℕ) (out : List ℕ) (after : Held) → (c, (out, after)) ≡ hemBegin head buf held
-      → Meets year cTypes (c, after) out (Calls.begin year head (valuesOf held) buf)
-  pub append-meets : (used behind buf : List ℕ) (h : ReadHead Zone) (held : Held) (i : List ℕ) (c : ℕ) (out : List ℕ) (after : Held) → headOf used ≡ ok h
+  pub begin-meets : (head buf : List ℕ) (held : CBookState) (c : ℕ) (out : List ℕ) (after : CBookState) → (c, (out, after)) ≡ hemBegin head buf held
+      → CallSpec yearInterface cTypes (c, after) out (Calls.begin yearInterface head (bookStateOf held) buf)
+  pub append-meets : (used behind buf : List ℕ) (h : ReadHead Zone) (held : CBookState) (i : List ℕ) (c : ℕ) (out : List ℕ) (after : CBookState) → headOf used ≡ ok h
       → (c, (out, after)) ≡ hemAppend (take (h .length) used ++ behind) buf held i
-      → Meets year cTypes (c, after) out (Calls.append year (h .zone) (valuesOf held) i buf)
-  pub take-up-is : (bytes : List ℕ) (held : Held) → hemTakeUp bytes held ≡ replyIn (Calls.takeUp year (valuesOf held) bytes)
+      → CallSpec yearInterface cTypes (c, after) out (Calls.append yearInterface (h .zone) (bookStateOf held) i buf)
+  pub take-up-is : (bytes : List ℕ) (held : CBookState) → hemTakeUp bytes held ≡ replyIn (Calls.takeUp yearInterface (bookStateOf held) bytes)
+  -- and what they leave in `temps`, `nodes`, `count` and `used` is what the next call on the book is given;
+  pub handed-on : Book.HandedOn yearInterface cTypes (λ r. r .1)
   -- the lists that this speaks of are all those whose calls may be made, starting with no book or with any that is held;
-  pub every-list : Book.SessionFrom year cTypes empty
-  pub from-any-book : (head : List ℕ) (is : List (year .Item)) → WellFormed year head is → Book.SessionFrom year cTypes (book head is)
+  pub every-list : Book.SessionFrom yearInterface cTypes empty
+  pub from-any-book : (head : List ℕ) (is : List (yearInterface .Item)) → WellFormed yearInterface head is → Book.SessionFrom yearInterface cTypes (book head is)
   -- their refusals are the paper's; and what else is claimed of books.
   pub refusals : BookRefusals
-  pub books : Book.Claims year
+  pub books : Book.Claims yearInterface
 
 pub record Demands (Ties : Type 0) : Type 1 where
   pub demand-1 : Demand1 Ties

@@ -1,26 +1,27 @@
 // The calls on a book. What a caller holds of a book is `temps`, `nodes`, `count` and `used`.
 use crate::arrays::state_in;
 use crate::code::refusal_code;
-use book::Values;
+use book::BookState;
 use book::append;
 use book::begin;
 use book::take_up;
 use zone::Verdict;
-use zone::Zone;
-use zone::zone_of_head;
+use zone::ZoneFront;
+use zone::read_head;
 ghost use mathlib.Core.Path.{_≡_};
+ghost use Rattle.zone.specs.Inner.Lent.{zoneIn};
 ghost use Rattle.book.specs.Model.Calls as Book;
-ghost use Rattle.book.specs.Year.{year};
+ghost use Rattle.book.specs.Year.{yearInterface};
 ghost use Rattle.book.specs.Answers.{givenOf};
 ghost use Rattle.hem_zone.specs.Code.{answered};
-ghost use Rattle.hem_zone.specs.Book.{holding, valuesOf, heldOf, bookOut, hemBegin, hemAppend, hemTakeUp};
+ghost use Rattle.hem_zone.specs.Book.{cBookState, bookStateOf, cBookStateOf, bookOut, hemBegin, hemAppend, hemTakeUp};
 
 // The values of a book that stand in the arrays of C.
-fn values_in(temps: &[f64; 121], nodes: u64, count: u64, used: u64) -> Values
-    ensures { λ r. ⌜ givenOf r ≡ valuesOf (holding (now (temps .entry)) nodes count used) ⌝ }
+fn book_state_in(temps: &[f64; 121], nodes: u64, count: u64, used: u64) -> BookState
+    ensures { λ r. ⌜ givenOf r ≡ bookStateOf (cBookState (now (temps .entry)) nodes count used) ⌝ }
 {
     let state = state_in(temps, nodes);
-    Values {
+    BookState {
         state,
         count: count as usize,
         used: used as usize,
@@ -28,8 +29,14 @@ fn values_in(temps: &[f64; 121], nodes: u64, count: u64, used: u64) -> Values
 }
 
 // Puts them there.
-fn write_values(v: Values, temps: &mut [f64; 121], nodes: &mut u64, count: &mut u64, used: &mut u64)
-    ensures { λ _. ⌜ holding (now (temps .exit)) (now (nodes .exit)) (now (count .exit)) (now (used .exit)) ≡ heldOf (givenOf v) ⌝ }
+fn write_book_state(
+    v: BookState,
+    temps: &mut [f64; 121],
+    nodes: &mut u64,
+    count: &mut u64,
+    used: &mut u64,
+)
+    ensures { λ _. ⌜ cBookState (now (temps .exit)) (now (nodes .exit)) (now (count .exit)) (now (used .exit)) ≡ cBookStateOf (givenOf v) ⌝ }
 {
     let state = v.state;
     let t = state.temps;
@@ -49,24 +56,26 @@ pub extern "C" fn hem_begin(
     count: &mut u64,
     used: &mut u64,
 ) -> u32
-    ensures { λ r. ⌜ (r, (now (buf .exit), holding (now (temps .exit)) (now (nodes .exit)) (now (count .exit)) (now (used .exit))))
-        ≡ hemBegin (now (head .entry)) (now (buf .entry)) (holding (now (temps .entry)) (now (nodes .entry)) (now (count .entry)) (now (used .entry))) ⌝ }
+    ensures { λ r. ⌜ (r, (now (buf .exit), cBookState (now (temps .exit)) (now (nodes .exit)) (now (count .exit)) (now (used .exit))))
+        ≡ hemBegin (now (head .entry)) (now (buf .entry)) (cBookState (now (temps .entry)) (now (nodes .entry)) (now (count .entry)) (now (used .entry))) ⌝ }
 {
-    let given = values_in(temps, *nodes, *count, *used);
+    let given = book_state_in(temps, *nodes, *count, *used);
     let x = begin(given, head, buf);
     let v = x.verdict;
     match v {
         Verdict::Refused { number, index } => refusal_code(number, index),
         Verdict::Accepted => {
             let after = x.values;
-            write_values(after, temps, nodes, count, used);
+            write_book_state(after, temps, nodes, count, used);
             0
         }
     }
 }
 
 fn append_to(
-    z: Zone,
+    z: ZoneFront,
+    codes: &[u8; 72],
+    values: &[f64; 600],
     buf: &mut [u8],
     temps: &mut [f64; 121],
     nodes: &mut u64,
@@ -74,18 +83,18 @@ fn append_to(
     used: &mut u64,
     conditions: &[u8],
 ) -> u32
-    ensures { λ r. ⌜ (r, (now (buf .exit), holding (now (temps .exit)) (now (nodes .exit)) (now (count .exit)) (now (used .exit))))
-        ≡ answered bookOut (now (buf .entry), (holding (now (temps .entry)) (now (nodes .entry)) (now (count .entry)) (now (used .entry))))
-        (Book.appendRes year z (valuesOf (holding (now (temps .entry)) (now (nodes .entry)) (now (count .entry)) (now (used .entry)))) (now (conditions .entry)) (now (buf .entry))) ⌝ }
+    ensures { λ r. ⌜ (r, (now (buf .exit), cBookState (now (temps .exit)) (now (nodes .exit)) (now (count .exit)) (now (used .exit))))
+        ≡ answered bookOut (now (buf .entry), (cBookState (now (temps .entry)) (now (nodes .entry)) (now (count .entry)) (now (used .entry))))
+        (Book.appendRes yearInterface (zoneIn z (now (codes .entry)) (now (values .entry))) (bookStateOf (cBookState (now (temps .entry)) (now (nodes .entry)) (now (count .entry)) (now (used .entry)))) (now (conditions .entry)) (now (buf .entry))) ⌝ }
 {
-    let given = values_in(temps, *nodes, *count, *used);
-    let x = append(z, given, conditions, buf);
+    let given = book_state_in(temps, *nodes, *count, *used);
+    let x = append(z, codes, values, given, conditions, buf);
     let v = x.verdict;
     match v {
         Verdict::Refused { number, index } => refusal_code(number, index),
         Verdict::Accepted => {
             let after = x.values;
-            write_values(after, temps, nodes, count, used);
+            write_book_state(after, temps, nodes, count, used);
             0
         }
     }
@@ -102,14 +111,26 @@ pub extern "C" fn hem_append(
     used: &mut u64,
     conditions: &[u8],
 ) -> u32
-    ensures { λ r. ⌜ (r, (now (buf .exit), holding (now (temps .exit)) (now (nodes .exit)) (now (count .exit)) (now (used .exit))))
-        ≡ hemAppend (now (head .entry)) (now (buf .entry)) (holding (now (temps .entry)) (now (nodes .entry)) (now (count .entry)) (now (used .entry))) (now (conditions .entry)) ⌝ }
+    ensures { λ r. ⌜ (r, (now (buf .exit), cBookState (now (temps .exit)) (now (nodes .exit)) (now (count .exit)) (now (used .exit))))
+        ≡ hemAppend (now (head .entry)) (now (buf .entry)) (cBookState (now (temps .entry)) (now (nodes .entry)) (now (count .entry)) (now (used .entry))) (now (conditions .entry)) ⌝ }
 {
-    let h = zone_of_head(head);
+    let mut codes = [0; 72];
+    let mut values = [0.0; 600];
+    let h = read_head(head, &mut codes, &mut values);
     let v = h.verdict;
     match v {
         Verdict::Refused { number, index } => refusal_code(number, index),
-        Verdict::Accepted => append_to(h.zone, buf, temps, nodes, count, used, conditions),
+        Verdict::Accepted => append_to(
+            h.zone,
+            &codes,
+            &values,
+            buf,
+            temps,
+            nodes,
+            count,
+            used,
+            conditions,
+        ),
     }
 }
 
@@ -122,17 +143,17 @@ pub extern "C" fn hem_take_up(
     count: &mut u64,
     used: &mut u64,
 ) -> u32
-    ensures { λ r. ⌜ (r, holding (now (temps .exit)) (now (nodes .exit)) (now (count .exit)) (now (used .exit)))
-        ≡ hemTakeUp (now (bytes .entry)) (holding (now (temps .entry)) (now (nodes .entry)) (now (count .entry)) (now (used .entry))) ⌝ }
+    ensures { λ r. ⌜ (r, cBookState (now (temps .exit)) (now (nodes .exit)) (now (count .exit)) (now (used .exit)))
+        ≡ hemTakeUp (now (bytes .entry)) (cBookState (now (temps .entry)) (now (nodes .entry)) (now (count .entry)) (now (used .entry))) ⌝ }
 {
-    let given = values_in(temps, *nodes, *count, *used);
+    let given = book_state_in(temps, *nodes, *count, *used);
     let x = take_up(given, bytes);
     let v = x.verdict;
     match v {
         Verdict::Refused { number, index } => refusal_code(number, index),
         Verdict::Accepted => {
             let after = x.values;
-            write_values(after, temps, nodes, count, used);
+            write_book_state(after, temps, nodes, count, used);
             0
         }
     }

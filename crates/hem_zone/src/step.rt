@@ -8,10 +8,11 @@ use zone::HourAnswer;
 use zone::OperativeReply;
 use zone::UpdateAnswer;
 use zone::Verdict;
-use zone::Zone;
+use zone::ZoneFront;
 use zone::init_node_temps;
-use zone::zone_of_head;
+use zone::read_head;
 ghost use mathlib.Core.Path.{_≡_};
+ghost use Rattle.zone.specs.Inner.Lent.{zoneIn};
 ghost use Rattle.zone.specs.Record.BuildingElement.{standardCoefficients};
 ghost use Rattle.zone.specs.Calls.StartUp.{initNodeTemps};
 ghost use Rattle.zone.specs.Calls.State as State;
@@ -20,10 +21,16 @@ ghost use Rattle.hem_zone.specs.Code.{answered};
 ghost use Rattle.hem_zone.specs.Arrays.{stateIn, demandOut};
 ghost use Rattle.hem_zone.specs.Zone.{startUpOut, updateOut, hourOut, hemStartUp, hemOperative, hemDemand, hemUpdate, hemHourStep};
 
-fn start_up(z: Zone, temps: &mut [f64; 121], nodes: &mut u64) -> u32
-    ensures { λ r. ⌜ (r, (now (temps .exit), now (nodes .exit))) ≡ answered startUpOut (now (temps .entry), now (nodes .entry)) (initNodeTemps standardCoefficients z) ⌝ }
+fn start_up(
+    z: ZoneFront,
+    codes: &[u8; 72],
+    values: &[f64; 600],
+    temps: &mut [f64; 121],
+    nodes: &mut u64,
+) -> u32
+    ensures { λ r. ⌜ (r, (now (temps .exit), now (nodes .exit))) ≡ answered startUpOut (now (temps .entry), now (nodes .entry)) (initNodeTemps standardCoefficients (zoneIn z (now (codes .entry)) (now (values .entry)))) ⌝ }
 {
-    let s = init_node_temps(z);
+    let s = init_node_temps(z, codes, values);
     let v = s.verdict;
     match v {
         Verdict::Refused { number, index } => refusal_code(number, index),
@@ -42,19 +49,28 @@ fn start_up(z: Zone, temps: &mut [f64; 121], nodes: &mut u64) -> u32
 pub extern "C" fn hem_start_up(head: &[u8], temps: &mut [f64; 121], nodes: &mut u64) -> u32
     ensures { λ r. ⌜ (r, (now (temps .exit), now (nodes .exit))) ≡ hemStartUp (now (head .entry)) (now (temps .entry)) (now (nodes .entry)) ⌝ }
 {
-    let h = zone_of_head(head);
+    let mut codes = [0; 72];
+    let mut values = [0.0; 600];
+    let h = read_head(head, &mut codes, &mut values);
     let v = h.verdict;
     match v {
         Verdict::Refused { number, index } => refusal_code(number, index),
-        Verdict::Accepted => start_up(h.zone, temps, nodes),
+        Verdict::Accepted => start_up(h.zone, &codes, &values, temps, nodes),
     }
 }
 
-fn operative_of(z: Zone, temps: &[f64; 121], nodes: u64, operative: &mut f64) -> u32
-    ensures { λ r. ⌜ (r, now (operative .exit)) ≡ answered (λ t. t) (now (operative .entry)) (State.operative z (stateIn (now (temps .entry)) nodes)) ⌝ }
+fn operative_of(
+    z: ZoneFront,
+    codes: &[u8; 72],
+    values: &[f64; 600],
+    temps: &[f64; 121],
+    nodes: u64,
+    operative: &mut f64,
+) -> u32
+    ensures { λ r. ⌜ (r, now (operative .exit)) ≡ answered (λ t. t) (now (operative .entry)) (State.operative (zoneIn z (now (codes .entry)) (now (values .entry))) (stateIn (now (temps .entry)) nodes)) ⌝ }
 {
     let s = state_in(temps, nodes);
-    let a = s.temp_operative(z);
+    let a = s.temp_operative(z, codes, values);
     match a {
         OperativeReply::Refused { number, index } => refusal_code(number, index),
         OperativeReply::Accepted(t) => {
@@ -74,19 +90,29 @@ pub extern "C" fn hem_operative(
 ) -> u32
     ensures { λ r. ⌜ (r, now (operative .exit)) ≡ hemOperative (now (head .entry)) (now (temps .entry)) nodes (now (operative .entry)) ⌝ }
 {
-    let h = zone_of_head(head);
+    let mut codes = [0; 72];
+    let mut values = [0.0; 600];
+    let h = read_head(head, &mut codes, &mut values);
     let v = h.verdict;
     match v {
         Verdict::Refused { number, index } => refusal_code(number, index),
-        Verdict::Accepted => operative_of(h.zone, temps, nodes, operative),
+        Verdict::Accepted => operative_of(h.zone, &codes, &values, temps, nodes, operative),
     }
 }
 
-fn demand_of(z: Zone, temps: &[f64; 121], nodes: u64, conditions: &[u8], out: &mut [f64; 5]) -> u32
-    ensures { λ r. ⌜ (r, now (out .exit)) ≡ answered demandOut (now (out .entry)) (demand standardCoefficients z (stateIn (now (temps .entry)) nodes) (now (conditions .entry))) ⌝ }
+fn demand_of(
+    z: ZoneFront,
+    codes: &[u8; 72],
+    values: &[f64; 600],
+    temps: &[f64; 121],
+    nodes: u64,
+    conditions: &[u8],
+    out: &mut [f64; 5],
+) -> u32
+    ensures { λ r. ⌜ (r, now (out .exit)) ≡ answered demandOut (now (out .entry)) (demand standardCoefficients (zoneIn z (now (codes .entry)) (now (values .entry))) (stateIn (now (temps .entry)) nodes) (now (conditions .entry))) ⌝ }
 {
     let s = state_in(temps, nodes);
-    let x = s.space_heat_cool_demand(z, conditions);
+    let x = s.space_heat_cool_demand(z, codes, values, conditions);
     let a = x.answer;
     match a {
         DemandAnswer::Refused { number, index } => refusal_code(number, index),
@@ -108,16 +134,20 @@ pub extern "C" fn hem_demand(
 ) -> u32
     ensures { λ r. ⌜ (r, now (out .exit)) ≡ hemDemand (now (head .entry)) (now (temps .entry)) nodes (now (conditions .entry)) (now (out .entry)) ⌝ }
 {
-    let h = zone_of_head(head);
+    let mut codes = [0; 72];
+    let mut values = [0.0; 600];
+    let h = read_head(head, &mut codes, &mut values);
     let v = h.verdict;
     match v {
         Verdict::Refused { number, index } => refusal_code(number, index),
-        Verdict::Accepted => demand_of(h.zone, temps, nodes, conditions, out),
+        Verdict::Accepted => demand_of(h.zone, &codes, &values, temps, nodes, conditions, out),
     }
 }
 
 fn update_of(
-    z: Zone,
+    z: ZoneFront,
+    codes: &[u8; 72],
+    values: &[f64; 600],
     temps: &mut [f64; 121],
     nodes: u64,
     conditions: &[u8],
@@ -126,10 +156,10 @@ fn update_of(
     rate: f64,
     balance: &mut [f64; 25],
 ) -> u32
-    ensures { λ r. ⌜ (r, (now (temps .exit), now (balance .exit))) ≡ answered updateOut (now (temps .entry), now (balance .entry)) (updateTemperatures standardCoefficients z (stateIn (now (temps .entry)) nodes) (now (conditions .entry)) gains fraction rate) ⌝ }
+    ensures { λ r. ⌜ (r, (now (temps .exit), now (balance .exit))) ≡ answered updateOut (now (temps .entry), now (balance .entry)) (updateTemperatures standardCoefficients (zoneIn z (now (codes .entry)) (now (values .entry))) (stateIn (now (temps .entry)) nodes) (now (conditions .entry)) gains fraction rate) ⌝ }
 {
     let s = state_in(temps, nodes);
-    let x = s.update_temperatures(z, conditions, gains, fraction, rate);
+    let x = s.update_temperatures(z, codes, values, conditions, gains, fraction, rate);
     let a = x.answer;
     match a {
         UpdateAnswer::Refused { number, index } => refusal_code(number, index),
@@ -157,12 +187,16 @@ pub extern "C" fn hem_update(
 ) -> u32
     ensures { λ r. ⌜ (r, (now (temps .exit), now (balance .exit))) ≡ hemUpdate (now (head .entry)) (now (temps .entry)) nodes (now (conditions .entry)) gains fraction rate (now (balance .entry)) ⌝ }
 {
-    let h = zone_of_head(head);
+    let mut codes = [0; 72];
+    let mut values = [0.0; 600];
+    let h = read_head(head, &mut codes, &mut values);
     let v = h.verdict;
     match v {
         Verdict::Refused { number, index } => refusal_code(number, index),
         Verdict::Accepted => update_of(
             h.zone,
+            &codes,
+            &values,
             temps,
             nodes,
             conditions,
@@ -175,17 +209,19 @@ pub extern "C" fn hem_update(
 }
 
 fn hour_step_of(
-    z: Zone,
+    z: ZoneFront,
+    codes: &[u8; 72],
+    values: &[f64; 600],
     temps: &mut [f64; 121],
     nodes: u64,
     conditions: &[u8],
     out: &mut [f64; 5],
     balance: &mut [f64; 25],
 ) -> u32
-    ensures { λ r. ⌜ (r, (now (temps .exit), now (out .exit), now (balance .exit))) ≡ answered hourOut (now (temps .entry), now (out .entry), now (balance .entry)) (hourStep standardCoefficients z (stateIn (now (temps .entry)) nodes) (now (conditions .entry))) ⌝ }
+    ensures { λ r. ⌜ (r, (now (temps .exit), now (out .exit), now (balance .exit))) ≡ answered hourOut (now (temps .entry), now (out .entry), now (balance .entry)) (hourStep standardCoefficients (zoneIn z (now (codes .entry)) (now (values .entry))) (stateIn (now (temps .entry)) nodes) (now (conditions .entry))) ⌝ }
 {
     let s = state_in(temps, nodes);
-    let x = s.hour_step(z, conditions);
+    let x = s.hour_step(z, codes, values, conditions);
     let a = x.answer;
     match a {
         HourAnswer::Refused { number, index } => refusal_code(number, index),
@@ -212,10 +248,21 @@ pub extern "C" fn hem_hour_step(
 ) -> u32
     ensures { λ r. ⌜ (r, (now (temps .exit), now (out .exit), now (balance .exit))) ≡ hemHourStep (now (head .entry)) (now (temps .entry)) nodes (now (conditions .entry)) (now (out .entry)) (now (balance .entry)) ⌝ }
 {
-    let h = zone_of_head(head);
+    let mut codes = [0; 72];
+    let mut values = [0.0; 600];
+    let h = read_head(head, &mut codes, &mut values);
     let v = h.verdict;
     match v {
         Verdict::Refused { number, index } => refusal_code(number, index),
-        Verdict::Accepted => hour_step_of(h.zone, temps, nodes, conditions, out, balance),
+        Verdict::Accepted => hour_step_of(
+            h.zone,
+            &codes,
+            &values,
+            temps,
+            nodes,
+            conditions,
+            out,
+            balance,
+        ),
     }
 }

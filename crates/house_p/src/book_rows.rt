@@ -4,17 +4,17 @@ use crate::house::head_of;
 use crate::house::house_p;
 use crate::table::number;
 use crate::table::text;
+use book::BookState;
 use book::Reply;
-use book::Values;
 use zone::State;
 use zone::Verdict;
 
-fn nothing() -> Values {
+fn nothing() -> BookState {
     let state = State {
         nodes: 0,
         temps: [0.0; 121],
     };
-    Values {
+    BookState {
         state,
         count: 0,
         used: 0,
@@ -39,13 +39,15 @@ fn print_used(r: Reply, count: u64, used: u64) {
 // Begun, and one hour appended.
 fn book_of_one(b: &mut [u8; 396]) {
     let p = head_of(house_p());
-    let h = zone::zone_of_head(&p);
+    let mut codes = [0; 72];
+    let mut values = [0.0; 600];
+    let h = zone::read_head(&p, &mut codes, &mut values);
     let c = conditions_of(21.0, 24.0);
     text(b"begin\n");
     let begun = book::begin(nothing(), &p, b);
     print_used(begun, 0, 180);
     text(b"append\n");
-    let appended = book::append(h.zone, begun.values, &c, b);
+    let appended = book::append(h.zone, &codes, &values, begun.values, &c, b);
     print_used(appended, 1, 396);
 }
 

@@ -6,10 +6,11 @@ use crate::house::singular;
 use crate::table::number;
 use crate::table::value;
 use zone::DemandAnswer;
+use zone::Head;
 use zone::State;
 use zone::UpdateAnswer;
 use zone::Verdict;
-use zone::Zone;
+use zone::ZoneFront;
 
 // Every temperature 20.
 fn start() -> State {
@@ -23,6 +24,15 @@ fn verdict_number(v: Verdict) -> u64 {
     match v {
         Verdict::Refused { number, index: _ } => number as u64,
         Verdict::Accepted => 0,
+    }
+}
+
+// A head's refusal, and where it has none that of its values.
+fn head_number(h: Head, codes: &[u8; 72], values: &[f64; 600]) -> u64 {
+    let verdict = h.verdict;
+    match verdict {
+        Verdict::Refused { number, index: _ } => number as u64,
+        Verdict::Accepted => verdict_number(zone::zone_test(h.zone, codes, values)),
     }
 }
 
@@ -48,9 +58,9 @@ fn print_temps(s: State) {
     );
 }
 
-fn print_free(z: Zone) {
+fn print_free(z: ZoneFront, codes: &[u8; 72], values: &[f64; 600]) {
     let c = conditions_of(20.0, 24.0);
-    let x = start().update_temperatures(z, &c, 0.0, 0.0, 0.0);
+    let x = start().update_temperatures(z, codes, values, &c, 0.0, 0.0, 0.0);
     let answer = x.answer;
     match answer {
         UpdateAnswer::Refused {
@@ -64,8 +74,8 @@ fn print_free(z: Zone) {
     }
 }
 
-fn print_start_up(z: Zone) {
-    let x = zone::init_node_temps(z);
+fn print_start_up(z: ZoneFront, codes: &[u8; 72], values: &[f64; 600]) {
+    let x = zone::init_node_temps(z, codes, values);
     let verdict = x.verdict;
     number(b"start-up, refusal            ", verdict_number(verdict), 0);
     print_temps(x.state);
@@ -75,9 +85,9 @@ fn no_demand(n: u32) {
     number(b"demand, refusal              ", n as u64, 0);
 }
 
-fn print_none(z: Zone) {
+fn print_none(z: ZoneFront, codes: &[u8; 72], values: &[f64; 600]) {
     let c = conditions_of(20.0, 24.0);
-    let x = start().space_heat_cool_demand(z, &c);
+    let x = start().space_heat_cool_demand(z, codes, values, &c);
     let answer = x.answer;
     match answer {
         DemandAnswer::Refused {
@@ -101,9 +111,9 @@ fn print_none(z: Zone) {
     }
 }
 
-fn print_heating(z: Zone) {
+fn print_heating(z: ZoneFront, codes: &[u8; 72], values: &[f64; 600]) {
     let c = conditions_of(21.0, 24.0);
-    let x = start().space_heat_cool_demand(z, &c);
+    let x = start().space_heat_cool_demand(z, codes, values, &c);
     let answer = x.answer;
     match answer {
         DemandAnswer::Refused {
@@ -127,9 +137,9 @@ fn print_heating(z: Zone) {
     }
 }
 
-fn print_cooling(z: Zone) {
+fn print_cooling(z: ZoneFront, codes: &[u8; 72], values: &[f64; 600]) {
     let c = conditions_of(15.0, 19.0);
-    let x = start().space_heat_cool_demand(z, &c);
+    let x = start().space_heat_cool_demand(z, codes, values, &c);
     let answer = x.answer;
     match answer {
         DemandAnswer::Refused {
@@ -160,35 +170,42 @@ fn refusal(a: DemandAnswer) -> u64 {
     }
 }
 
-fn print_refused(z: Zone) {
+fn print_refused(z: ZoneFront, codes: &[u8; 72], values: &[f64; 600]) {
     let c = conditions_of(22.0, 21.0);
-    let x = start().space_heat_cool_demand(z, &c);
+    let x = start().space_heat_cool_demand(z, codes, values, &c);
     let answer = x.answer;
     number(b"setpoints 22/21, refusal     ", refusal(answer), 10);
 }
 
 fn print_singular() {
     let p = head_of(singular());
-    let h = zone::zone_of_head(&p);
+    let mut codes = [0; 72];
+    let mut values = [0.0; 600];
+    let h = zone::read_head(&p, &mut codes, &mut values);
     let c = conditions_of(20.0, 24.0);
-    let x = start().space_heat_cool_demand(h.zone, &c);
+    let x = start().space_heat_cool_demand(h.zone, &codes, &values, &c);
     let answer = x.answer;
     number(b"no capacity, no loss, refusal", refusal(answer), 12);
 }
 
 pub fn print_zone() {
     let p = head_of(house_p());
-    let h = zone::zone_of_head(&p);
+    let mut codes = [0; 72];
+    let mut values = [0.0; 600];
+    let h = zone::read_head(&p, &mut codes, &mut values);
     let z = h.zone;
-    let verdict = h.verdict;
-    number(b"head, refusal                ", verdict_number(verdict), 0);
+    number(
+        b"head, refusal                ",
+        head_number(h, &codes, &values),
+        0,
+    );
     number(b"head, bytes                  ", h.length as u64, 180);
-    print_start_up(z);
-    print_free(z);
-    print_none(z);
-    print_heating(z);
-    print_cooling(z);
-    print_refused(z);
+    print_start_up(z, &codes, &values);
+    print_free(z, &codes, &values);
+    print_none(z, &codes, &values);
+    print_heating(z, &codes, &values);
+    print_cooling(z, &codes, &values);
+    print_refused(z, &codes, &values);
     print_singular();
 }
 

@@ -11,15 +11,43 @@ use crate::bytes::read_f64_be;
 use crate::bytes::same_state;
 use std::num::wrapping_add_usize;
 use zone::DemandAnswer;
+use zone::Head;
 use zone::HourAnswer;
 use zone::State;
 use zone::UpdateAnswer;
 use zone::Verdict;
-use zone::Zone;
+use zone::ZoneFront;
+
+// A head with its values tested, and its elements into the arrays.
+pub fn tested_head(bytes: &[u8], codes: &mut [u8; 72], values: &mut [f64; 600]) -> Head {
+    let h = zone::read_head(bytes, codes, values);
+    let verdict = h.verdict;
+    match verdict {
+        Verdict::Refused {
+            number: _,
+            index: _,
+        } => h,
+        Verdict::Accepted => {
+            let z = h.zone;
+            let tested = zone::zone_test(z, codes, values);
+            Head {
+                verdict: tested,
+                zone: z,
+                length: h.length,
+            }
+        }
+    }
+}
 
 // A demand leaves the state as it is.
-pub fn demand(z: Zone, s: State, conditions: &[u8]) -> Answer {
-    let x = s.space_heat_cool_demand(z, conditions);
+pub fn demand(
+    z: ZoneFront,
+    codes: &[u8; 72],
+    values: &[f64; 600],
+    s: State,
+    conditions: &[u8],
+) -> Answer {
+    let x = s.space_heat_cool_demand(z, codes, values, conditions);
     let kept = same_state(x.state, s);
     let answer = x.answer;
     match answer {
@@ -35,11 +63,19 @@ pub fn demand(z: Zone, s: State, conditions: &[u8]) -> Answer {
 }
 
 // `own` is the place of the gains, the fraction and the rate.
-pub fn update(z: Zone, s: State, conditions: &[u8], b: &[u8], own: usize) -> Answer {
+pub fn update(
+    z: ZoneFront,
+    codes: &[u8; 72],
+    values: &[f64; 600],
+    s: State,
+    conditions: &[u8],
+    b: &[u8],
+    own: usize,
+) -> Answer {
     let gains = read_f64_be(b, own);
     let fraction = read_f64_be(b, wrapping_add_usize(own, 8));
     let rate = read_f64_be(b, wrapping_add_usize(own, 16));
-    let x = s.update_temperatures(z, conditions, gains, fraction, rate);
+    let x = s.update_temperatures(z, codes, values, conditions, gains, fraction, rate);
     let after = x.state;
     let answer = x.answer;
     match answer {
@@ -48,8 +84,8 @@ pub fn update(z: Zone, s: State, conditions: &[u8], b: &[u8], own: usize) -> Ans
     }
 }
 
-pub fn start_up(z: Zone) -> Answer {
-    let x = zone::init_node_temps(z);
+pub fn start_up(z: ZoneFront, codes: &[u8; 72], values: &[f64; 600]) -> Answer {
+    let x = zone::init_node_temps(z, codes, values);
     let verdict = x.verdict;
     match verdict {
         Verdict::Refused { number, index } => refused(number, index),
@@ -57,8 +93,14 @@ pub fn start_up(z: Zone) -> Answer {
     }
 }
 
-pub fn hour_step(z: Zone, s: State, conditions: &[u8]) -> Answer {
-    let x = s.hour_step(z, conditions);
+pub fn hour_step(
+    z: ZoneFront,
+    codes: &[u8; 72],
+    values: &[f64; 600],
+    s: State,
+    conditions: &[u8],
+) -> Answer {
+    let x = s.hour_step(z, codes, values, conditions);
     let after = x.state;
     let answer = x.answer;
     match answer {

@@ -14,7 +14,7 @@ use crate::tally::CaseTally;
 use crate::tally::no_cases;
 use std::num::wrapping_add_usize;
 use zone::Verdict;
-use zone::Zone;
+use zone::ZoneFront;
 
 // Where the parts of a record lie.
 struct Case {
@@ -58,24 +58,26 @@ fn case_at(b: &[u8]) -> Case {
     }
 }
 
-fn run_zone(z: Zone, c: Case, b: &[u8]) -> Answer {
+fn run_zone(z: ZoneFront, codes: &[u8; 72], values: &[f64; 600], c: Case, b: &[u8]) -> Answer {
     let s = state_at(b, c.temps, c.nodes, c.nodes);
     let conditions = part(b, c.conditions, c.conditions_length);
     let op = c.op;
     match op {
-        1 => calls::demand(z, s, conditions),
-        2 => calls::update(z, s, conditions, b, c.own),
-        3 => calls::start_up(z),
-        _ => calls::hour_step(z, s, conditions),
+        1 => calls::demand(z, codes, values, s, conditions),
+        2 => calls::update(z, codes, values, s, conditions, b, c.own),
+        3 => calls::start_up(z, codes, values),
+        _ => calls::hour_step(z, codes, values, s, conditions),
     }
 }
 
 fn run_case(c: Case, b: &[u8]) -> Answer {
-    let h = zone::zone_of_head(part(b, HEAD, c.head_length));
+    let mut codes = [0; 72];
+    let mut values = [0.0; 600];
+    let h = calls::tested_head(part(b, HEAD, c.head_length), &mut codes, &mut values);
     let verdict = h.verdict;
     match verdict {
         Verdict::Refused { number, index } => refused(number, index),
-        Verdict::Accepted => run_zone(h.zone, c, b),
+        Verdict::Accepted => run_zone(h.zone, &codes, &values, c, b),
     }
 }
 

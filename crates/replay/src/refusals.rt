@@ -16,13 +16,13 @@ use crate::records::next_record;
 use crate::records::record;
 use crate::tally::RowTally;
 use crate::tally::no_rows;
+use book::BookState;
 use book::Reply;
-use book::Values;
 use std::num::wrapping_add_usize;
 use std::num::wrapping_sub_usize;
 use zone::State;
 use zone::Verdict;
-use zone::Zone;
+use zone::ZoneFront;
 
 const HEAD: usize = 8;
 
@@ -77,38 +77,31 @@ fn row_at(b: &[u8]) -> Row {
     }
 }
 
-// The zone's record with the number of treatments of its first element replaced.
-fn with_treatments(mut z: Zone, treatments: usize) -> Zone {
-    let mut elements = z.building_elements;
-    let mut e = elements[0];
-    e.treatments = treatments;
-    elements[0] = e;
-    z.building_elements = elements;
-    z
-}
-
-fn with_no_second_area(mut z: Zone) -> Zone {
-    let mut elements = z.building_elements;
-    let mut e = elements[1];
-    e.area = 0.0;
-    elements[1] = e;
-    z.building_elements = elements;
-    z
-}
-
-fn changed_zone(mut z: Zone, change: usize, value: usize) -> Zone {
+// The change that a row makes of a zone, in its front or in its arrays.
+fn changed_front(mut z: ZoneFront, change: usize, value: usize) -> ZoneFront {
     match change {
         1 => {
             z.count = value;
             z
         }
-        2 => with_treatments(z, value),
         3 => {
             z.useful_area = 0.0;
             z
         }
-        4 => with_no_second_area(z),
         _ => z,
+    }
+}
+
+// The first element's treatments, or the second element's area: an element has three codes and 25 values.
+fn change_arrays(codes: &mut [u8; 72], values: &mut [f64; 600], change: usize, value: usize) {
+    match change {
+        2 => {
+            codes[1] = (value % 256) as u8;
+        }
+        4 => {
+            values[25] = 0.0;
+        }
+        _ => {}
     }
 }
 
@@ -119,18 +112,18 @@ fn verdict_answer(v: Verdict) -> Answer {
     }
 }
 
-fn same_values(a: Values, b: Values) -> bool {
+fn same_book_states(a: BookState, b: BookState) -> bool {
     let kept = same_state(a.state, b.state);
     kept && a.count == b.count && a.used == b.used
 }
 
 // A refused call hands back the values that it was given, and `kept` says that the buffer is as it was.
-fn reply_answer(given: Values, reply: Reply, kept: bool) -> Answer {
+fn reply_answer(given: BookState, reply: Reply, kept: bool) -> Answer {
     let values = reply.values;
     let verdict = reply.verdict;
     match verdict {
         Verdict::Refused { number, index } => refused_if(
-            kept && same_values(given, values),
+            kept && same_book_states(given, values),
             number,
             index,
         ),
@@ -149,30 +142,47 @@ fn all_are(s: &[u8; ROOM], x: u8) -> bool {
 }
 
 // The buffer that a call is lent is the end of a longer one.
-fn begin_in(given: Values, head: &[u8], buf: &mut [u8], from: usize) -> Reply {
+fn begin_in(given: BookState, head: &[u8], buf: &mut [u8], from: usize) -> Reply {
     if from <= buf.len() {
         return book::begin(given, head, &mut buf[from..]);
     }
     book::begin(given, head, buf)
 }
 
-fn append_in(z: Zone, given: Values, conditions: &[u8], buf: &mut [u8], from: usize) -> Reply {
+fn append_in(
+    z: ZoneFront,
+    codes: &[u8; 72],
+    values: &[f64; 600],
+    given: BookState,
+    conditions: &[u8],
+    buf: &mut [u8],
+    from: usize,
+) -> Reply {
     if from <= buf.len() {
-        return book::append(z, given, conditions, &mut buf[from..]);
+        return book::append(z, codes, values, given, conditions, &mut buf[from..]);
     }
-    book::append(z, given, conditions, buf)
+    book::append(z, codes, values, given, conditions, buf)
 }
 
-fn begin(given: Values, head: &[u8], room: usize) -> Answer {
+fn begin(given: BookState, head: &[u8], room: usize) -> Answer {
     let mut buf = [85u8; ROOM];
     let reply = begin_in(given, head, &mut buf, wrapping_sub_usize(ROOM, room));
     reply_answer(given, reply, all_are(&buf, 85))
 }
 
-fn append(z: Zone, given: Values, conditions: &[u8], room: usize) -> Answer {
+fn append(
+    z: ZoneFront,
+    codes: &[u8; 72],
+    values: &[f64; 600],
+    given: BookState,
+    conditions: &[u8],
+    room: usize,
+) -> Answer {
     let mut buf = [85u8; ROOM];
     let reply = append_in(
         z,
+        codes,
+        values,
         given,
         conditions,
         &mut buf,
@@ -181,41 +191,46 @@ fn append(z: Zone, given: Values, conditions: &[u8], room: usize) -> Answer {
     reply_answer(given, reply, all_are(&buf, 85))
 }
 
-fn take_up(given: Values, bytes: &[u8]) -> Answer {
+fn take_up(given: BookState, bytes: &[u8]) -> Answer {
     let reply = book::take_up(given, bytes);
     reply_answer(given, reply, true)
 }
 
-fn given_of(r: Row, s: State) -> Values {
-    Values {
+fn given_of(r: Row, s: State) -> BookState {
+    BookState {
         state: s,
         count: r.count,
         used: r.used,
     }
 }
 
-fn run_zone(zone: Zone, r: Row, b: &[u8]) -> Answer {
-    let z = changed_zone(zone, r.change, r.changed);
+fn run_zone(z: ZoneFront, codes: &[u8; 72], values: &[f64; 600], r: Row, b: &[u8]) -> Answer {
     let s = state_at(b, r.temps, r.nodes, r.temp_count);
     let conditions = part(b, r.conditions, r.conditions_length);
     let call = r.call;
     match call {
-        1 => calls::demand(z, s, conditions),
-        2 => calls::update(z, s, conditions, b, r.own),
-        3 => calls::start_up(z),
-        4 => calls::hour_step(z, s, conditions),
-        6 => append(z, given_of(r, s), conditions, r.room),
+        1 => calls::demand(z, codes, values, s, conditions),
+        2 => calls::update(z, codes, values, s, conditions, b, r.own),
+        3 => calls::start_up(z, codes, values),
+        4 => calls::hour_step(z, codes, values, s, conditions),
+        6 => append(z, codes, values, given_of(r, s), conditions, r.room),
         8 => accepted(),
-        _ => verdict_answer(zone::zone_test(z)),
+        _ => verdict_answer(zone::zone_test(z, codes, values)),
     }
 }
 
 fn run_head(r: Row, b: &[u8]) -> Answer {
-    let h = zone::zone_of_head(part(b, HEAD, r.head_length));
+    let mut codes = [0; 72];
+    let mut values = [0.0; 600];
+    let h = calls::tested_head(part(b, HEAD, r.head_length), &mut codes, &mut values);
     let verdict = h.verdict;
     match verdict {
         Verdict::Refused { number, index } => refused(number, index),
-        Verdict::Accepted => run_zone(h.zone, r, b),
+        Verdict::Accepted => {
+            let z = changed_front(h.zone, r.change, r.changed);
+            change_arrays(&mut codes, &mut values, r.change, r.changed);
+            run_zone(z, &codes, &values, r, b)
+        }
     }
 }
 

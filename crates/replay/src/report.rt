@@ -109,7 +109,7 @@ fn print_call(call: usize) {
         5 => text(b"begin        "),
         6 => text(b"append       "),
         7 => text(b"take-up      "),
-        8 => text(b"zone_of_head "),
+        8 => text(b"read_head    "),
         _ => text(b"zone_test    "),
     }
 }

@@ -1,8 +1,22 @@
 -- Laws that several proofs cite.
 pub mod Parts
 pub mod Counting
+pub mod Turns
+pub mod Stores
+pub mod Interchanges
+pub mod Elimination
+pub mod Forward
+pub mod Pivots
+pub mod ColumnStep
+pub mod Columns
+pub mod Apart
+pub mod Reduction
+pub mod Loaded
+pub mod Together
+pub mod Loads
 pub mod Fill
 pub mod Signs
+pub mod Signed
 pub mod Sums
 pub mod Result
 pub mod Solver

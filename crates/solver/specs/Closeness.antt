@@ -3,7 +3,7 @@ use Prim.Native.Nat.{zero, suc}
 use mathlib.Core.Bool.{Bool, true, false, not, cond, _&&_, _||_}
 use lib.IntN.{pos}
 use lib.Ieee.{Float, nan, inf, fin, lt, le, eq, neg}
-use Rattle.solver.specs.F64.{_-ᶠ_, _*ᶠ_, zero64, dec}
+use Rattle.solver.specs.F64.{_-ᶠ_, _*ᶠ_, zero64, decimal}
 
 -- |x|; of either zero it is +0.0
 unfoldable pub abs : Float → Float
@@ -34,22 +34,22 @@ relativeEq a b epsilon maxRelative =
 
 -- The three pairs of document 01. In the demand: epsilon 1e-10, max_relative 1e-9.
 unfoldable pub closeInDemand : Float → Float → Bool
-closeInDemand a b = relativeEq a b (dec 1 10) (dec 1 9)
+closeInDemand a b = relativeEq a b (decimal 1 10) (decimal 1 9)
 
 -- the Rust's `isclose` in start-up: both 1e-8
 unfoldable pub isclose : Float → Float → Bool
-isclose a b = relativeEq a b (dec 1 8) (dec 1 8)
+isclose a b = relativeEq a b (decimal 1 8) (decimal 1 8)
 
 -- the windows test: epsilon 1e-8, max_relative 1e-10
 unfoldable pub closeInWindowsTest : Float → Float → Bool
-closeInWindowsTest a b = relativeEq a b (dec 1 8) (dec 1 10)
+closeInWindowsTest a b = relativeEq a b (decimal 1 8) (decimal 1 10)
 
 -- what a chain or an elimination may divide by, else 12: not zero (-0.0 is zero), and finite
 unfoldable pub validDivisor : Float → Bool
 validDivisor x = not (eq x zero64) && isFinite x
 
 abbrev pub stateBound : Float
-stateBound = dec 1000000 0
+stateBound = decimal 1000000 0
 
 -- within ±1e6, both included; no infinity and no nan is. Else 13 of a solve, 6 of a given state
 unfoldable pub withinStateBound : Float → Bool

@@ -7,8 +7,8 @@ use lib.Dec.{ltb}
 use lib.Ieee.{Float, nan}
 use Rattle.solver.specs.declared.system.Matrix.{Matrix}
 use Rattle.solver.specs.F64.{zero64}
-use Rattle.solver.specs.Each.{each}
-use Rattle.solver.specs.Numbers.{divisorNo, temperatureNo}
+use Rattle.solver.specs.Repeat.{repeat}
+use Rattle.solver.specs.Numbers.{divisor, temperature}
 use Rattle.solver.specs.Result.{Result, ok, bind, require}
 use Rattle.solver.specs.Rows.{setEntry}
 use Rattle.solver.specs.Lu.{Lu, luFactor, pivotsValid, luSolve}
@@ -20,18 +20,18 @@ atMost24 n = cond (ltb 24 n) 24 n
 
 -- each element's adjusted inner diagonal goes into the dense part
 unfoldable pub setInnerDiagonals : ℕ → List Float → List Float → List Float
-setInnerDiagonals n diag dense = each 0 n (λ e. setEntry e e (getD diag (5 * e + 4) nan)) dense
+setInnerDiagonals n diag dense = repeat 0 n (λ e. setEntry e e (getD diag (5 * e + 4) nan)) dense
 
 -- the dense part's right side: the inner surfaces' and the air's
 unfoldable pub gatherDense : ℕ → List Float → List Float
-gatherDense n b = set (each 0 n (λ e v. set v e (getD b (5 * e + 4) nan)) (replicate 25 zero64)) n (getD b 120 nan)
+gatherDense n b = set (repeat 0 n (λ e v. set v e (getD b (5 * e + 4) nan)) (replicate 25 zero64)) n (getD b 120 nan)
 
 -- the dense part's unknowns, back in their slots
 abbrev pub scatterInner : List Float → ℕ → List Float → List Float
 scatterInner v e t = set t (5 * e + 4) (getD v e nan)
 
 unfoldable pub scatterDense : ℕ → List Float → List Float → List Float
-scatterDense n v t = set (each 0 n (scatterInner v) t) 120 (getD v n nan)
+scatterDense n v t = set (repeat 0 n (scatterInner v) t) 120 (getD v n nan)
 
 -- the node temperatures of a right side b, by the adjusted diagonals of the chains and the factored dense part
 unfoldable pub temperatures : ℕ → List Bool → List Float → List Float → List Float → List Float → List ℕ → List Float → List Float
@@ -49,20 +49,20 @@ module _ (a : Matrix) where
   denseOf = luFactor (atMost24 (a .n) + 1) (setInnerDiagonals (atMost24 (a .n)) diagOf (a .dense)) (replicate 25 0)
 
   -- no divisor of a chain and no dense pivot is zero or not finite
-  unfoldable pub divisible : Bool
-  divisible = divisorsValid (atMost24 (a .n)) (a .«two_nodes») diagOf && pivotsValid (atMost24 (a .n) + 1) (denseOf .matrix)
+  unfoldable pub allDivisorsValid : Bool
+  allDivisorsValid = divisorsValid (atMost24 (a .n)) (a .«two_nodes») diagOf && pivotsValid (atMost24 (a .n) + 1) (denseOf .matrix)
 
   -- the node temperatures of a right side
   unfoldable pub temperaturesOf : List Float → List Float
   temperaturesOf b = temperatures (atMost24 (a .n)) (a .«two_nodes») diagOf (a .next) (a .prev) (denseOf .matrix) (denseOf .interchanges) b
 
   -- every node is finite and within ±1e6
-  unfoldable pub bounded : List Float → Bool
-  bounded t = nodesWithin (atMost24 (a .n)) (a .«two_nodes») t
+  unfoldable pub temperaturesValid : List Float → Bool
+  temperaturesValid t = nodesWithin (atMost24 (a .n)) (a .«two_nodes») t
 
   -- 12; else 13; else the temperatures in their slots
   unfoldable pub solve : List Float → Result (List Float)
   solve b =
-      bind (require divisible divisorNo) λ _.
-      bind (require (bounded (temperaturesOf b)) temperatureNo) λ _.
+      bind (require allDivisorsValid divisor) λ _.
+      bind (require (temperaturesValid (temperaturesOf b)) temperature) λ _.
       ok (temperaturesOf b)

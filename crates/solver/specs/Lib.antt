@@ -1,5 +1,5 @@
 pub mod F64
-pub mod Each
+pub mod Repeat
 pub mod Numbers
 pub mod Result
 pub mod Closeness
@@ -9,4 +9,5 @@ pub mod Lu
 pub mod Chain
 pub mod FastSolver
 pub mod Refusals
+pub mod Claims
 pub mod Inner

@@ -7,7 +7,7 @@ use lib.Dec.{ltb, eqb}
 use lib.Ieee.{Float, nan}
 use Rattle.solver.specs.F64.{_-ᶠ_, _*ᶠ_, _/ᶠ_, one64}
 use Rattle.solver.specs.Closeness.{validDivisor}
-use Rattle.solver.specs.Each.{each, eachDown, all}
+use Rattle.solver.specs.Repeat.{repeat, repeatDown, all}
 use Rattle.solver.specs.Rows.{entry, row, setRow, pivotRow, eliminateRow}
 
 -- A matrix, factored or on the way there, with the row exchanges: at k the row with which row k changed places when column k was eliminated.
@@ -25,7 +25,7 @@ interchangeRows k q pivots m = cond (eqb q k) m (setRow k pivots (setRow q (row 
 -- row q comes to row k, and is used to eliminate column k from each row below
 unfoldable pub eliminateColumnBy : ℕ → ℕ → ℕ → List Float → List ℕ → Lu
 eliminateColumnBy w k q m interchanges =
-    luWith (each (k + 1) w (eliminateRow w k (row q m) (one64 /ᶠ entry q k m)) (interchangeRows k q (row q m) m)) (set interchanges k q)
+    luWith (repeat (k + 1) w (eliminateRow w k (row q m) (one64 /ᶠ entry q k m)) (interchangeRows k q (row q m) m)) (set interchanges k q)
 
 -- column k: its pivot is looked for in the rows from the diagonal down, a part of the flat matrix
 unfoldable pub eliminateColumn : ℕ → ℕ → Lu → Lu
@@ -33,7 +33,7 @@ eliminateColumn w k lu = eliminateColumnBy w k (k + pivotRow k (w - k) (drop (25
 
 -- each column in turn; the factors stay below the diagonal, the pivots on it
 abbrev pub luFactor : ℕ → List Float → List ℕ → Lu
-luFactor w m interchanges = each 0 w (eliminateColumn w) (luWith m interchanges)
+luFactor w m interchanges = repeat 0 w (eliminateColumn w) (luWith m interchanges)
 
 -- every pivot is a valid divisor, the last column's too
 unfoldable pub pivotsValid : ℕ → List Float → Bool
@@ -47,7 +47,7 @@ abbrev pub applyInterchange : List ℕ → ℕ → List Float → List Float
 applyInterchange interchanges k b = cond (ltb (getD interchanges k 0) 25) (swap k (getD interchanges k 0) b) b
 
 unfoldable pub applyInterchanges : ℕ → List ℕ → List Float → List Float
-applyInterchanges w interchanges b = each 0 w (applyInterchange interchanges) b
+applyInterchanges w interchanges b = repeat 0 w (applyInterchange interchanges) b
 
 -- the share of unknown k, which is x, is subtracted from the right side of row i
 abbrev pub subtractMultiple : List Float → ℕ → Float → ℕ → List Float → List Float
@@ -55,19 +55,19 @@ subtractMultiple m k x i b = set b i (getD b i nan -ᶠ entry i k m *ᶠ x)
 
 -- forward, column by column: from the right sides below
 unfoldable pub forwardStep : ℕ → List Float → ℕ → List Float → List Float
-forwardStep w m k b = each (k + 1) w (subtractMultiple m k (getD b k nan)) b
+forwardStep w m k b = repeat (k + 1) w (subtractMultiple m k (getD b k nan)) b
 
 unfoldable pub forwardSubstitution : ℕ → List Float → List Float → List Float
-forwardSubstitution w m b = each 0 w (forwardStep w m) b
+forwardSubstitution w m b = repeat 0 w (forwardStep w m) b
 
 -- backward, column by column: divided by the diagonal, then from the right sides above
 unfoldable pub backStep : List Float → ℕ → List Float → List Float
 backStep m k b =
     let x = getD b k nan /ᶠ entry k k m in
-    each 0 k (subtractMultiple m k x) (set b k x)
+    repeat 0 k (subtractMultiple m k x) (set b k x)
 
 unfoldable pub backSubstitution : ℕ → List Float → List Float → List Float
-backSubstitution w m b = eachDown w (backStep m) b
+backSubstitution w m b = repeatDown w (backStep m) b
 
 -- the unknowns of a factored matrix, where the right side stood
 unfoldable pub luSolve : ℕ → List Float → List ℕ → List Float → List Float

@@ -2,9 +2,9 @@
 use Prim.Native.Nat.{ℕ}
 
 -- a divisor of a chain or a dense pivot that is zero or not finite
-abbrev pub divisorNo : ℕ
-divisorNo = 12
+abbrev pub divisor : ℕ
+divisor = 12
 
 -- a node temperature that is not finite or beyond ±1e6
-abbrev pub temperatureNo : ℕ
-temperatureNo = 13
+abbrev pub temperature : ℕ
+temperature = 13

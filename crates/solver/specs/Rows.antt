@@ -7,7 +7,7 @@ use lib.ListN.{getD, set}
 use lib.Ieee.{Float, nan, lt, neg}
 use Rattle.solver.specs.F64.{_+ᶠ_, _*ᶠ_}
 use Rattle.solver.specs.Closeness.{abs}
-use Rattle.solver.specs.Each.{each}
+use Rattle.solver.specs.Repeat.{repeat}
 use Rattle.solver.specs.Sums.{terms}
 
 -- the entry of row i and column j, and the matrix with another one there
@@ -22,7 +22,7 @@ unfoldable pub row : ℕ → List Float → List Float
 row i m = terms 0 25 λ j. entry i j m
 
 unfoldable pub setRow : ℕ → List Float → List Float → List Float
-setRow i r m = each 0 25 (λ j. setEntry i j (getD r j nan)) m
+setRow i r m = repeat 0 25 (λ j. setEntry i j (getD r j nan)) m
 
 -- row i where its magnitude in column k is strictly greater than that of the row found so far, which a nan never is; else that row
 unfoldable pub largerInColumn : ℕ → List Float → ℕ → ℕ → ℕ
@@ -30,7 +30,7 @@ largerInColumn k part i found = cond (lt (abs (entry found k part)) (abs (entry 
 
 -- of the n rows of a part of the matrix, from its top, the first of largest magnitude in column k
 abbrev pub pivotRow : ℕ → ℕ → List Float → ℕ
-pivotRow k n part = each 1 n (largerInColumn k part) 0
+pivotRow k n part = repeat 1 n (largerInColumn k part) 0
 
 -- entry j of row i gains (- the pivot row's entry) × factor
 abbrev pub eliminateEntry : List Float → ℕ → Float → ℕ → List Float → List Float
@@ -38,7 +38,7 @@ eliminateEntry pivots i factor j m = setEntry i j (entry i j m +ᶠ neg (getD pi
 
 -- row i, its factor known: that stands in column k from now on, and each later entry gains
 abbrev pub eliminateRowBy : ℕ → ℕ → List Float → ℕ → Float → List Float → List Float
-eliminateRowBy w k pivots i factor m = each (k + 1) w (eliminateEntry pivots i factor) (setEntry i k factor m)
+eliminateRowBy w k pivots i factor m = repeat (k + 1) w (eliminateEntry pivots i factor) (setEntry i k factor m)
 
 -- row i of w columns by the pivot row of column k: factor = entry × (1 / pivot)
 unfoldable pub eliminateRow : ℕ → ℕ → List Float → Float → ℕ → List Float → List Float

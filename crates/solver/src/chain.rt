@@ -5,7 +5,8 @@ use crate::closeness::within_state_bound;
 ghost use mathlib.Core.Path.{_≡_};
 ghost use mathlib.Core.Bool.{_&&_};
 ghost use Prim.Native.Nat.{_+_, _*_, _<_, _≤_};
-ghost use Rattle.solver.specs.Chain.{outerSlot, eliminateChain, eliminateChains, chainDivisorsValid, divisorsValid, reduceRightSide, reduceRightSides, backSubstituteChain, backSubstituteChains, elementWithin, nodesWithin};
+ghost use Rattle.solver.specs.Inner.Reduced.{reduceChain, reduceChains, innerShares};
+ghost use Rattle.solver.specs.Chain.{outerSlot, eliminateChain, eliminateChains, chainDivisorsValid, divisorsValid, backSubstituteChain, backSubstituteChains, elementWithin, nodesWithin};
 
 // The slot of element e's outer surface.
 fn outer_slot(two_nodes: &[bool; 24], e: usize) -> usize
@@ -78,8 +79,8 @@ pub fn divisors_valid(two_nodes: &[bool; 24], diag: &[f64; 120], n: usize) -> bo
     valid
 }
 
-// The same elimination, made on a right side.
-fn reduce_right_side(
+// The same but for its last step, which alone reads and writes the inner surface.
+pub fn reduce_chain(
     two_nodes: &[bool; 24],
     diag: &[f64; 120],
     prev: &[f64; 120],
@@ -87,17 +88,17 @@ fn reduce_right_side(
     b: &mut [f64; 121],
 )
     requires { ⌜ e < 24 ⌝ }
-    ensures { λ _. ⌜ now (b .exit) ≡ reduceRightSide (now («two_nodes» .entry)) (now (diag .entry)) (now (prev .entry)) e (now (b .entry)) ⌝ }
+    ensures { λ _. ⌜ now (b .exit) ≡ reduceChain (now («two_nodes» .entry)) (now (diag .entry)) (now (prev .entry)) e (now (b .entry)) ⌝ }
 {
     let mut s = outer_slot(two_nodes, e);
-    while s < 5 * e + 4 {
+    while s < 5 * e + 3 {
         let i = s + 1;
         b[i] = b[i] - b[s] * prev[i] / diag[s];
         s = i;
     }
 }
 
-pub fn reduce_right_sides(
+pub fn reduce_chains(
     two_nodes: &[bool; 24],
     diag: &[f64; 120],
     prev: &[f64; 120],
@@ -105,15 +106,32 @@ pub fn reduce_right_sides(
     b: &mut [f64; 121],
 )
     requires { ⌜ n ≤ 24 ⌝ }
-    ensures { λ _. ⌜ now (b .exit) ≡ reduceRightSides n (now («two_nodes» .entry)) (now (diag .entry)) (now (prev .entry)) (now (b .entry)) ⌝ }
+    ensures { λ _. ⌜ now (b .exit) ≡ reduceChains n (now («two_nodes» .entry)) (now (diag .entry)) (now (prev .entry)) (now (b .entry)) ⌝ }
 {
     let mut e = 0;
     while e < n {
-        reduce_right_side(two_nodes, diag, prev, e, b);
+        reduce_chain(two_nodes, diag, prev, e, b);
         e += 1;
     }
 }
 
+// What the last step of each chain subtracts at its inner surface.
+pub fn inner_shares(
+    diag: &[f64; 120],
+    prev: &[f64; 120],
+    b: &[f64; 121],
+    n: usize,
+    inner: &mut [f64; 24],
+)
+    requires { ⌜ n ≤ 24 ⌝ }
+    ensures { λ _. ⌜ now (inner .exit) ≡ innerShares n (now (diag .entry)) (now (prev .entry)) (now (b .entry)) (now (inner .entry)) ⌝ }
+{
+    let mut e = 0;
+    while e < n {
+        inner[e] = b[5 * e + 3] * prev[5 * e + 4] / diag[5 * e + 3];
+        e += 1;
+    }
+}
 // From the inner surface, whose temperature is known, to the outer surface.
 fn back_substitute_chain(
     two_nodes: &[bool; 24],

@@ -1,6 +1,7 @@
 // A zone's system of heat balance equations: factored once, solved for many right sides; closeness and compensated sums.
 mod chain;
 mod closeness;
+mod dense_part;
 mod lu;
 mod numbers;
 mod rows;
@@ -16,6 +17,9 @@ pub use numbers::TEMPERATURE;
 pub use sums::Sum2;
 pub use system::Matrix;
 pub use system::Solved;
-pub use system::factor;
+pub use system::factor_columns;
+pub use system::factor_last;
 pub use system::fast_solver;
-pub use system::substitute;
+pub use system::last_column;
+pub use system::reduce_base;
+pub use system::substitute_load;

@@ -8,9 +8,10 @@ use crate::rows::set_row;
 ghost use mathlib.Core.Path.{_≡_};
 ghost use Prim.Native.Nat.{_+_, _-_, _*_, _<_, _≤_};
 ghost use lib.ListN.{length, drop};
-ghost use Rattle.solver.specs.Each.{each};
+ghost use Rattle.solver.specs.Repeat.{repeat};
 ghost use Rattle.solver.specs.Rows.{pivotRow};
-ghost use Rattle.solver.specs.Lu.{luWith, eliminateColumn, luFactor, interchangeRows, pivotsValid, applyInterchanges, subtractMultiple, forwardSubstitution, backSubstitution, luSolve};
+ghost use Rattle.solver.specs.Inner.Columns.{factorColumn, factorColumns, factorLast, subtractLastMultiple, backLast, luSolveApart};
+ghost use Rattle.solver.specs.Lu.{luWith, interchangeRows, pivotsValid, applyInterchanges, subtractMultiple, forwardSubstitution, backSubstitution};
 
 // The pivot row of column k: the rows from row k on, one part of the flat matrix, are handed to the pivot search.
 fn pivot_row_from(m: &[f64], w: usize, k: usize) -> usize
@@ -34,27 +35,27 @@ fn interchange_rows(m: &mut [f64; 625], k: usize, q: usize, pivots: &[f64; 25])
     set_row(m, k, pivots);
 }
 
-// Column k: the pivot row comes to row k, and the column is eliminated from each row below.
-fn eliminate_column(m: &mut [f64; 625], interchanges: &mut [usize; 25], w: usize, k: usize)
-    requires { ⌜ (w ≤ 25) × (k < w) ⌝ }
-    ensures { λ _. ⌜ luWith (now (m .exit)) (now (interchanges .exit)) ≡ eliminateColumn w k (luWith (now (m .entry)) (now (interchanges .entry))) ⌝ }
+// Column k of n + 1 rows, where column n, which is kept apart, is left out of the elimination.
+pub fn lu_factor_column(m: &mut [f64; 625], interchanges: &mut [usize; 25], n: usize, k: usize)
+    requires { ⌜ (n ≤ 24) × (k < n) ⌝ }
+    ensures { λ _. ⌜ luWith (now (m .exit)) (now (interchanges .exit)) ≡ factorColumn n k (luWith (now (m .entry)) (now (interchanges .entry))) ⌝ }
 {
-    let q = pivot_row_from(m, w, k);
+    let q = pivot_row_from(m, n + 1, k);
     let pivot = entry(m, q, k);
     let pivots = row(m, q);
     interchange_rows(m, k, q, &pivots);
     interchanges[k] = q;
-    eliminate_rows(m, w, k, &pivots, 1.0 / pivot);
+    eliminate_rows(m, n + 1, n, k, &pivots, 1.0 / pivot);
 }
 
-// Each column in turn. Whether the pivots are valid is tested afterwards: they stay on the diagonal.
-pub fn lu_factor(m: &mut [f64; 625], interchanges: &mut [usize; 25], w: usize)
-    requires { ⌜ w ≤ 25 ⌝ }
-    ensures { λ _. ⌜ luWith (now (m .exit)) (now (interchanges .exit)) ≡ luFactor w (now (m .entry)) (now (interchanges .entry)) ⌝ }
+// Each column before column n, in turn.
+pub fn lu_factor_columns(m: &mut [f64; 625], interchanges: &mut [usize; 25], n: usize)
+    requires { ⌜ n ≤ 24 ⌝ }
+    ensures { λ _. ⌜ luWith (now (m .exit)) (now (interchanges .exit)) ≡ factorColumns n (now (m .entry)) (now (interchanges .entry)) ⌝ }
 {
     let mut k = 0;
-    while k < w {
-        eliminate_column(m, interchanges, w, k);
+    while k < n {
+        lu_factor_column(m, interchanges, n, k);
         k += 1;
     }
 }
@@ -92,7 +93,7 @@ fn apply_interchanges(b: &mut [f64; 25], interchanges: &[usize; 25], w: usize)
 // The share of unknown k, which is x, is subtracted from the right sides of the rows from `start` up to `end`.
 fn subtract_multiples(m: &[f64; 625], b: &mut [f64; 25], k: usize, x: f64, start: usize, end: usize)
     requires { ⌜ (k < 25) × (end ≤ 25) ⌝ }
-    ensures { λ _. ⌜ now (b .exit) ≡ each start end (subtractMultiple (now (m .entry)) k x) (now (b .entry)) ⌝ }
+    ensures { λ _. ⌜ now (b .exit) ≡ repeat start end (subtractMultiple (now (m .entry)) k x) (now (b .entry)) ⌝ }
 {
     let mut i = start;
     while i < end {
@@ -126,12 +127,48 @@ fn back_substitution(m: &[f64; 625], b: &mut [f64; 25], w: usize)
     }
 }
 
-// The unknowns stand where the right side stood.
-pub fn lu_solve(m: &[f64; 625], interchanges: &[usize; 25], b: &mut [f64; 25], w: usize)
-    requires { ⌜ w ≤ 25 ⌝ }
-    ensures { λ _. ⌜ now (b .exit) ≡ luSolve w (now (m .entry)) (now (interchanges .entry)) (now (b .entry)) ⌝ }
+// Column n, or a right side, in the place of which it comes to stand: its interchanges made, and forward.
+pub fn lu_factor_last(m: &[f64; 625], interchanges: &[usize; 25], b: &mut [f64; 25], n: usize)
+    requires { ⌜ n ≤ 24 ⌝ }
+    ensures { λ _. ⌜ now (b .exit) ≡ factorLast n (now (m .entry)) (now (interchanges .entry)) (now (b .entry)) ⌝ }
 {
-    apply_interchanges(b, interchanges, w);
-    forward_substitution(m, b, w);
-    back_substitution(m, b, w);
+    apply_interchanges(b, interchanges, n);
+    forward_substitution(m, b, n + 1);
+}
+
+// The share of the last unknown, which is x, is subtracted from the right sides of the n rows above.
+pub fn subtract_last_multiples(last: &[f64; 25], b: &mut [f64; 25], x: f64, n: usize)
+    requires { ⌜ n ≤ 24 ⌝ }
+    ensures { λ _. ⌜ now (b .exit) ≡ repeat 0 n (subtractLastMultiple (now (last .entry)) x) (now (b .entry)) ⌝ }
+{
+    let mut i = 0;
+    while i < n {
+        b[i] = b[i] - last[i] * x;
+        i += 1;
+    }
+}
+
+pub fn back_last(last: &[f64; 25], b: &mut [f64; 25], n: usize)
+    requires { ⌜ n ≤ 24 ⌝ }
+    ensures { λ _. ⌜ now (b .exit) ≡ backLast n (now (last .entry)) (now (b .entry)) ⌝ }
+{
+    let x = b[n] / last[n];
+    b[n] = x;
+    subtract_last_multiples(last, b, x, n);
+}
+
+// The unknowns stand where the right side stood; `last` is column n.
+pub fn lu_solve_apart(
+    m: &[f64; 625],
+    last: &[f64; 25],
+    interchanges: &[usize; 25],
+    b: &mut [f64; 25],
+    n: usize,
+)
+    requires { ⌜ n ≤ 24 ⌝ }
+    ensures { λ _. ⌜ now (b .exit) ≡ luSolveApart n (now (m .entry)) (now (last .entry)) (now (interchanges .entry)) (now (b .entry)) ⌝ }
+{
+    lu_factor_last(m, interchanges, b, n);
+    back_last(last, b, n);
+    back_substitution(m, b, n);
 }

@@ -3,8 +3,9 @@ use crate::closeness::abs;
 ghost use mathlib.Core.Path.{_≡_};
 ghost use Prim.Native.Nat.{_+_, _*_, _<_, _≤_};
 ghost use lib.ListN.{length};
-ghost use Rattle.solver.specs.Each.{each};
+ghost use Rattle.solver.specs.Repeat.{repeat};
 ghost use Rattle.solver.specs.Rows.{entry, setEntry, row, setRow, pivotRow, eliminateRow};
+ghost use Rattle.solver.specs.Inner.Columns.{columnOf};
 
 pub fn entry(m: &[f64; 625], i: usize, j: usize) -> f64
     requires { ⌜ (i < 25) × (j < 25) ⌝ }
@@ -53,6 +54,20 @@ pub fn row(m: &[f64; 625], i: usize) -> [f64; 25]
     r
 }
 
+// Column j, copied.
+pub fn column(m: &[f64; 625], j: usize) -> [f64; 25]
+    requires { ⌜ j < 25 ⌝ }
+    ensures { λ r. ⌜ r ≡ columnOf j (now (m .entry)) ⌝ }
+{
+    let mut c = [0.0; 25];
+    let mut i = 0;
+    while i < 25 {
+        c[i] = m[25 * i + j];
+        i += 1;
+    }
+    c
+}
+
 pub fn set_row(m: &mut [f64; 625], i: usize, r: &[f64; 25])
     requires { ⌜ i < 25 ⌝ }
     ensures { λ _. ⌜ now (m .exit) ≡ setRow i (now (r .entry)) (now (m .entry)) ⌝ }
@@ -73,7 +88,7 @@ fn eliminate_row(
     reciprocal: f64,
     i: usize,
 )
-    requires { ⌜ (w ≤ 25) × (k < w) × (i < w) ⌝ }
+    requires { ⌜ (w ≤ 25) × (k < w) × (i < 25) ⌝ }
     ensures { λ _. ⌜ now (m .exit) ≡ eliminateRow w k (now (pivots .entry)) reciprocal i (now (m .entry)) ⌝ }
 {
     let factor = entry(m, i, k) * reciprocal;
@@ -86,13 +101,20 @@ fn eliminate_row(
     }
 }
 
-// Column k is eliminated from each row below row k.
-pub fn eliminate_rows(m: &mut [f64; 625], w: usize, k: usize, pivots: &[f64; 25], reciprocal: f64)
-    requires { ⌜ (w ≤ 25) × (k < w) ⌝ }
-    ensures { λ _. ⌜ now (m .exit) ≡ each (k + 1) w (eliminateRow w k (now (pivots .entry)) reciprocal) (now (m .entry)) ⌝ }
+// Column k is eliminated from each row below row k, of h rows and w columns.
+pub fn eliminate_rows(
+    m: &mut [f64; 625],
+    h: usize,
+    w: usize,
+    k: usize,
+    pivots: &[f64; 25],
+    reciprocal: f64,
+)
+    requires { ⌜ (w ≤ 25) × (h ≤ 25) × (k < w) ⌝ }
+    ensures { λ _. ⌜ now (m .exit) ≡ repeat (k + 1) h (eliminateRow w k (now (pivots .entry)) reciprocal) (now (m .entry)) ⌝ }
 {
     let mut i = k + 1;
-    while i < w {
+    while i < h {
         eliminate_row(m, w, k, pivots, reciprocal, i);
         i += 1;
     }

@@ -2,19 +2,32 @@
 use crate::chain::back_substitute_chains;
 use crate::chain::divisors_valid;
 use crate::chain::eliminate_chains;
+use crate::chain::inner_shares;
 use crate::chain::nodes_within;
-use crate::chain::reduce_right_sides;
-use crate::lu::lu_factor;
-use crate::lu::lu_solve;
+use crate::chain::reduce_chains;
+use crate::closeness::valid_divisor;
+use crate::dense_part::gather_loaded;
+use crate::dense_part::gather_reduced;
+use crate::dense_part::scatter_dense;
+use crate::dense_part::set_inner_diagonals;
+use crate::lu::lu_factor_columns;
+use crate::lu::lu_factor_last;
+use crate::lu::lu_solve_apart;
 use crate::lu::pivots_valid;
 use crate::numbers::DIVISOR;
 use crate::numbers::TEMPERATURE;
-use crate::rows::set_entry;
+use crate::rows::column;
 ghost use mathlib.Core.Path.{_≡_};
 ghost use Prim.Native.Nat.{_≤_};
-ghost use Rattle.solver.specs.Each.{each};
-ghost use Rattle.solver.specs.FastSolver.{atMost24, setInnerDiagonals, gatherDense, scatterInner, scatterDense, temperatures};
-ghost use Rattle.solver.specs.Inner.Factored.{factored, factor, factorDense, solved, substitute, fastSolver};
+ghost use lib.ListN.{getD};
+ghost use lib.Ieee.{nan};
+ghost use Rattle.solver.specs.Repeat.{repeat};
+ghost use Rattle.solver.specs.FastSolver.{atMost24, temperatures};
+ghost use Rattle.solver.specs.Inner.Factored.{factored, solved, fastSolver};
+ghost use Rattle.solver.specs.Closeness.{validDivisor};
+ghost use Rattle.solver.specs.Inner.Columns.{columnOf, factorLast};
+ghost use Rattle.solver.specs.Inner.Reduced.{reduceChains, innerShares, gatherReduced, gatherLoaded};
+ghost use Rattle.solver.specs.Inner.Apart.{columns, factorApart, substituteApart};
 
 // The matrix in the form that is kept: the number of elements, which of them have two nodes; for each slot its own coefficient and those of
 // the next and the previous slot of its chain; and the dense part, 25 places a row: the couplings between the inner surfaces, the air's column
@@ -41,38 +54,8 @@ fn at_most_24(n: usize) -> usize
     if 24 < n { 24 } else { n }
 }
 
-// The adjusted inner diagonals go into the dense part.
-fn set_inner_diagonals(diag: &[f64; 120], n: usize, dense: &mut [f64; 625])
-    requires { ⌜ n ≤ 24 ⌝ }
-    ensures { λ _. ⌜ now (dense .exit) ≡ setInnerDiagonals n (now (diag .entry)) (now (dense .entry)) ⌝ }
-{
-    let mut e = 0;
-    while e < n {
-        set_entry(dense, e, e, diag[5 * e + 4]);
-        e += 1;
-    }
-}
-
-// The dense part, once the chains are eliminated.
-fn factor_dense(
-    n: usize,
-    two_nodes: &[bool; 24],
-    diag: &[f64; 120],
-    dense: &mut [f64; 625],
-    interchanges: &mut [usize; 25],
-) -> u32
-    requires { ⌜ n ≤ 24 ⌝ }
-    ensures { λ r. ⌜ factored r (now (diag .entry)) (now (dense .exit)) (now (interchanges .exit)) ≡ factorDense n (now («two_nodes» .entry)) (now (diag .entry)) (now (dense .entry)) (now (interchanges .entry)) ⌝ }
-{
-    set_inner_diagonals(diag, n, dense);
-    lu_factor(dense, interchanges, n + 1);
-    let chains = divisors_valid(two_nodes, diag, n);
-    let pivots = pivots_valid(dense, n + 1);
-    if chains & pivots { 0 } else { DIVISOR }
-}
-
-// The matrix is factored in place: 0, or 12 where a chain divisor or a pivot is zero or not finite.
-pub fn factor(
+// All of the matrix but column n of its dense part, which is not read, factored in place: whether its divisors are valid.
+pub fn factor_columns(
     n: usize,
     two_nodes: &[bool; 24],
     diag: &mut [f64; 120],
@@ -80,107 +63,162 @@ pub fn factor(
     prev: &[f64; 120],
     dense: &mut [f64; 625],
     interchanges: &mut [usize; 25],
-) -> u32
-    ensures { λ r. ⌜ factored r (now (diag .exit)) (now (dense .exit)) (now (interchanges .exit))
-        ≡ factor record { n = n; «two_nodes» = now («two_nodes» .entry); diag = now (diag .entry); next = now (next .entry); prev = now (prev .entry); dense = now (dense .entry) } (now (interchanges .entry)) ⌝ }
+) -> bool
+    ensures { λ r. ⌜ columns r (now (diag .exit)) (now (dense .exit)) (now (interchanges .exit))
+        ≡ factorApart (atMost24 n) (now («two_nodes» .entry)) (now (diag .entry)) (now (next .entry)) (now (prev .entry)) (now (dense .entry)) (now (interchanges .entry)) ⌝ }
 {
     let k = at_most_24(n);
     eliminate_chains(two_nodes, next, prev, k, diag);
-    factor_dense(k, two_nodes, diag, dense, interchanges)
+    set_inner_diagonals(diag, k, dense);
+    lu_factor_columns(dense, interchanges, k);
+    let chains = divisors_valid(two_nodes, diag, k);
+    let pivots = pivots_valid(dense, k);
+    chains & pivots
 }
 
-// The right side of the dense part.
-fn gather_dense(b: &[f64; 121], n: usize) -> [f64; 25]
-    requires { ⌜ n ≤ 24 ⌝ }
-    ensures { λ r. ⌜ r ≡ gatherDense n (now (b .entry)) ⌝ }
-{
-    let mut v = [0.0; 25];
-    let mut e = 0;
-    while e < n {
-        v[e] = b[5 * e + 4];
-        e += 1;
-    }
-    v[n] = b[120];
-    v
-}
-
-// The unknowns of the dense part go back to their slots.
-fn scatter_inner(v: &[f64; 25], n: usize, t: &mut [f64; 121])
-    requires { ⌜ n ≤ 24 ⌝ }
-    ensures { λ _. ⌜ now (t .exit) ≡ each 0 n (scatterInner (now (v .entry))) (now (t .entry)) ⌝ }
-{
-    let mut e = 0;
-    while e < n {
-        t[5 * e + 4] = v[e];
-        e += 1;
-    }
-}
-
-fn scatter_dense(v: &[f64; 25], n: usize, t: &mut [f64; 121])
-    requires { ⌜ n ≤ 24 ⌝ }
-    ensures { λ _. ⌜ now (t .exit) ≡ scatterDense n (now (v .entry)) (now (t .entry)) ⌝ }
-{
-    scatter_inner(v, n, t);
-    t[120] = v[n];
-}
-
-// The temperatures stand where the right side stood.
-fn solve_nodes(
-    n: usize,
-    two_nodes: &[bool; 24],
-    diag: &[f64; 120],
-    next: &[f64; 120],
-    prev: &[f64; 120],
-    dense: &[f64; 625],
-    interchanges: &[usize; 25],
-    b: &mut [f64; 121],
-)
-    requires { ⌜ n ≤ 24 ⌝ }
-    ensures { λ _. ⌜ now (b .exit)
-        ≡ temperatures n (now («two_nodes» .entry)) (now (diag .entry)) (now (next .entry)) (now (prev .entry)) (now (dense .entry)) (now (interchanges .entry)) (now (b .entry)) ⌝ }
-{
-    reduce_right_sides(two_nodes, diag, prev, n, b);
-    let mut v = gather_dense(b, n);
-    lu_solve(dense, interchanges, &mut v, n + 1);
-    scatter_dense(&v, n, b);
-    back_substitute_chains(two_nodes, diag, next, n, b);
-}
-
-// Of a factored matrix. The temperatures stand where the right side stood: 0, or 13 where one is not finite or beyond a million.
-pub fn substitute(
-    n: usize,
-    two_nodes: &[bool; 24],
-    diag: &[f64; 120],
-    next: &[f64; 120],
-    prev: &[f64; 120],
-    dense: &[f64; 625],
-    interchanges: &[usize; 25],
-    b: &mut [f64; 121],
-) -> u32
-    ensures { λ r. ⌜ solved r (now (b .exit))
-        ≡ substitute record { n = n; «two_nodes» = now («two_nodes» .entry); diag = now (diag .entry); next = now (next .entry); prev = now (prev .entry); dense = now (dense .entry) } (now (interchanges .entry)) (now (b .entry)) ⌝ }
+// Column n of the dense part.
+pub fn last_column(n: usize, dense: &[f64; 625]) -> [f64; 25]
+    ensures { λ r. ⌜ r ≡ columnOf (atMost24 n) (now (dense .entry)) ⌝ }
 {
     let k = at_most_24(n);
-    solve_nodes(k, two_nodes, diag, next, prev, dense, interchanges, b);
-    if nodes_within(two_nodes, b, k) {
+    column(dense, k)
+}
+
+// Column n of one rate, factored in place: whether its pivot is valid.
+pub fn factor_last(
+    n: usize,
+    dense: &[f64; 625],
+    interchanges: &[usize; 25],
+    last: &mut [f64; 25],
+) -> bool
+    ensures { λ r. ⌜ (now (last .exit) ≡ factorLast (atMost24 n) (now (dense .entry)) (now (interchanges .entry)) (now (last .entry)))
+        × (r ≡ validDivisor (getD (now (last .exit)) (atMost24 n) nan)) ⌝ }
+{
+    let k = at_most_24(n);
+    lu_factor_last(dense, interchanges, last, k);
+    valid_divisor(last[k])
+}
+
+// A right side without its load, reduced in place but for the last step of each chain; what that step subtracts goes to `inner`.
+pub fn reduce_base(
+    n: usize,
+    two_nodes: &[bool; 24],
+    diag: &[f64; 120],
+    prev: &[f64; 120],
+    b: &mut [f64; 121],
+    inner: &mut [f64; 24],
+)
+    ensures { λ _. ⌜ (now (b .exit) ≡ reduceChains (atMost24 n) (now («two_nodes» .entry)) (now (diag .entry)) (now (prev .entry)) (now (b .entry)))
+        × (now (inner .exit) ≡ innerShares (atMost24 n) (now (diag .entry)) (now (prev .entry)) (now (b .exit)) (now (inner .entry))) ⌝ }
+{
+    let k = at_most_24(n);
+    reduce_chains(two_nodes, diag, prev, k, b);
+    inner_shares(diag, prev, b, k, inner);
+}
+
+// Of the dense part's right side v and a reduced right side, where the temperatures come to stand: 0, or 13.
+fn substitute_apart(
+    n: usize,
+    two_nodes: &[bool; 24],
+    diag: &[f64; 120],
+    next: &[f64; 120],
+    dense: &[f64; 625],
+    last: &[f64; 25],
+    interchanges: &[usize; 25],
+    v: &mut [f64; 25],
+    b: &mut [f64; 121],
+) -> u32
+    requires { ⌜ n ≤ 24 ⌝ }
+    ensures { λ r. ⌜ solved r (now (b .exit))
+        ≡ substituteApart n (now («two_nodes» .entry)) (now (diag .entry)) (now (next .entry)) (now (dense .entry)) (now (last .entry)) (now (interchanges .entry)) (now (v .entry)) (now (b .entry)) ⌝ }
+{
+    lu_solve_apart(dense, last, interchanges, v, n);
+    scatter_dense(v, n, b);
+    back_substitute_chains(two_nodes, diag, next, n, b);
+    if nodes_within(two_nodes, b, n) {
         0
     } else {
         TEMPERATURE
     }
 }
 
-// Both, of one right side: the entry point that the Rust has. The zone calls its two parts, as it solves for several loads at one rate.
+// Of a right side that is reduced, in the place of which the temperatures come to stand: 0, or 13.
+fn substitute_reduced(
+    n: usize,
+    two_nodes: &[bool; 24],
+    diag: &[f64; 120],
+    next: &[f64; 120],
+    dense: &[f64; 625],
+    last: &[f64; 25],
+    interchanges: &[usize; 25],
+    inner: &[f64; 24],
+    b: &mut [f64; 121],
+) -> u32
+    ensures { λ r. ⌜ solved r (now (b .exit))
+        ≡ substituteApart (atMost24 n) (now («two_nodes» .entry)) (now (diag .entry)) (now (next .entry)) (now (dense .entry)) (now (last .entry)) (now (interchanges .entry)) (gatherReduced (atMost24 n) (now (b .entry)) (now (inner .entry))) (now (b .entry)) ⌝ }
+{
+    let k = at_most_24(n);
+    let mut v = [0.0; 25];
+    gather_reduced(b, inner, k, &mut v);
+    substitute_apart(
+        k,
+        two_nodes,
+        diag,
+        next,
+        dense,
+        last,
+        interchanges,
+        &mut v,
+        b,
+    )
+}
+
+// The same with a load.
+pub fn substitute_load(
+    n: usize,
+    two_nodes: &[bool; 24],
+    diag: &[f64; 120],
+    next: &[f64; 120],
+    dense: &[f64; 625],
+    last: &[f64; 25],
+    interchanges: &[usize; 25],
+    inner: &[f64; 24],
+    gains: f64,
+    air: f64,
+    b: &mut [f64; 121],
+) -> u32
+    ensures { λ r. ⌜ solved r (now (b .exit))
+        ≡ substituteApart (atMost24 n) (now («two_nodes» .entry)) (now (diag .entry)) (now (next .entry)) (now (dense .entry)) (now (last .entry)) (now (interchanges .entry)) (gatherLoaded (atMost24 n) (now (b .entry)) (now (inner .entry)) gains air) (now (b .entry)) ⌝ }
+{
+    let k = at_most_24(n);
+    let mut v = [0.0; 25];
+    gather_loaded(b, inner, gains, air, k, &mut v);
+    substitute_apart(
+        k,
+        two_nodes,
+        diag,
+        next,
+        dense,
+        last,
+        interchanges,
+        &mut v,
+        b,
+    )
+}
+
+// All of it, of one right side: the entry point that the Rust has. The zone calls its parts, as it solves for several rates and loads.
 pub fn fast_solver(a: Matrix, b: [f64; 121]) -> Solved
     ensures { λ r. ⌜ r ≡ fastSolver a b ⌝ }
 {
+    let n = at_most_24(a.n);
     let two_nodes = a.two_nodes;
     let mut diag = a.diag;
     let next = a.next;
     let prev = a.prev;
     let mut dense = a.dense;
+    let mut last = column(&dense, n);
     let mut interchanges = [0; 25];
-    let mut temps = b;
-    let mut number = factor(
+    let divisors = factor_columns(
         a.n,
         &two_nodes,
         &mut diag,
@@ -189,15 +227,21 @@ pub fn fast_solver(a: Matrix, b: [f64; 121]) -> Solved
         &mut dense,
         &mut interchanges,
     );
-    if number == 0 {
-        number = substitute(
+    let pivot = factor_last(a.n, &dense, &interchanges, &mut last);
+    let mut number = DIVISOR;
+    let mut temps = b;
+    if divisors & pivot {
+        let mut inner = [0.0; 24];
+        reduce_base(a.n, &two_nodes, &diag, &prev, &mut temps, &mut inner);
+        number = substitute_reduced(
             a.n,
             &two_nodes,
             &diag,
             &next,
-            &prev,
             &dense,
+            &last,
             &interchanges,
+            &inner,
             &mut temps,
         );
     }

@@ -5,6 +5,7 @@ pub mod Conditions
 pub mod ConditionsBytes
 pub mod HeadBytes
 pub mod HeadRefusals
+pub mod HeadIndex
 pub mod HeadClaims
 pub mod Demand
 pub mod StartUp

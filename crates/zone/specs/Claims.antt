@@ -1,3 +1,4 @@
+pub mod Encode
 pub mod HeadRefusals
 pub mod Head
 pub mod DemandClaims

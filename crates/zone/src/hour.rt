@@ -2,6 +2,8 @@
 pub mod cooling_potential;
 pub mod demand;
 pub mod hour;
+pub mod hour_kept;
+pub mod kept;
 pub mod load;
 pub mod simulation_time;
 pub mod solves;

@@ -1,4 +1,4 @@
--- What is known of an accepted head and an accepted hour.
+-- What is known of an accepted hour.
 use Prim.Native.Nat.{ℕ, _≤_}
 use mathlib.Core.Path.{_≡_}
 use mathlib.Core.List.{List}
@@ -6,10 +6,8 @@ use native.Mathlib.Omega.{arith}
 use lib.ListN.{length}
 use Rattle.zone.specs.Promise.{ok}
 use Rattle.zone.specs.Record.BuildingElement.{standardCoefficients, nodeCount}
-use Rattle.zone.specs.Format.Head.{headOf}
 use Rattle.zone.specs.declared.record.zone_record.Zone.{Zone}
-use Rattle.zone.proofs.Promise.{tested-few, node-count-few, conditions-length, count-few, temps-length}
-use Rattle.zone.proofs.Claims.Head.{head-tested}
+use Rattle.zone.proofs.Promise.{node-count-few, conditions-length, count-few, temps-length}
 use Rattle.zone.specs.Calls.Hour.{HourResult}
 use Rattle.zone.specs.declared.calls.state.State.{State}
 use Rattle.zone.specs.Format.Layout.{conditionsLength}
@@ -17,9 +15,6 @@ use Rattle.book.specs.Layout.{wholeLength}
 use Rattle.book.specs.Entry.{entryOf}
 use Rattle.book.specs.Year.{hour}
 use Rattle.book.proofs.Laws.Entry.{length-entry}
-
-pub head-few : (bs : List ℕ) (z : Zone) (n : ℕ) → headOf bs ≡ ok (record { zone = z; length = n }) → z .count ≤ 24
-head-few bs z n e = tested-few z (head-tested bs _ e)
 
 module _ (z : Zone) (s : State) (i : List ℕ) (r : HourResult) (e : hour z s i ≡ ok r) where
   pub hour-conditions : length i ≡ conditionsLength (z .count)

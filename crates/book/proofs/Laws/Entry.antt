@@ -10,6 +10,8 @@ use Rattle.zone.specs.Record.BuildingElement.{nodeCount}
 use Rattle.zone.specs.Format.Bytes.{bytesOf}
 use Rattle.zone.proofs.Promise.{node-count-few, length-bytesOf, length-row}
 use Rattle.zone.specs.declared.record.zone_record.Zone.{Zone}
+use Rattle.zone.specs.declared.record.zone_record.ZoneFront.{ZoneFront}
+use Rattle.zone.specs.Inner.Lent.{zoneIn}
 use Rattle.zone.specs.declared.calls.state.State.{State}
 use Rattle.zone.specs.declared.calls.state.Demand.{Demand}
 use Rattle.zone.specs.declared.calls.state.AchToTriggerHeating.{AchToTriggerHeating}
@@ -21,8 +23,12 @@ use Rattle.book.specs.Entry.{frontBytes, triggerBytes, demandBytes, temp
 use Rattle.book.specs.Inner.Sizes.{triggerSize, demandSize, longestEntry}
 use Rattle.book.specs.Year.{conditionsIn}
 
-pub whole-few : (z : Zone) → z .count ≤ 24 → wholeLength z ≤ longestEntry
-whole-few z h = omega (arith, node-count-few z h)
+module _ (z : ZoneFront) (codes : List ℕ) (values : List Float) (h : z .count ≤ 24) where
+  pub nodes-few : (n : ℕ) → n ≡ nodeCount (zoneIn z codes values) → n ≤ 121
+  nodes-few n e = omega (arith, node-count-few (zoneIn z codes values) h)
+
+  pub whole-few : wholeLength (zoneIn z codes values) ≤ longestEntry
+  whole-few = omega (arith, node-count-few (zoneIn z codes values) h)
 
 -- an array of 121 has so many
 pub floats-few : (n : ℕ) (l : List Float) → n ≤ 121 → length l ≡ 121 → n ≤ length l

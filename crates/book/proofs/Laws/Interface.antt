@@ -18,7 +18,7 @@ use Rattle.book.specs.Model.Interface.{Written}
 use Rattle.book.proofs.Model.InterfaceLaws.{Laws}
 use Rattle.book.specs.Layout.{wholeLength}
 use Rattle.book.specs.Entry.{entryOf}
-use Rattle.book.specs.Year.{hour, hourEntry, entryLength, conditionsIn, year}
+use Rattle.book.specs.Year.{hour, hourEntry, entryLength, conditionsIn, yearInterface}
 use Rattle.book.proofs.Laws.Entry.{conditions-back}
 use Rattle.book.proofs.Laws.Accepted.{hour-conditions, hour-entry}
 
@@ -53,7 +53,7 @@ module _ (z : Zone) (k : ℕ) (s : State) (i : List ℕ) (e : Written State) (p 
       let a = step-hour in
       sym (ap (λ x. conditionsIn z (x .bytes)) (ok-inj (a .2))) ∙ conditions-back z i (a .0 .demand) (a .0 .state) (hour-conditions z s i (a .0) (a .1))
 
-pub year-laws : Laws year
+pub year-laws : Laws yearInterface
 year-laws =
     record {
       head-within = head-within;

@@ -11,6 +11,8 @@ use Rattle.zone.specs.Record.BuildingElement.{nodeCount}
 use Rattle.zone.specs.Format.Bytes.{bytesOf}
 use Rattle.zone.proofs.Promise.{length-bytesOf, length-row}
 use Rattle.zone.specs.declared.record.zone_record.Zone.{Zone}
+use Rattle.zone.specs.declared.record.zone_record.ZoneFront.{ZoneFront}
+use Rattle.zone.specs.Inner.Lent.{zoneIn}
 use Rattle.zone.specs.declared.calls.state.State.{State}
 use Rattle.zone.specs.declared.calls.state.Demand.{Demand}
 use Rattle.zone.specs.declared.calls.state.AchToTriggerHeating.{AchToTriggerHeating}
@@ -30,9 +32,9 @@ unfolding bytesOf
 version-byte = refl
 
 module _ (at : ℕ) (b b₁ b₂ : List ℕ) where
-  pub front-written : (z : Zone) (m : ℕ) → m ≡ followingLength z → at + frontSize ≤ length b
-      → b₁ ≡ replaceAt at (bytesOf lengthSize m) b → b₂ ≡ replaceAt (at + lengthSize) (bytesOf 1 1) b₁ → b₂ ≡ replaceAt at (frontBytes z) b
-  front-written z m l h e₁ e₂ =
+  pub front-written : (z : ZoneFront) (codes : List ℕ) (values : List Float) (m : ℕ) → m ≡ followingLength (zoneIn z codes values) → at + frontSize ≤ length b
+      → b₁ ≡ replaceAt at (bytesOf lengthSize m) b → b₂ ≡ replaceAt (at + lengthSize) (bytesOf 1 1) b₁ → b₂ ≡ replaceAt at (frontBytes (zoneIn z codes values)) b
+  front-written z codes values m l h e₁ e₂ =
       replace-then at (at + lengthSize) (bytesOf lengthSize m) (bytesOf 1 1) b b₁ b₂ (omega arith) (omega (arith, length-bytesOf lengthSize m)) e₁ e₂
       ∙ (λ i. replaceAt at (bytesOf lengthSize (l i) ++ version-byte i) b)
 

@@ -15,8 +15,8 @@ use Rattle.zone.specs.Format.Head.{ReadHead}
 use Rattle.book.specs.Model.Bytes.{concat, fromOption}
 use Rattle.book.specs.Model.Interface.{Interface}
 use Rattle.book.proofs.Model.InterfaceLaws.{Laws}
-use Rattle.book.specs.Model.Calls.{Values, accepted, begin, beginRes, wholeEntries, checkEntries, takeUp, takeUpRes}
-use Rattle.book.specs.Model.Plain.{Plain, book, View, Contents, lastState, entriesOf, contentsOf, usedBytes, ownValues, view, beginPlain, WellFormed}
+use Rattle.book.specs.Model.Calls.{BookState, accepted, begin, beginRes, wholeEntries, checkEntries, takeUp, takeUpRes}
+use Rattle.book.specs.Model.Plain.{Plain, book, Snapshot, Contents, lastState, entriesOf, contentsOf, usedBytes, ownBookState, snapshot, beginPlain, WellFormed}
 use Rattle.book.proofs.Model.Formed.{wellFormed}
 use Rattle.book.specs.Model.PlainTakeUp.{takeUpPlain}
 use Rattle.book.specs.Model.Run.{written, plainOutcome, plainEvent}
@@ -33,15 +33,15 @@ module _ (L : Interface) where
   contents-is head is S = bind-is _ _ _ _ (S .head-is) (bind-is _ _ _ _ (S .start-is) (bind-is _ _ _ _ (S .entries-are) refl))
 
   -- what is seen of a well-formed plain book
-  abbrev pub viewed : (head : List ℕ) (is : List (L .Item)) → WellFormed L head is → View (L .State)
-  viewed head is S = record { bytes = usedBytes L head (S .contents); values = ownValues L head (S .contents) }
+  abbrev pub snapshotFor : (head : List ℕ) (is : List (L .Item)) → WellFormed L head is → Snapshot (L .State)
+  snapshotFor head is S = record { bytes = usedBytes L head (S .contents); values = ownBookState L head (S .contents) }
 
-  pub view-is : (head : List ℕ) (is : List (L .Item)) (S : WellFormed L head is) → view L (book head is) ≡ some (viewed head is S)
-  unfolding view
-  view-is head is S = rw (contents-is head is S)
+  pub snapshot-is : (head : List ℕ) (is : List (L .Item)) (S : WellFormed L head is) → snapshot L (book head is) ≡ some (snapshotFor head is S)
+  unfolding snapshot
+  snapshot-is head is S = rw (contents-is head is S)
 
   -- the event of an accepted call
-  pub outcome-ok : (g : Values (L .State)) (lent : Option (List ℕ)) (p q : Plain (L .Item)) (w : View (L .State)) → view L q ≡ some w
+  pub outcome-ok : (g : BookState (L .State)) (lent : Option (List ℕ)) (p q : Plain (L .Item)) (w : Snapshot (L .State)) → snapshot L q ≡ some w
       → plainEvent L (plainOutcome L g lent p (ok q)) ≡ record { answer = some (accepted (w .values)); buffer = fromOption none (λ b. some (written L w b)) lent; held = some w }
   unfolding plainEvent
   outcome-ok g lent p q w e = rw e
@@ -56,14 +56,14 @@ module _ (L : Interface) (W : Laws L) where
   pub head-on : (head : List ℕ) (is : List (L .Item)) (S : WellFormed L head is) (cs : List ℕ) → L .headOf (head ++ cs) ≡ ok (record { zone = S .contents .zone; length = length head })
   head-on head is S cs = rw take-length at (W .head-own head cs _ (S .head-is))
 
-  module _ (p : Plain (L .Item)) (pp : wellFormed L p) (g : Values (L .State)) where
+  module _ (p : Plain (L .Item)) (pp : wellFormed L p) (g : BookState (L .State)) where
     abbrev pub Begins : List ℕ → List ℕ → Type 0
     Begins head buf =
-        (afterBegin L (view L p) (begin L head g buf) ≡ plainEvent L (plainOutcome L g (some buf) p (beginPlain L head buf)))
+        (afterBegin L (snapshot L p) (begin L head g buf) ≡ plainEvent L (plainOutcome L g (some buf) p (beginPlain L head buf)))
         × wellFormed L (plainOutcome L g (some buf) p (beginPlain L head buf) .next)
 
     pub begin-agrees : (head buf : List ℕ) → Begins head buf
-    unfolding begin beginRes beginPlain plainEvent entriesOf view contentsOf
+    unfolding begin beginRes beginPlain plainEvent entriesOf snapshot contentsOf
     begin-agrees head buf = go (L .headOf head) refl
       where
         go₃ : (z : L .Zone) (n : ℕ) (s : L .State) (b : Bool) → L .headOf head ≡ ok (record { zone = z; length = n }) → L .startUp z ≡ ok s → leb n (length buf) ≡ b → Begins head buf
@@ -73,9 +73,9 @@ module _ (L : Interface) (W : Laws L) where
             let S : WellFormed L (take n head) [] = record { contents = c; head-is = head-alone head z n e; start-is = f; entries-are = refl; within-limit = omega arith } in
             let l : length (take n head) ≡ n = length-take-le n head (W .head-within head _ e) in
             let a : take n head ++ [] ≡ take n head = append-nil (take n head) in
-            let w : View (L .State) = record { bytes = take n head; values = record { state = s; count = 0; used = n } } in
-            let q : view L (book (take n head) []) ≡ some w =
-            view-is L (take n head) [] S
+            let w : Snapshot (L .State) = record { bytes = take n head; values = record { state = s; count = 0; used = n } } in
+            let q : snapshot L (book (take n head) []) ≡ some w =
+            snapshot-is L (take n head) [] S
             ∙ (λ i. some (record { bytes = a i; values = record { state = s; count = 0; used = (ap length a ∙ l) i } })) in
             let h : take n (take n head ++ drop n buf) ≡ take n head = take-at (take n head) (drop n buf) n l in
             rw (e, f, t) (
@@ -97,7 +97,7 @@ module _ (L : Interface) (W : Laws L) where
 
     abbrev pub Takes : List ℕ → Type 0
     Takes bytes =
-        (afterTakeUp L (view L p) bytes (takeUp L g bytes) ≡ plainEvent L (plainOutcome L g none p (takeUpPlain L bytes)))
+        (afterTakeUp L (snapshot L p) bytes (takeUp L g bytes) ≡ plainEvent L (plainOutcome L g none p (takeUpPlain L bytes)))
         × wellFormed L (plainOutcome L g none p (takeUpPlain L bytes) .next)
 
     pub takeUp-agrees : (bytes : List ℕ) → Takes bytes
@@ -105,7 +105,7 @@ module _ (L : Interface) (W : Laws L) where
     takeUp-agrees bytes = go (L .headOf bytes) refl
       where
         go₃ : (z : L .Zone) (n : ℕ) (s : L .State) → L .headOf bytes ≡ ok (record { zone = z; length = n }) → L .startUp z ≡ ok s
-            → (x : Result (Values (L .State))) → checkEntries L z 0 s n (wholeEntries L z (drop n bytes)) ≡ x → Takes bytes
+            → (x : Result (BookState (L .State))) → checkEntries L z 0 s n (wholeEntries L z (drop n bytes)) ≡ x → Takes bytes
         go₃ z n s e f (refused c j) t =
             let B = check-bad L z 0 s n (wholeEntries L z (drop n bytes)) c j (omega arith) t in
             rw (e, f, t, tests-bad L W z s (drop n bytes) c j B) (refl, pp)
@@ -129,9 +129,9 @@ module _ (L : Interface) (W : Laws L) where
             ap (λ x. take n bytes ++ x) (sym (front-of _ _ _ (d .joined))) ∙ sym (take-add n (length (concat cs)) bytes) ∙ ap (λ x. take x bytes) u in
             let k : length (J .es) ≡ 0 + length cs = sym (length-bytesOf (J .es)) ∙ ap length (J .same) ∙ sym (zero-add (length cs)) in
             let m : length (take n bytes ++ concat cs) ≡ n + length (concat cs) = length-append (take n bytes) (concat cs) ∙ ap (λ x. x + length (concat cs)) l in
-            let w : View (L .State) = record { bytes = take (v .used) bytes; values = v } in
-            let q : view L (book (take n bytes) is) ≡ some w =
-            view-is L (take n bytes) is S
+            let w : Snapshot (L .State) = record { bytes = take (v .used) bytes; values = v } in
+            let q : snapshot L (book (take n bytes) is) ≡ some w =
+            snapshot-is L (take n bytes) is S
             ∙ (λ i. some (record {
               bytes = take n bytes ++ concat (J .same i);
               values = record { state = lastState s (J .es); count = k i; used = length (take n bytes ++ concat (J .same i)) };

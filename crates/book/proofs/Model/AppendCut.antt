@@ -16,8 +16,8 @@ use Rattle.zone.proofs.Promise.{and-true}
 use Rattle.book.specs.Numbers.{bufferShort, bookFull}
 use Rattle.book.specs.Model.Interface.{Interface, Written}
 use Rattle.book.proofs.Model.InterfaceLaws.{Laws}
-use Rattle.book.specs.Model.Calls.{Values, accepted, append, appendRes, wholeEntries, takeUp}
-use Rattle.book.specs.Model.Plain.{Plain, book, View, entryBytes, lastState, entriesOf, contentsOf, usedBytes, ownValues, view, appendPlain, itemsEndingBy, cutPlain, WellFormed}
+use Rattle.book.specs.Model.Calls.{BookState, accepted, append, appendRes, wholeEntries, takeUp}
+use Rattle.book.specs.Model.Plain.{Plain, book, Snapshot, entryBytes, lastState, entriesOf, contentsOf, usedBytes, ownBookState, snapshot, appendPlain, itemsEndingBy, cutPlain, WellFormed}
 use Rattle.book.proofs.Model.Formed.{wellFormed}
 use Rattle.book.specs.Model.PlainTakeUp.{testEntries, takeUpPlain}
 use Rattle.book.specs.Model.Run.{Call, callAppend, callCut, written, plainOutcome, plainMake, plainEvent}
@@ -26,37 +26,37 @@ use Rattle.book.proofs.Model.Caller.{make}
 use Rattle.book.proofs.Model.Laws.Entries.{last-tested, Entries, entry, length-bytesOf, entryBytes-append, lastState-append, length-entries, parts-entries}
 use Rattle.book.proofs.Model.Laws.Decode.{cut-short}
 use Rattle.book.proofs.Model.Laws.ByIndex.{items-in, tests-ok}
-use Rattle.book.proofs.Model.Agreement.{contents-is, view-is, outcome-ok, head-on, takeUp-agrees}
+use Rattle.book.proofs.Model.Agreement.{contents-is, snapshot-is, outcome-ok, head-on, takeUp-agrees}
 
 module _ (L : Interface) (W : Laws L) where
   -- the event of a call on what is seen of a plain book is the plain book's, and it leaves a well-formed one
   abbrev pub Agrees : Plain (L .Item) → Call (L .State) (L .Item) → Type 0
-  Agrees p c = (make L (view L p) c ≡ plainEvent L (plainMake L p c)) × wellFormed L (plainMake L p c .next)
+  Agrees p c = (make L (snapshot L p) c ≡ plainEvent L (plainMake L p c)) × wellFormed L (plainMake L p c .next)
 
   module _ (head : List ℕ) (is : List (L .Item)) (S : WellFormed L head is) where
     abbrev pub usedOf : List ℕ
     usedOf = usedBytes L head (S .contents)
 
-    abbrev pub own : Values (L .State)
-    own = ownValues L head (S .contents)
+    abbrev pub own : BookState (L .State)
+    own = ownBookState L head (S .contents)
 
     pub count-is : length (S .contents .entries) ≡ length is
     count-is = length-entries L (S .contents .zone) 0 (S .contents .start) is (S .contents .entries) (S .entries-are)
 
     pub call-append : (i : L .Item) (spare : List ℕ)
-        → make L (view L (book head is)) (callAppend i spare) ≡ afterAppend L (append L (S .contents .zone) own i (usedOf ++ spare))
+        → make L (snapshot L (book head is)) (callAppend i spare) ≡ afterAppend L (append L (S .contents .zone) own i (usedOf ++ spare))
     unfolding make
-    call-append i spare = rw (view-is L head is S, head-on L W head is S (entryBytes (S .contents .entries)))
+    call-append i spare = rw (snapshot-is L head is S, head-on L W head is S (entryBytes (S .contents .entries)))
 
     pub plain-append : (i : L .Item) (spare : List ℕ)
         → plainMake L (book head is) (callAppend i spare) ≡ plainOutcome L own (some (usedOf ++ spare)) (book head is) (appendPlain L head is i spare)
     unfolding plainMake
-    plain-append i spare = rw (view-is L head is S)
+    plain-append i spare = rw (snapshot-is L head is S)
 
     both-refuse : (i : L .Item) (spare : List ℕ) (c j : ℕ)
         → appendRes L (S .contents .zone) own i (usedOf ++ spare) ≡ refused c j → appendPlain L head is i spare ≡ refused c j → Agrees (book head is) (callAppend i spare)
     unfolding append plainEvent
-    both-refuse i spare c j a b = rw (call-append i spare, plain-append i spare, a, b, view-is L head is S, take-at usedOf spare _ refl) (refl, S)
+    both-refuse i spare c j a b = rw (call-append i spare, plain-append i spare, a, b, snapshot-is L head is S, take-at usedOf spare _ refl) (refl, S)
 
     -- the plain book with an item more
     unfoldable pub more : (i : L .Item) (e : Written (L .State)) → L .step (S .contents .zone) (length (S .contents .entries)) (lastState (S .contents .start) (S .contents .entries)) i ≡ ok e
@@ -87,14 +87,14 @@ module _ (L : Interface) (W : Laws L) where
     both-accept i spare e st lt a b =
         let es : Entries L = S .contents .entries in
         let S′ : WellFormed L head (is ++ (i ∷ [])) = more i e st lt in
-        let v : Values (L .State) = record { state = e .after; count = length es + 1; used = length usedOf + length (e .bytes) } in
-        let w : View (L .State) = record { bytes = usedOf ++ e .bytes; values = v } in
+        let v : BookState (L .State) = record { state = e .after; count = length es + 1; used = length usedOf + length (e .bytes) } in
+        let w : Snapshot (L .State) = record { bytes = usedOf ++ e .bytes; values = v } in
         let l : length (usedOf ++ e .bytes) ≡ length usedOf + length (e .bytes) = length-append usedOf (e .bytes) in
         let bs : usedBytes L head (S′ .contents) ≡ usedOf ++ e .bytes =
         ap (λ x. head ++ x) (entryBytes-append es (entry L i e ∷ []) ∙ ap (λ x. entryBytes es ++ x) (append-nil (e .bytes)))
         ∙ sym (append-assoc head (entryBytes es) (e .bytes)) in
-        let q : view L (book head (is ++ (i ∷ []))) ≡ some w =
-        view-is L head (is ++ (i ∷ [])) S′
+        let q : snapshot L (book head (is ++ (i ∷ []))) ≡ some w =
+        snapshot-is L head (is ++ (i ∷ [])) S′
         ∙ (λ t. some (record {
           bytes = bs t;
           values = record { state = lastState-append (S .contents .start) es (entry L i e ∷ []) t; count = length-append es (entry L i e ∷ []) t; used = (ap length bs ∙ l) t };
@@ -188,9 +188,9 @@ module _ (L : Interface) (W : Laws L) where
     cut-agrees at = go (leb (length head) at && leb at (length usedOf)) refl
       where
         go : (b : Bool) → (leb (length head) at && leb at (length usedOf)) ≡ b → Agrees (book head is) (callCut at)
-        go false t = rw (view-is L head is S, head-on L W head is S (entryBytes (S .contents .entries)), t) (rw (view-is L head is S) refl, S)
+        go false t = rw (snapshot-is L head is S, head-on L W head is S (entryBytes (S .contents .entries)), t) (rw (snapshot-is L head is S) refl, S)
         go true t =
             let lo = leb-true (length head) at (and-true (leb (length head) at) (leb at (length usedOf)) t .0) in
             let a = takeUp-agrees L W (book head is) S own (take at usedOf) in
-            rw (view-is L head is S, head-on L W head is S (entryBytes (S .contents .entries)), t, cut-take-up at lo)
-            (ap (λ x. afterTakeUp L x (take at usedOf) (takeUp L own (take at usedOf))) (sym (view-is L head is S)) ∙ a .0, a .1)
+            rw (snapshot-is L head is S, head-on L W head is S (entryBytes (S .contents .entries)), t, cut-take-up at lo)
+            (ap (λ x. afterTakeUp L x (take at usedOf) (takeUp L own (take at usedOf))) (sym (snapshot-is L head is S)) ∙ a .0, a .1)

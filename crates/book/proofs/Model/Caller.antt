@@ -9,7 +9,7 @@ use Rattle.zone.specs.Promise.{Result, ok, refused}
 use Rattle.zone.specs.Format.Head.{ReadHead}
 use Rattle.book.specs.Model.Interface.{Interface}
 use Rattle.book.specs.Model.Calls.{begin, append, takeUp}
-use Rattle.book.specs.Model.Plain.{View}
+use Rattle.book.specs.Model.Plain.{Snapshot}
 use Rattle.book.specs.Model.Run.{Call, callBegin, callAppend, callTakeUp, callCut, Calls, Event}
 use Rattle.book.specs.Model.Session.{HeldBook, afterBegin, afterTakeUp, afterAppend}
 
@@ -17,11 +17,11 @@ module _ (L : Interface) where
   abbrev pub notMade : HeldBook L → Event (L .State)
   notMade h = record { answer = none; buffer = none; held = h }
 
-  abbrev pub makeAppend : View (L .State) → L .Item → (spare : List ℕ) → Result (ReadHead (L .Zone)) → Event (L .State)
+  abbrev pub makeAppend : Snapshot (L .State) → L .Item → (spare : List ℕ) → Result (ReadHead (L .Zone)) → Event (L .State)
   makeAppend v i spare (ok h) = afterAppend L (append L (h .zone) (v .values) i (v .bytes ++ spare))
   makeAppend v i spare (refused c j) = notMade (some v)
 
-  abbrev pub makeCut : View (L .State) → (at : ℕ) → Result (ReadHead (L .Zone)) → Event (L .State)
+  abbrev pub makeCut : Snapshot (L .State) → (at : ℕ) → Result (ReadHead (L .Zone)) → Event (L .State)
   makeCut v at (ok h) =
       cond
       (leb (h .length) at && leb at (v .values .used))

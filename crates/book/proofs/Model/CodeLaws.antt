@@ -9,10 +9,10 @@ use Rattle.book.specs.Model.Session.{CodeTypes}
 
 -- an answer that a call gives
 pub data AnswerOfCall (L : Interface) : Book.Answer (L .State) → Type 0 where
-  ofBegin : (head : List ℕ) (g : Book.Values (L .State)) (buf : List ℕ) → AnswerOfCall L (Book.begin L head g buf .answer)
-  ofAppend : (z : L .Zone) (g : Book.Values (L .State)) (i : L .Item) (buf : List ℕ) → AnswerOfCall L (Book.append L z g i buf .answer)
-  ofTakeUp : (g : Book.Values (L .State)) (bytes : List ℕ) → AnswerOfCall L (Book.takeUp L g bytes)
+  ofBegin : (head : List ℕ) (g : Book.BookState (L .State)) (buf : List ℕ) → AnswerOfCall L (Book.begin L head g buf .answer)
+  ofAppend : (z : L .Zone) (g : Book.BookState (L .State)) (i : L .Item) (buf : List ℕ) → AnswerOfCall L (Book.append L z g i buf .answer)
+  ofTakeUp : (g : Book.BookState (L .State)) (bytes : List ℕ) → AnswerOfCall L (Book.takeUp L g bytes)
 
 pub record CodeLaws (L : Interface) (T : CodeTypes L) : Type 0 where
-  pub given-back : (v : Book.Values (L .State)) → (w : T .Values) × (T .givenOf w ≡ v)
+  pub given-back : (v : Book.BookState (L .State)) → (w : T .BookState) × (T .givenOf w ≡ v)
   pub answer-back : (a : Book.Answer (L .State)) → AnswerOfCall L a → T .answerOf (T .replyIn a) ≡ a

@@ -17,8 +17,8 @@ use Rattle.zone.specs.Format.Head.{ReadHead}
 use Rattle.book.specs.Model.Bytes.{firstFrom}
 use Rattle.book.specs.Model.Interface.{Interface, Written}
 use Rattle.book.proofs.Model.InterfaceLaws.{Laws}
-use Rattle.book.specs.Model.Calls.{Values, Answer, accepted, refusedWith, beginRes, begin, appendRes, append, wholeEntriesUpTo, wholeEntries, checkEntries, takeUpRes, takeUp}
-use Rattle.book.specs.Model.Plain.{empty, entriesOf, contentsOf, view, beginPlain, appendPlain, itemsEndingBy, cutPlain}
+use Rattle.book.specs.Model.Calls.{BookState, Answer, accepted, refusedWith, beginRes, begin, appendRes, append, wholeEntriesUpTo, wholeEntries, checkEntries, takeUpRes, takeUp}
+use Rattle.book.specs.Model.Plain.{empty, entriesOf, contentsOf, snapshot, beginPlain, appendPlain, itemsEndingBy, cutPlain}
 use Rattle.book.specs.Model.PlainTakeUp.{restAt, entryAt, numberOfEntries, itemsBefore, stepAt, falseAt, firstInvalid, testEntries, takeUpPlain}
 use Rattle.book.specs.Model.Run.{callBegin, callAppend, callTakeUp, callCut, Calls, Event, plainMake, plainEvent, plainRun}
 use Rattle.book.proofs.Model.Caller.{make, run}
@@ -113,10 +113,10 @@ example-laws =
 
 -- ---- a list of calls
 
-abbrev values : ℕ → ℕ → ℕ → Values ℕ
+abbrev values : ℕ → ℕ → ℕ → BookState ℕ
 values s k u = record { state = s; count = k; used = u }
 
-abbrev given : Values ℕ
+abbrev given : BookState ℕ
 given = values 77 5 9
 
 calls : Calls example
@@ -153,12 +153,12 @@ calls =
     ∷ callBegin (1 ∷ 4 ∷ []) given (9 ∷ 9 ∷ [])
     ∷ []
 
-abbrev not-made : Option (List ℕ × Values ℕ) → Event ℕ
+abbrev not-made : Option (List ℕ × BookState ℕ) → Event ℕ
 not-made none = record { answer = none; buffer = none; held = none }
 not-made (some h) = record { answer = none; buffer = none; held = some (record { bytes = h .0; values = h .1 }) }
 
 -- answer, buffer, used bytes and values held
-abbrev event : Answer ℕ → Option (List ℕ) → List ℕ → Values ℕ → Event ℕ
+abbrev event : Answer ℕ → Option (List ℕ) → List ℕ → BookState ℕ → Event ℕ
 event a buf bs v = record { answer = some a; buffer = buf; held = some (record { bytes = bs; values = v }) }
 
 abbrev one : List ℕ
@@ -219,5 +219,5 @@ unfolding run make begin beginRes append appendRes takeUp takeUpRes checkEntries
 calls-run = refl
 
 calls-plain : plainRun example empty calls ≡ events
-unfolding plainRun plainMake plainEvent view contentsOf entriesOf beginPlain appendPlain itemsEndingBy cutPlain takeUpPlain testEntries firstInvalid falseAt stepAt itemsBefore numberOfEntries entryAt restAt firstFrom headOf step appendStep calls events
+unfolding plainRun plainMake plainEvent snapshot contentsOf entriesOf beginPlain appendPlain itemsEndingBy cutPlain takeUpPlain testEntries firstInvalid falseAt stepAt itemsBefore numberOfEntries entryAt restAt firstFrom headOf step appendStep calls events
 calls-plain = refl

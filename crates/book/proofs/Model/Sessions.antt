@@ -12,11 +12,11 @@ use Rattle.zone.specs.Format.Head.{ReadHead}
 use Rattle.zone.proofs.Promise.{and-true}
 use Rattle.book.specs.Model.Interface.{Interface}
 use Rattle.book.specs.Model.Calls as Book
-use Rattle.book.specs.Model.Plain.{Plain, empty, book, View, view, WellFormed}
+use Rattle.book.specs.Model.Plain.{Plain, empty, book, Snapshot, snapshot, WellFormed}
 use Rattle.book.proofs.Model.Formed.{wellFormed}
 use Rattle.book.specs.Model.Run.{Call, callBegin, callAppend, callTakeUp, callCut, Calls, Event, plainMake, plainEvent, plainRun}
-use Rattle.book.specs.Model.Session.{CodeTypes, Meets, HeldBook, afterBegin, afterTakeUp, afterAppend, returned, Made, begins, takesUp, appends, cuts, Session, ends, calls}
-use Rattle.book.specs.Model.Claims.{Demand3, AllMade, SessionFrom}
+use Rattle.book.specs.Model.Session.{CodeTypes, CallSpec, HeldBook, afterBegin, afterTakeUp, afterAppend, returned, Made, begins, takesUp, appends, cuts, Session, ends, calls}
+use Rattle.book.specs.Model.Claims.{Demand3, Admissible, SessionFrom}
 use Rattle.book.proofs.Model.InterfaceLaws.{Laws}
 use Rattle.book.proofs.Model.CodeLaws.{AnswerOfCall, ofBegin, ofAppend, ofTakeUp, CodeLaws}
 use Rattle.book.proofs.Model.Caller.{notMade, makeAppend, makeCut, make}
@@ -28,7 +28,7 @@ module _ (L : Interface) (T : CodeTypes L) (C : CodeLaws L T) where
   stands : (r : T .Reply) (a : Book.Answer (L .State)) → AnswerOfCall L a → r ≡ T .replyIn a → T .answerOf r ≡ a
   stands r a p e = ap (T .answerOf) e ∙ C .answer-back a p
 
-  returned-is : (r : T .Reply) (out : List ℕ) (d : Book.Outcome (L .State)) → AnswerOfCall L (d .answer) → Meets L T r out d → returned L T r out ≡ d
+  returned-is : (r : T .Reply) (out : List ℕ) (d : Book.Outcome (L .State)) → AnswerOfCall L (d .answer) → CallSpec L T r out d → returned L T r out ≡ d
   returned-is r out d p m = λ t. record { answer = stands r (d .answer) p (m .reply) t; buffer = m .bytes t }
 
   -- ---- a call that was made has the event of the definitions
@@ -63,10 +63,10 @@ module _ (L : Interface) (T : CodeTypes L) (C : CodeLaws L T) where
   not-made h c x = none-not-some (x .0) (x .1)
 
   -- the reply for an answer
-  meets : (d : Book.Outcome (L .State)) → Meets L T (T .replyIn (d .answer)) (d .buffer) d
+  meets : (d : Book.Outcome (L .State)) → CallSpec L T (T .replyIn (d .answer)) (d .buffer) d
   meets d = record { reply = refl; bytes = refl }
 
-  begin-made : (h : HeldBook L) (head : List ℕ) (g : Book.Values (L .State)) (buf : List ℕ)
+  begin-made : (h : HeldBook L) (head : List ℕ) (g : Book.BookState (L .State)) (buf : List ℕ)
       → Made L T h (callBegin head g buf) (afterBegin L h (Book.begin L head g buf))
   begin-made h head g buf =
       let w = C .given-back g in
@@ -75,7 +75,7 @@ module _ (L : Interface) (T : CodeTypes L) (C : CodeLaws L T) where
       (subst (λ x. Made L T h (callBegin head (T .givenOf (w .0)) buf) (afterBegin L h x))
       (returned-is _ _ d (ofBegin head (T .givenOf (w .0)) buf) (meets d)) (begins h head buf (w .0) _ _ (meets d)))
 
-  take-up-made : (h : HeldBook L) (g : Book.Values (L .State)) (bytes : List ℕ)
+  take-up-made : (h : HeldBook L) (g : Book.BookState (L .State)) (bytes : List ℕ)
       → Made L T h (callTakeUp g bytes) (afterTakeUp L h bytes (Book.takeUp L g bytes))
   take-up-made h g bytes =
       let w = C .given-back g in
@@ -83,7 +83,7 @@ module _ (L : Interface) (T : CodeTypes L) (C : CodeLaws L T) where
       (subst (λ x. Made L T h (callTakeUp (T .givenOf (w .0)) bytes) (afterTakeUp L h bytes x))
       (C .answer-back _ (ofTakeUp (T .givenOf (w .0)) bytes)) (takesUp h bytes (w .0) _ refl))
 
-  append-made : (v : View (L .State)) (i : L .Item) (spare : List ℕ) (x : Result (ReadHead (L .Zone))) → L .headOf (v .bytes) ≡ x
+  append-made : (v : Snapshot (L .State)) (i : L .Item) (spare : List ℕ) (x : Result (ReadHead (L .Zone))) → L .headOf (v .bytes) ≡ x
       → MayBe (some v) (callAppend i spare) (makeAppend L v i spare x)
   append-made v i spare (refused c j) e = not-made (some v) (callAppend i spare)
   append-made v i spare (ok h) e =
@@ -94,7 +94,7 @@ module _ (L : Interface) (T : CodeTypes L) (C : CodeLaws L T) where
       (returned-is _ _ d (ofAppend (h .zone) (T .givenOf (w .0)) i (v .bytes ++ spare)) (meets d) ∙ ap (λ x. Book.append L (h .zone) x i (v .bytes ++ spare)) (w .1))
       (appends v h i spare (w .0) _ _ e (w .1) (meets d))
 
-  module _ (v : View (L .State)) (at : ℕ) where
+  module _ (v : Snapshot (L .State)) (at : ℕ) where
     abbrev bytes : List ℕ
     bytes = take at (v .bytes)
 
@@ -125,8 +125,8 @@ module _ (L : Interface) (T : CodeTypes L) (C : CodeLaws L T) where
   -- ---- the whole list
 
   module _ (W : Laws L) where
-    only : {h : HeldBook L} {cs : Calls L} {es : List (Event (L .State))} → Session L T h cs es → (p : Plain (L .Item)) → wellFormed L p → h ≡ view L p
-        → AllMade L (plainRun L p cs) × (es ≡ plainRun L p cs)
+    only : {h : HeldBook L} {cs : Calls L} {es : List (Event (L .State))} → Session L T h cs es → (p : Plain (L .Item)) → wellFormed L p → h ≡ snapshot L p
+        → Admissible L (plainRun L p cs) × (es ≡ plainRun L p cs)
     unfolding plainRun plainEvent
     only (ends h) p pp q = (tt, refl)
     only (calls h c e cs es m rest) p pp q =
@@ -136,18 +136,18 @@ module _ (L : Interface) (T : CodeTypes L) (C : CodeLaws L T) where
         let x = has-answer m in
         (((x .0, sym (ap (λ y. y .answer) is) ∙ x .1), r .0), (λ t. is t ∷ r .1 t))
 
-    exists : (p : Plain (L .Item)) → wellFormed L p → (cs : Calls L) → AllMade L (plainRun L p cs) → Session L T (view L p) cs (plainRun L p cs)
+    exists : (p : Plain (L .Item)) → wellFormed L p → (cs : Calls L) → Admissible L (plainRun L p cs) → Session L T (snapshot L p) cs (plainRun L p cs)
     unfolding plainRun plainEvent
-    exists p pp [] m = ends (view L p)
+    exists p pp [] m = ends (snapshot L p)
     exists p pp (c ∷ cs) m =
         let a = agrees L W p pp c in
-        calls (view L p) c (plainEvent L (plainMake L p c)) cs _
-        (subst (Made L T (view L p) c) (a .0) (may-be (view L p) c (m .0 .0, ap (λ x. x .answer) (a .0) ∙ m .0 .1)))
+        calls (snapshot L p) c (plainEvent L (plainMake L p c)) cs _
+        (subst (Made L T (snapshot L p) c) (a .0) (may-be (snapshot L p) c (m .0 .0, ap (λ x. x .answer) (a .0) ∙ m .0 .1)))
         (exists (plainMake L p c .next) (a .1) cs (m .1))
 
     session-of : (p : Plain (L .Item)) → wellFormed L p → SessionFrom L T p
     session-of p pp cs es =
-        (λ s. only s p pp refl, λ x. subst (Session L T (view L p) cs) (sym (x .1)) (exists p pp cs (x .0)))
+        (λ s. only s p pp refl, λ x. subst (Session L T (snapshot L p) cs) (sym (x .1)) (exists p pp cs (x .0)))
 
     pub session-exactly : SessionFrom L T empty
     session-exactly = session-of empty tt
@@ -156,5 +156,5 @@ module _ (L : Interface) (T : CodeTypes L) (C : CodeLaws L T) where
     session-from head is S = session-of (book head is) S
 
     pub demand-3 : Demand3 L T
-    unfolding view
+    unfolding snapshot
     demand-3 cs es s = session-exactly cs es .0 s .1

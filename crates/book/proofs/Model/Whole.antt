@@ -3,7 +3,7 @@ use mathlib.Core.Path.{refl, subst}
 use mathlib.Core.List.{[], _∷_}
 use Rattle.book.specs.Model.Interface.{Interface}
 use Rattle.book.proofs.Model.InterfaceLaws.{Laws}
-use Rattle.book.specs.Model.Plain.{Plain, empty, book, view}
+use Rattle.book.specs.Model.Plain.{Plain, empty, book, snapshot}
 use Rattle.book.proofs.Model.Formed.{wellFormed}
 use Rattle.book.specs.Model.Run.{Call, callBegin, callAppend, callTakeUp, callCut, Calls, plainMake, plainEvent, plainAfter}
 use Rattle.book.proofs.Model.Caller.{make}
@@ -13,7 +13,7 @@ use Rattle.book.proofs.Model.AppendCut.{Agrees, append-agrees, cut-agre
 
 module _ (L : Interface) (W : Laws L) where
   pub agrees : (p : Plain (L .Item)) → wellFormed L p → (c : Call (L .State) (L .Item)) → Agrees L W p c
-  unfolding make plainMake plainEvent view
+  unfolding make plainMake plainEvent snapshot
   agrees p pp (callBegin head g buf) = begin-agrees L W p pp g head buf
   agrees p pp (callTakeUp g bytes) = takeUp-agrees L W p pp g bytes
   agrees empty pp (callAppend i spare) = (refl, pp)

@@ -2,7 +2,7 @@
 use Rattle.zone.specs.Promise.{Result, ok, refused}
 use Rattle.zone.specs.declared.record.zone_record.Verdict.the-variants.{Accepted, Refused}
 use Rattle.zone.specs.declared.calls.state.State.{State}
-use Rattle.book.specs.declared.book.CheckedEntry.{CheckedEntry}
+use Rattle.book.specs.declared.entries.CheckedEntry.{CheckedEntry}
 
 -- the state after the entry, or 18 and the state before it
 abbrev pub checkedEntry : (before : State) → Result State → CheckedEntry

@@ -1,21 +1,22 @@
 -- Where the parts of an entry are written, and how long one can be: the entry's own bytes (specs/Entry.antt) have these lengths.
 use Prim.Native.Nat.{ℕ, _+_, _*_}
-use Rattle.zone.specs.Format.Layout.{lengthSize}
+use Rattle.zone.specs.Format.Layout.{floatSize, lengthSize, elementHourSize}
+use Rattle.book.specs.Layout.{fixedLength}
 
 -- trigger byte and trigger rate
 abbrev pub triggerSize : ℕ
-triggerSize = 9
+triggerSize = 1 + floatSize
 
 -- heating, cooling and rate, then the trigger
 abbrev pub ratesSize : ℕ
-ratesSize = 24
+ratesSize = floatSize * 3
 
 abbrev pub demandSize : ℕ
 demandSize = ratesSize + triggerSize
 
 -- 24 elements of five nodes, and the air
 abbrev pub longestFollowing : ℕ
-longestFollowing = 147 + 41 * 24 + 8 * 121
+longestFollowing = fixedLength + elementHourSize * 24 + floatSize * 121
 
 abbrev pub longestEntry : ℕ
 longestEntry = lengthSize + longestFollowing

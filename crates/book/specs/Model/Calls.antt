@@ -10,17 +10,17 @@ use Rattle.book.specs.Model.Bytes.{fromOption, equalBytes}
 use Rattle.book.specs.Model.Interface.{Interface, Written}
 
 -- what a call is given and hands back: "the temperatures, count and used length"
-pub record Values (State : Type 0) : Type 0 where
+pub record BookState (State : Type 0) : Type 0 where
   pub state : State
   pub count : ℕ
   pub used : ℕ
 
 -- "Answers are acceptance, or number and index, with the values handed back."
 pub data Answer (State : Type 0) : Type 0 where
-  accepted : Values State → Answer State
-  refusedWith : (number index : ℕ) → Values State → Answer State
+  accepted : BookState State → Answer State
+  refusedWith : (number index : ℕ) → BookState State → Answer State
 
-abbrev pub handedBack : {State : Type 0} → Answer State → Values State
+abbrev pub handedBack : {State : Type 0} → Answer State → BookState State
 handedBack (accepted v) = v
 handedBack (refusedWith c j v) = v
 
@@ -31,29 +31,29 @@ pub record Outcome (State : Type 0) : Type 0 where
 
 module _ {State : Type 0} where
   -- "A refusal gives its number, plus an index .., and hands back unchanged the temperatures, count and used length that it was given"
-  abbrev pub answerFrom : (given : Values State) → Result (Values State) → Answer State
+  abbrev pub answerFrom : (given : BookState State) → Result (BookState State) → Answer State
   answerFrom g (ok v) = accepted v
   answerFrom g (refused c j) = refusedWith c j g
 
   -- and it changes no byte of the buffer
-  abbrev pub outcomeOf : (given : Values State) → (buf : List ℕ) → Result (Values State × List ℕ) → Outcome State
+  abbrev pub outcomeOf : (given : BookState State) → (buf : List ℕ) → Result (BookState State × List ℕ) → Outcome State
   outcomeOf g buf (ok r) = record { answer = accepted (r .0); buffer = r .1 }
   outcomeOf g buf (refused c j) = record { answer = refusedWith c j g; buffer = buf }
 
 module _ (L : Interface) where
   -- "Begin book: head, start-up, then buffer too short, 16."
-  unfoldable pub beginRes : (head buf : List ℕ) → Result (Values (L .State) × List ℕ)
+  unfoldable pub beginRes : (head buf : List ℕ) → Result (BookState (L .State) × List ℕ)
   beginRes head buf =
       bind (L .headOf head) λ h.
       bind (L .startUp (h .zone)) λ s.
       bind (require (leb (h .length) (length buf)) bufferShort) λ _.
       ok (record { state = s; count = 0; used = h .length }, take (h .length) head ++ drop (h .length) buf)
 
-  unfoldable pub begin : (head : List ℕ) → (given : Values (L .State)) → (buf : List ℕ) → Outcome (L .State)
+  unfoldable pub begin : (head : List ℕ) → (given : BookState (L .State)) → (buf : List ℕ) → Outcome (L .State)
   begin head g buf = outcomeOf g buf (beginRes head buf)
 
   -- "Append: 8,784 entries held, 17; the hour step's; buffer, 16." The zone is tested first.
-  unfoldable pub appendRes : L .Zone → (given : Values (L .State)) → L .Item → (buf : List ℕ) → Result (Values (L .State) × List ℕ)
+  unfoldable pub appendRes : L .Zone → (given : BookState (L .State)) → L .Item → (buf : List ℕ) → Result (BookState (L .State) × List ℕ)
   appendRes z g i buf =
       bind (L .givenTest z (g .state)) λ _.
       bind (require (ltb (g .count) (L .limit)) bookFull) λ _.
@@ -64,7 +64,7 @@ module _ (L : Interface) where
         take (g .used) buf ++ e .bytes ++ drop (g .used + length (e .bytes)) buf,
       )
 
-  unfoldable pub append : L .Zone → (given : Values (L .State)) → L .Item → (buf : List ℕ) → Outcome (L .State)
+  unfoldable pub append : L .Zone → (given : BookState (L .State)) → L .Item → (buf : List ℕ) → Outcome (L .State)
   append z g i buf = outcomeOf g buf (appendRes z g i buf)
 
   -- the whole entries with which bytes begin, one behind the other, at most so many
@@ -82,7 +82,7 @@ module _ (L : Interface) where
   checkEntry k c (refused n j) = refused falseEntry k
 
   -- "per whole entry, a 8,785th 17, a false one 18": from index k, state s and used length u on
-  unfoldable pub checkEntries : L .Zone → (k : ℕ) → L .State → (u : ℕ) → List (List ℕ) → Result (Values (L .State))
+  unfoldable pub checkEntries : L .Zone → (k : ℕ) → L .State → (u : ℕ) → List (List ℕ) → Result (BookState (L .State))
   checkEntries z k s u [] = ok (record { state = s; count = k; used = u })
   checkEntries z k s u (c ∷ cs) =
       bind (require (ltb k (L .limit)) bookFull) λ _.
@@ -90,12 +90,12 @@ module _ (L : Interface) where
       checkEntries z (k + 1) t (u + length c) cs
 
   -- "Take up: head; start-up; then per whole entry .."
-  unfoldable pub takeUpRes : List ℕ → Result (Values (L .State))
+  unfoldable pub takeUpRes : List ℕ → Result (BookState (L .State))
   takeUpRes bytes =
       bind (L .headOf bytes) λ h.
       bind (L .startUp (h .zone)) λ s.
       checkEntries (h .zone) 0 s (h .length) (wholeEntries (h .zone) (drop (h .length) bytes))
 
   -- take-up borrows its bytes as `&[u8]`: it can change none
-  unfoldable pub takeUp : (given : Values (L .State)) → (bytes : List ℕ) → Answer (L .State)
+  unfoldable pub takeUp : (given : BookState (L .State)) → (bytes : List ℕ) → Answer (L .State)
   takeUp g bytes = answerFrom g (takeUpRes bytes)

@@ -10,7 +10,7 @@ use Rattle.zone.specs.Promise.{Result, ok, refused, bind, require}
 use Rattle.book.specs.Numbers.{bufferShort, bookFull}
 use Rattle.book.specs.Model.Bytes.{concat}
 use Rattle.book.specs.Model.Interface.{Interface}
-use Rattle.book.specs.Model.Calls.{Values}
+use Rattle.book.specs.Model.Calls.{BookState}
 
 -- "It holds a head's bytes and hours"
 pub data Plain (Item : Type 0) : Type 0 where
@@ -18,9 +18,9 @@ pub data Plain (Item : Type 0) : Type 0 where
   book : (head : List ℕ) → (items : List Item) → Plain Item
 
 -- what is seen of a book: its used bytes, and the values that belong to it
-pub record View (State : Type 0) : Type 0 where
+pub record Snapshot (State : Type 0) : Type 0 where
   pub bytes : List ℕ
-  pub values : Values State
+  pub values : BookState State
 
 -- an item that a book holds, the bytes of its entry and the state after it
 pub record Entry (L : Interface) : Type 0 where
@@ -66,16 +66,16 @@ module _ (L : Interface) where
   usedBytes head c = head ++ entryBytes (c .entries)
 
   -- "its count, used length and temperatures are the number of these entries, the length of these bytes and the last node temperatures"
-  abbrev pub ownValues : (head : List ℕ) → Contents L → Values (L .State)
-  ownValues head c = record { state = lastState (c .start) (c .entries); count = length (c .entries); used = length (usedBytes head c) }
+  abbrev pub ownBookState : (head : List ℕ) → Contents L → BookState (L .State)
+  ownBookState head c = record { state = lastState (c .start) (c .entries); count = length (c .entries); used = length (usedBytes head c) }
 
-  abbrev pub viewOf : (head : List ℕ) → Result (Contents L) → Option (View (L .State))
-  viewOf head (ok c) = some (record { bytes = usedBytes head c; values = ownValues head c })
-  viewOf head (refused n j) = none
+  abbrev pub snapshotOf : (head : List ℕ) → Result (Contents L) → Option (Snapshot (L .State))
+  snapshotOf head (ok c) = some (record { bytes = usedBytes head c; values = ownBookState head c })
+  snapshotOf head (refused n j) = none
 
-  unfoldable pub view : Plain (L .Item) → Option (View (L .State))
-  view empty = none
-  view (book head is) = viewOf head (contentsOf head is)
+  unfoldable pub snapshot : Plain (L .Item) → Option (Snapshot (L .State))
+  snapshot empty = none
+  snapshot (book head is) = snapshotOf head (contentsOf head is)
 
   -- ---- what a begin, an append and a cut make of it, or the refusal
 
@@ -91,8 +91,8 @@ module _ (L : Interface) where
   unfoldable pub appendPlain : (head : List ℕ) (is : List (L .Item)) → L .Item → (spare : List ℕ) → Result (Plain (L .Item))
   appendPlain head is i spare =
       bind (contentsOf head is) λ c.
-      bind (require (ltb (ownValues head c .count) (L .limit)) bookFull) λ _.
-      bind (L .appendStep (c .zone) (ownValues head c .count) (ownValues head c .state) i) λ e.
+      bind (require (ltb (ownBookState head c .count) (L .limit)) bookFull) λ _.
+      bind (L .appendStep (c .zone) (ownBookState head c .count) (ownBookState head c .state) i) λ e.
       bind (require (leb (length (e .bytes)) (length spare)) bufferShort) λ _.
       ok (book head (is ++ (i ∷ [])))
 

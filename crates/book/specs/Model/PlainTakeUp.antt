@@ -39,13 +39,13 @@ module _ (L : Interface) (z : L .Zone) where
       bind (entriesOf L z 0 start (itemsBefore bs k)) λ es.
       L .step z k (lastState start es) (L .itemOf z (entryAt bs k))
 
-  abbrev pub givesOther : Result (Written (L .State)) → (entry : List ℕ) → Bool
-  givesOther (ok e) c = not (equalBytes (e .bytes) c)
-  givesOther (refused n j) c = true
+  abbrev pub refusesOrDiffers : Result (Written (L .State)) → (entry : List ℕ) → Bool
+  refusesOrDiffers (ok e) c = not (equalBytes (e .bytes) c)
+  refusesOrDiffers (refused n j) c = true
 
   -- "an entry is false if the hour step refuses its conditions there or gives other bytes"
   unfoldable pub falseAt : (start : L .State) → (bs : List ℕ) → (k : ℕ) → Bool
-  falseAt start bs k = givesOther (stepAt start bs k) (entryAt bs k)
+  falseAt start bs k = refusesOrDiffers (stepAt start bs k) (entryAt bs k)
 
   -- the first index of a whole entry that is 8,784 or whose entry is false; the number of whole entries where there is none
   unfoldable pub firstInvalid : (start : L .State) → (bs : List ℕ) → ℕ

@@ -8,27 +8,27 @@ use Rattle.zone.specs.Promise.{ok}
 use Rattle.zone.specs.Format.Head.{ReadHead}
 use Rattle.book.specs.Model.Interface.{Interface}
 use Rattle.book.specs.Model.Calls as Book
-use Rattle.book.specs.Model.Plain.{View}
+use Rattle.book.specs.Model.Plain.{Snapshot}
 use Rattle.book.specs.Model.Run.{Call, callBegin, callAppend, callTakeUp, callCut, Calls, Event}
 
 -- The types of the functions' values and replies, and what they stand for: the values; and "this paper's number and values for each" reply. The
 -- contracts say which reply an answer has.
 pub record CodeTypes (L : Interface) : Type 1 where
-  pub Values : Type 0
+  pub BookState : Type 0
   pub Reply : Type 0
-  pub givenOf : Values → Book.Values (L .State)
+  pub givenOf : BookState → Book.BookState (L .State)
   pub answerOf : Reply → Book.Answer (L .State)
   pub replyIn : Book.Answer (L .State) → Reply
 
 -- a reply and the whole lent buffer after the call, for what the call's definition says: the contracts of begin and append
-pub record Meets (L : Interface) (T : CodeTypes L) (r : T .Reply) (buffer : List ℕ) (d : Book.Outcome (L .State)) : Type 0 where
+pub record CallSpec (L : Interface) (T : CodeTypes L) (r : T .Reply) (buffer : List ℕ) (d : Book.Outcome (L .State)) : Type 0 where
   pub reply : r ≡ T .replyIn (d .answer)
   pub bytes : buffer ≡ d .buffer
 
 module _ (L : Interface) where
   -- the book that a caller holds, if any: "the used bytes as the last call on it left them", and the values that this call handed back
   abbrev pub HeldBook : Type 0
-  HeldBook = Option (View (L .State))
+  HeldBook = Option (Snapshot (L .State))
 
   -- a begin or a take-up, "accepted, replaces the book held"
   abbrev pub replaced : HeldBook → (bytes : List ℕ) → Book.Answer (L .State) → HeldBook
@@ -42,7 +42,7 @@ module _ (L : Interface) where
   afterTakeUp h bytes a = record { answer = some a; buffer = none; held = replaced h bytes a }
 
   -- what an append hands back belongs to the book held, accepted or refused
-  abbrev pub heldAfterAppend : Book.Outcome (L .State) → View (L .State)
+  abbrev pub heldAfterAppend : Book.Outcome (L .State) → Snapshot (L .State)
   heldAfterAppend d = record { bytes = take (Book.handedBack (d .answer) .used) (d .buffer); values = Book.handedBack (d .answer) }
 
   abbrev pub afterAppend : Book.Outcome (L .State) → Event (L .State)
@@ -57,19 +57,19 @@ module _ (L : Interface) (T : CodeTypes L) where
   -- call on a book is given the zone of its head, the used bytes as the last call on it left them, and the temperatures, count and used length that
   -- this call handed back; a cut book comes back by a take-up", of "the bytes before it".
   pub data Made : HeldBook L → Call (L .State) (L .Item) → Event (L .State) → Type 0 where
-    begins : (h : HeldBook L) (head buf : List ℕ) (g : T .Values) (r : T .Reply) (out : List ℕ)
-        → Meets L T r out (Book.begin L head (T .givenOf g) buf)
+    begins : (h : HeldBook L) (head buf : List ℕ) (g : T .BookState) (r : T .Reply) (out : List ℕ)
+        → CallSpec L T r out (Book.begin L head (T .givenOf g) buf)
         → Made h (callBegin head (T .givenOf g) buf) (afterBegin L h (returned r out))
-    takesUp : (h : HeldBook L) (bytes : List ℕ) (g : T .Values) (r : T .Reply)
+    takesUp : (h : HeldBook L) (bytes : List ℕ) (g : T .BookState) (r : T .Reply)
         → r ≡ T .replyIn (Book.takeUp L (T .givenOf g) bytes)
         → Made h (callTakeUp (T .givenOf g) bytes) (afterTakeUp L h bytes (T .answerOf r))
     -- the buffer has the used bytes, and any bytes behind them
-    appends : (v : View (L .State)) (h : ReadHead (L .Zone)) (i : L .Item) (spare : List ℕ) (g : T .Values) (r : T .Reply) (out : List ℕ)
+    appends : (v : Snapshot (L .State)) (h : ReadHead (L .Zone)) (i : L .Item) (spare : List ℕ) (g : T .BookState) (r : T .Reply) (out : List ℕ)
         → L .headOf (v .bytes) ≡ ok h → T .givenOf g ≡ v .values
-        → Meets L T r out (Book.append L (h .zone) (T .givenOf g) i (v .bytes ++ spare))
+        → CallSpec L T r out (Book.append L (h .zone) (T .givenOf g) i (v .bytes ++ spare))
         → Made (some v) (callAppend i spare) (afterAppend L (returned r out))
     -- "Cut at a byte from the head's end to the used length"
-    cuts : (v : View (L .State)) (h : ReadHead (L .Zone)) (at : ℕ) (g : T .Values) (r : T .Reply)
+    cuts : (v : Snapshot (L .State)) (h : ReadHead (L .Zone)) (at : ℕ) (g : T .BookState) (r : T .Reply)
         → L .headOf (v .bytes) ≡ ok h → h .length ≤ at → at ≤ v .values .used → T .givenOf g ≡ v .values
         → r ≡ T .replyIn (Book.takeUp L (T .givenOf g) (take at (v .bytes)))
         → Made (some v) (callCut at) (afterTakeUp L (some v) (take at (v .bytes)) (T .answerOf r))

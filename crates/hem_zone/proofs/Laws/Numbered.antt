@@ -1,7 +1,7 @@
 -- Every refusal of document 01 has a number from 1 to 18 and an index of at most 8,783: family by family.
 use Prim.Native.Nat.{ℕ, _≤_}
 use borrow.Author.Needs.{needs}
-use Rattle.zone.specs.Promise.{SolveRefusal, divisor, temperature}
+use Rattle.zone.specs.Promise.{SolveRefusal, solveDivisor, solveTemperature}
 use Rattle.zone.specs.Claims.HeadRefusals as Head
 use Rattle.zone.specs.Claims.Refusals as Zone
 use Rattle.book.specs.Refusals as Book
@@ -14,68 +14,68 @@ pub record Numbered (number index : ℕ) : Type 0 where
   pub few : index ≤ 8783
 
 pub solve-numbered : (n i : ℕ) → SolveRefusal n i → Numbered n i
-solve-numbered n i divisor = search needs
-solve-numbered n i temperature = search needs
+solve-numbered n i solveDivisor = search needs
+solve-numbered n i solveTemperature = search needs
 
 pub head-numbered : (n i : ℕ) → Head.HeadRefusal n i → Numbered n i
-head-numbered n i Head.headBytes = search needs
+head-numbered n i Head.headShort = search needs
 head-numbered n i Head.headLength = search needs
 head-numbered n i Head.headVersion = search needs
-head-numbered n i (Head.headCounts j h) = search needs
+head-numbered n i (Head.headStructure j h) = search needs
 head-numbered n i (Head.headValue j h) = search needs
 
 pub zone-numbered : (n i : ℕ) → Head.ZoneRefusal n i → Numbered n i
-zone-numbered n i (Head.zoneCounts j h) = search needs
+zone-numbered n i (Head.zoneStructure j h) = search needs
 zone-numbered n i (Head.zoneValue j h) = search needs
 
 pub conditions-numbered : (n i : ℕ) → Head.ConditionsRefusal n i → Numbered n i
 conditions-numbered n i Head.conditionsSize = search needs
-conditions-numbered n i Head.conditionsRates = search needs
+conditions-numbered n i Head.conditionsCode = search needs
 conditions-numbered n i (Head.conditionsValue j h) = search needs
 
 pub operative-numbered : (n i : ℕ) → Zone.OperativeRefusal n i → Numbered n i
 operative-numbered n i (Zone.operativeZone p) = zone-numbered n i p
-operative-numbered n i Zone.operativeState = search needs
+operative-numbered n i Zone.operativeStateInvalid = search needs
 
 pub hour-numbered : (n i : ℕ) → Zone.HourRefusal n i → Numbered n i
 hour-numbered n i (Zone.hourZone p) = zone-numbered n i p
-hour-numbered n i Zone.hourState = search needs
+hour-numbered n i Zone.hourStateInvalid = search needs
 hour-numbered n i (Zone.hourConditions p) = conditions-numbered n i p
-hour-numbered n i Zone.hourCooling = search needs
-hour-numbered n i Zone.hourVentilation = search needs
+hour-numbered n i Zone.hourCoolingBelowHeating = search needs
+hour-numbered n i Zone.hourVentilationBelowHeating = search needs
 hour-numbered n i (Zone.hourSolve p) = solve-numbered n i p
-hour-numbered n i Zone.hourClose = search needs
+hour-numbered n i Zone.hourNoEffect = search needs
 
 pub update-numbered : (n i : ℕ) → Zone.UpdateRefusal n i → Numbered n i
 update-numbered n i (Zone.updateZone p) = zone-numbered n i p
-update-numbered n i Zone.updateState = search needs
+update-numbered n i Zone.updateStateInvalid = search needs
 update-numbered n i (Zone.updateConditions p) = conditions-numbered n i p
-update-numbered n i Zone.updateValues = search needs
+update-numbered n i Zone.updateConditionsValue = search needs
 update-numbered n i (Zone.updateSolve p) = solve-numbered n i p
 
 pub start-up-numbered : (n i : ℕ) → Zone.StartUpRefusal n i → Numbered n i
 start-up-numbered n i (Zone.startUpZone p) = zone-numbered n i p
-start-up-numbered n i Zone.startUpVentilation = search needs
+start-up-numbered n i Zone.startUpVentilationBelowHeating = search needs
 start-up-numbered n i (Zone.startUpSolve p) = solve-numbered n i p
-start-up-numbered n i Zone.startUpClose = search needs
-start-up-numbered n i Zone.startUpLimit = search needs
+start-up-numbered n i Zone.startUpNoEffect = search needs
+start-up-numbered n i Zone.startUpNotSettled = search needs
 
 pub begin-numbered : (n i : ℕ) → Book.BeginRefusal n i → Numbered n i
 begin-numbered n i (Book.beginHead p) = head-numbered n i p
 begin-numbered n i (Book.beginStartUp p) = start-up-numbered n i p
-begin-numbered n i Book.beginBuffer = search needs
+begin-numbered n i Book.beginBufferShort = search needs
 
 pub append-numbered : (n i : ℕ) → Book.AppendRefusal n i → Numbered n i
 append-numbered n i (Book.appendZone p) = zone-numbered n i p
-append-numbered n i Book.appendHeld = search needs
+append-numbered n i Book.appendBookFull = search needs
 append-numbered n i (Book.appendHour p) = hour-numbered n i p
-append-numbered n i Book.appendBuffer = search needs
+append-numbered n i Book.appendBufferShort = search needs
 
 pub take-up-numbered : (n i : ℕ) → Book.TakeUpRefusal n i → Numbered n i
 take-up-numbered n i (Book.takeUpHead p) = head-numbered n i p
 take-up-numbered n i (Book.takeUpStartUp p) = start-up-numbered n i p
-take-up-numbered n i Book.takeUpMany = search needs
-take-up-numbered n i (Book.takeUpFalse entry h) = search needs
+take-up-numbered n i Book.takeUpBookFull = search needs
+take-up-numbered n i (Book.takeUpFalseEntry entry h) = search needs
 
 pub after-head-numbered : {P : ℕ → ℕ → Type 0} → ((n i : ℕ) → P n i → Numbered n i) → (n i : ℕ) → AfterHead P n i → Numbered n i
 after-head-numbered numbered n i (ofHead p) = head-numbered n i p

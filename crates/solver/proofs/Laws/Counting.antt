@@ -1,47 +1,47 @@
--- Counting loops against `each`, `eachDown` and `all` of specs/Each.antt. The invariant of a loop is that the turns that are left, from the
--- state now, give what all turns give from the state at the start. For `search (needs, each-turn)` and `search (needs, each-end)`.
+-- Counting loops against `repeat`, `repeatDown` and `all` of specs/Repeat.antt. The invariant of a loop is that the turns that are left, from the
+-- state now, give what all turns give from the state at the start. For `search (needs, repeat-turn)` and `search (needs, repeat-end)`.
 use mathlib.Core.Path.{_≡_, refl, sym, ap, _∙_}
 use mathlib.Core.Bool.{Bool, true, false, _&&_}
 use Prim.Native.Nat.{ℕ, suc, _+_, _-_, _≤_, _<_}
 use native.Mathlib.Numerals.{add-one}
 use native.Mathlib.Omega.{arith}
-use Rattle.solver.specs.Each.{eachOf, each, eachDown, allOf, all}
+use Rattle.solver.specs.Repeat.{repeatOf, repeat, repeatDown, allOf, all}
 
 module _ {A : Type 0} (f : ℕ → A → A) where
   -- the next turn is done
-  pub each-next : (i n : ℕ) (s : A) → i < n → each i n f s ≡ each (i + 1) n f (f i s)
-  unfolding eachOf
-  each-next i n s h =
+  pub repeat-next : (i n : ℕ) (s : A) → i < n → repeat i n f s ≡ repeat (i + 1) n f (f i s)
+  unfolding repeatOf
+  repeat-next i n s h =
       let e : n - i ≡ suc (n - (i + 1)) = omega arith in
       rw (e, add-one i)
 
   -- no turn is left
-  pub each-done : (i n : ℕ) (s : A) → n ≤ i → each i n f s ≡ s
-  unfolding eachOf
-  each-done i n s h =
+  pub repeat-done : (i n : ℕ) (s : A) → n ≤ i → repeat i n f s ≡ s
+  unfolding repeatOf
+  repeat-done i n s h =
       let e : n - i ≡ 0 = omega arith in
       rw e
 
-  pub down-next : (k : ℕ) (s : A) → 0 < k → eachDown k f s ≡ eachDown (k - 1) f (f (k - 1) s)
-  unfolding eachDown
+  pub down-next : (k : ℕ) (s : A) → 0 < k → repeatDown k f s ≡ repeatDown (k - 1) f (f (k - 1) s)
+  unfolding repeatDown
   down-next k s h =
       let e : k ≡ suc (k - 1) = omega arith in
-      ap (λ (n : ℕ). eachDown n f s) e
+      ap (λ (n : ℕ). repeatDown n f s) e
 
-  pub down-done : (k : ℕ) (s : A) → k ≤ 0 → eachDown k f s ≡ s
-  unfolding eachDown
+  pub down-done : (k : ℕ) (s : A) → k ≤ 0 → repeatDown k f s ≡ s
+  unfolding repeatDown
   down-done k s h =
       let e : k ≡ 0 = omega arith in
       rw e
 
 module _ {A : Type 0} where
   -- a turn keeps the invariant
-  pub each-turn : (f : ℕ → A → A) (i n : ℕ) (s s' w : A) → i < n → s' ≡ f i s → each i n f s ≡ w → each (i + 1) n f s' ≡ w
-  each-turn f i n s s' w h e inv = rw e (sym (each-next f i n s h) ∙ inv)
+  pub repeat-turn : (f : ℕ → A → A) (i n : ℕ) (s s' w : A) → i < n → s' ≡ f i s → repeat i n f s ≡ w → repeat (i + 1) n f s' ≡ w
+  repeat-turn f i n s s' w h e inv = rw e (sym (repeat-next f i n s h) ∙ inv)
 
   -- and the last state is the answer
-  pub each-end : (f : ℕ → A → A) (i n : ℕ) (s w : A) → n ≤ i → each i n f s ≡ w → s ≡ w
-  each-end f i n s w h inv = sym (each-done f i n s h) ∙ inv
+  pub repeat-end : (f : ℕ → A → A) (i n : ℕ) (s w : A) → n ≤ i → repeat i n f s ≡ w → s ≡ w
+  repeat-end f i n s w h inv = sym (repeat-done f i n s h) ∙ inv
 
 and-swap : (x y z : Bool) → (x && (y && z)) ≡ ((x && y) && z)
 and-swap true y z = refl

@@ -7,9 +7,9 @@ use mathlib.Core.List.{List}
 use lib.Ieee.{Float}
 use Rattle.solver.specs.declared.system.Matrix.{Matrix}
 use Rattle.solver.specs.Result.{Result, ok, refused, bind, requireAt}
-use Rattle.solver.specs.Refusals.{RefusesOnly, accepts, refuses, SolveRefusal, divisor, temperature}
-use Rattle.solver.specs.Numbers.{divisorNo, temperatureNo}
-use Rattle.solver.specs.FastSolver.{divisible, temperaturesOf, bounded, solve}
+use Rattle.solver.specs.Refusals.{RefusesOnly, accepts, refuses, SolveRefusal, solveDivisor, solveTemperature}
+use Rattle.solver.specs.Numbers.{divisor, temperature}
+use Rattle.solver.specs.FastSolver.{allDivisorsValid, temperaturesOf, temperaturesValid, solve}
 
 module _ {P : ℕ → ℕ → Type 0} {A : Type 0} where
   -- a sequence refuses as its parts do; the second starts from what the first accepted
@@ -50,6 +50,6 @@ test-refuses false number index f p q = refuses p
 pub solver-refuses : (a : Matrix) (b : List Float) → RefusesOnly SolveRefusal (solve a b)
 unfolding solve
 solver-refuses a b =
-    test-refuses (divisible a) divisorNo 0 _ divisor λ _.
-    test-refuses (bounded a (temperaturesOf a b)) temperatureNo 0 _ temperature λ _.
+    test-refuses (allDivisorsValid a) divisor 0 _ solveDivisor λ _.
+    test-refuses (temperaturesValid a (temperaturesOf a b)) temperature 0 _ solveTemperature λ _.
     accepts (temperaturesOf a b)

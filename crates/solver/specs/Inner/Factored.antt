@@ -1,6 +1,5 @@
--- `solve` in two parts, so that one matrix serves several right sides: `factor`, of the matrix alone, and `substitute`, of a right side. The
--- exported functions `factor`, `substitute` and `fast_solver` give a number beside the arrays that they were lent, and these are its words;
--- what the zone promises cites `solve` alone, to which solver-12, solver-13 and solver-ok (proofs/Laws/Solver.antt) and, for `fastSolver`, fast-solver-is tie them.
+-- `solve` in two parts, of a matrix alone and of a right side, with a number beside the temperatures as `fast_solver` gives it: fast-solver-is
+-- (proofs/Laws/Solver.antt) ties `fastSolver` to `solve`, which alone the zone's promise cites.
 use Prim.Native.Nat.{ℕ, zero, suc, _+_}
 use mathlib.Core.List.{List}
 use mathlib.Core.Bool.{Bool, cond, _&&_}
@@ -8,7 +7,7 @@ use lib.ListN.{replicate}
 use lib.Ieee.{Float}
 use Rattle.solver.specs.declared.system.Matrix.{Matrix}
 use Rattle.solver.specs.declared.system.Solved.{Solved}
-use Rattle.solver.specs.Numbers.{divisorNo, temperatureNo}
+use Rattle.solver.specs.Numbers.{divisor, temperature}
 use Rattle.solver.specs.Result.{Result, ok, refused}
 use Rattle.solver.specs.Lu.{luFactor, pivotsValid}
 use Rattle.solver.specs.Chain.{eliminateChains, divisorsValid, nodesWithin}
@@ -22,7 +21,7 @@ pub data Factored : Type 0 where
 unfoldable pub factorDense : ℕ → List Bool → List Float → List Float → List ℕ → Factored
 factorDense n twoNodes diag dense interchanges =
     let lu = luFactor (n + 1) (setInnerDiagonals n diag dense) interchanges in
-    factored (cond (divisorsValid n twoNodes diag && pivotsValid (n + 1) (lu .matrix)) 0 divisorNo) diag (lu .matrix) (lu .interchanges)
+    factored (cond (divisorsValid n twoNodes diag && pivotsValid (n + 1) (lu .matrix)) 0 divisor) diag (lu .matrix) (lu .interchanges)
 
 -- of a matrix. The list of exchanges is lent: its first n + 1 places are written, the others stay as they were
 unfoldable pub factor : Matrix → List ℕ → Factored
@@ -39,7 +38,7 @@ unfoldable pub substitute : Matrix → List ℕ → List Float → Solved
 substitute a interchanges b =
     let n = atMost24 (a .n) in
     let t = temperatures n (a .«two_nodes») (a .diag) (a .next) (a .prev) (a .dense) interchanges b in
-    solved (cond (nodesWithin n (a .«two_nodes») t) 0 temperatureNo) t
+    solved (cond (nodesWithin n (a .«two_nodes») t) 0 temperature) t
 
 -- a matrix with what `factor` gives in place of its diagonals and its dense part
 abbrev pub withFactors : Matrix → (diag dense : List Float) → Matrix

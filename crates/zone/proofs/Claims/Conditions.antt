@@ -11,7 +11,6 @@ use Rattle.solver.proofs.Laws.Result.{bind-ok, require-ok, ok-inj}
 use Rattle.zone.specs.Format.Conditions.{conditionsAt, conditionsTest, rateCodeValid, openBitsValid, conditionsOf}
 use Rattle.zone.specs.Format.Layout.{conditionsLength, firstElementHour}
 use Rattle.zone.specs.Record.Numbers.{conditionsSize, conditionsCode}
-use Rattle.zone.specs.Inner.Format.{treatmentsOf}
 use Rattle.zone.specs.Inner.Format.{testedAt, conditionsFor}
 use Rattle.solver.proofs.Laws.Tests.{and-true}
 use Rattle.zone.specs.declared.record.zone_record.Zone.{Zone}
@@ -43,4 +42,4 @@ accepted n ts bs c e =
 
 pub conditions-length : (z : Zone) (bs : List ℕ) (c : Conditions) → conditionsOf z bs ≡ ok c → length bs ≡ conditionsLength (z .count)
 unfolding conditionsOf conditionsFor testedAt
-conditions-length z bs c e = accepted (z .count) (map treatmentsOf (z .«building_elements»)) bs c e .size
+conditions-length z bs c e = accepted (z .count) (map (λ e. e .treatments) (z .«building_elements»)) bs c e .size

@@ -1,24 +1,24 @@
 -- Heads: an accepted one lies within the bytes and depends on its own bytes only; its zone passes `zoneTest`; its length is the paper's.
-use Prim.Native.Nat.{ℕ, suc, zero, _+_, _-_, _≤_}
-use mathlib.Core.Path.{_≡_, refl, sym, ap, subst, _∙_}
+use Prim.Native.Nat.{ℕ, suc, zero, _+_, _≤_}
+use mathlib.Core.Path.{_≡_, refl, sym, subst, _∙_}
 use mathlib.Core.List.{List, _++_}
 use native.Mathlib.Omega.{arith}
-use borrow.Author.Tests.{le-leb, leb-true}
+use borrow.Author.Tests.{leb-true}
 use lib.Dec.{leb}
-use lib.ListN.{take, length, getD, replicate, length-append}
+use lib.ListN.{take, length, length-append}
 use lib.Seq.{take-at, length-take-le}
 use Rattle.solver.specs.Result.{ok, bind, require}
 use Rattle.solver.proofs.Laws.Result.{ok-inj, bind-ok, require-ok}
 use Rattle.zone.specs.Record.Numbers.{structure}
 use Rattle.zone.specs.Format.Layout.{countIn, firstElement}
-use Rattle.zone.specs.Format.ElementLayout.{maxTreatments, kindOf, sizeAt, sizes}
-use Rattle.zone.specs.Format.Decode.{elementsAt, zoneAt, noElement}
-use Rattle.zone.specs.Check.ZoneTest.{countValid, elementTreatmentsValid, eachNeeds, valuesTest, countsTest, zoneTest}
+use Rattle.zone.specs.Format.ElementLayout.{sizeAt, sizes}
+use Rattle.zone.specs.Format.Decode.{elementsAt, zoneAt}
+use Rattle.zone.specs.Check.ZoneTest.{countValid, valuesTest, countsTest, zoneTest}
 use Rattle.zone.specs.Format.Head.{ReadHead, elementsEnd, structureOf, headOf}
 use Rattle.zone.specs.declared.record.zone_record.Zone.{Zone}
 use Rattle.solver.proofs.Laws.Tests.{and-true}
-use Rattle.zone.proofs.Laws.ElementLayout.{treatments-few}
-use Rattle.zone.proofs.Laws.Structure.{whole-of, Structured, structured}
+use Rattle.zone.proofs.Laws.Structure.{whole-of, structured}
+use Rattle.zone.proofs.Laws.StructuredHead.{zone-elements, counts-good}
 use Rattle.zone.proofs.Claims.HeadAlike.{head-alike}
 
 -- an accepted head
@@ -46,29 +46,6 @@ head-then bs cs h e =
     let len : length (take n bs) ≡ n = length-take-le n bs (head-within bs h e) in
     let ends = structured bs n (accepted bs h e .structure) .ends in
     sym (head-alike bs (take n bs ++ cs) n (sym (take-at (take n bs) cs n len)) (head-within bs h e) (simp length-append (omega arith)) ends) ∙ e
-
--- the elements of the zone are those that the bytes hold
-length-elements : (bs : List ℕ) (p n : ℕ) → length (elementsAt bs p n) ≡ n
-unfolding elementsAt
-length-elements bs p zero = refl
-length-elements bs p (suc n) = ap suc (length-elements bs (p + sizeAt bs p) n)
-
-pub zone-elements : (bs : List ℕ) → take (zoneAt bs .count) (zoneAt bs .«building_elements») ≡ elementsAt bs firstElement (countIn bs)
-unfolding zoneAt
-zone-elements bs = take-at (elementsAt bs firstElement (countIn bs)) (replicate (24 - countIn bs) noElement) (countIn bs) (length-elements bs firstElement (countIn bs))
-
-treatments-good : (bs : List ℕ) (end left i p q j : ℕ) → elementsEnd bs end left i p ≡ ok q → eachNeeds elementTreatmentsValid structure (elementsAt bs p left) j ≡ ok tt
-unfolding elementsAt eachNeeds
-treatments-good bs end zero i p q j e = refl
-treatments-good bs end (suc left) i p q j e =
-    let w = whole-of bs end left i p q e in
-    rw (le-leb (getD bs (p + 1) 0) (maxTreatments (kindOf (getD bs p 0))) (treatments-few (getD bs p 0) (getD bs (p + 1) 0) (w .kind-valid)))
-    (treatments-good bs end left (i + 1) (p + sizeAt bs p) q (j + 1) (w .on))
-
-counts-good : (bs : List ℕ) (n : ℕ) → Structured bs n → countsTest (zoneAt bs) ≡ ok tt
-unfolding countsTest zoneAt
-counts-good bs n q =
-    rw (le-leb 1 (countIn bs) (q .some), le-leb (countIn bs) 24 (q .few), zone-elements bs) (treatments-good bs n (countIn bs) 0 firstElement n 1 (q .elements))
 
 -- its zone passes the test of a zone given as a record
 pub head-tested : (bs : List ℕ) (h : ReadHead Zone) → headOf bs ≡ ok h → zoneTest (h .zone) ≡ ok tt

@@ -1,7 +1,7 @@
 -- An accepted head's zone determines its bytes.
 use Prim.Native.Nat.{ℕ, suc, zero, _+_, _*_, _-_, _≤_}
 use mathlib.Core.Path.{_≡_, refl, sym, ap, _∙_}
-use mathlib.Core.Bool.{Bool, true, _&&_}
+use mathlib.Core.Bool.{Bool, true, cond, _&&_}
 use mathlib.Core.List.{List, [], _∷_, _++_}
 use native.Mathlib.Omega.{arith}
 use borrow.Author.Tests.{leb-true}
@@ -13,25 +13,38 @@ use Rattle.solver.specs.F64.{zero64}
 use Rattle.solver.specs.Result.{ok, requireAt}
 use Rattle.solver.proofs.Laws.Result.{bind-ok, require-ok}
 use Rattle.zone.specs.Record.Numbers.{zoneValue}
-use Rattle.zone.specs.Format.Layout.{basisIn, countIn, firstElement, elementArrays, elementHourSize}
-use Rattle.zone.specs.Format.Bytes.{Bytes, numAt, floatAt, bytesOf}
-use Rattle.zone.specs.Format.ElementLayout.{hCount, kindOf, kindAt, treatmentsAt, maxTreatments, sizeAt, sizes}
+use Rattle.zone.specs.Format.Layout.{lengthSize, versionAt, basisAt, countAt, limitAt, limitSize, zoneFloats, lengthField, basisIn, countIn, limitIn, firstElement, elementFloats, elementArrays, elementHourSize}
+use Rattle.zone.specs.Format.Bytes.{Bytes, floatAt, bytesOf}
+use Rattle.zone.specs.Format.ElementLayout.{hCount, kindOf, kindAt, treatmentsAt, maxTreatments, elementSize, sizeAt, sizes}
 use Rattle.zone.specs.Format.Decode.{floatsAt, elementHourAt, elementAt, elementsAt, basisOf, zoneAt}
 use Rattle.zone.specs.Check.Ranges.{areaRange, pitchRange, coefficientRange, hPliRange, kPliRange, fractionRange, skyRange, deltaRRange, temperatureRange, heatingSetpointRange, setpointRange, limitRange, allIn, openWithin}
-use Rattle.zone.specs.Check.ZoneTest.{elementHourInRange, elementInRange, frontInRange, eachNeeds, valuesTest}
+use Rattle.zone.specs.Check.ZoneTest.{elementHourInRange, elementInRange, frontInRange, allRequired, valuesTest}
 use Rattle.zone.specs.Inner.Check.{arraysInRange}
-use Rattle.zone.specs.Record.BuildingElement.{numberOfNodes}
+use Rattle.zone.specs.Record.BuildingElement.{isTwoNodes, numberOfNodes}
 use Rattle.zone.specs.Format.Head.{ReadHead, elementsEnd, headOf}
 use Rattle.zone.specs.Format.Encode.{rowBytes, kindNumber}
-use Rattle.zone.specs.Inner.Encode.{elementHourBytes, basisNumber, elementBytes, elementsBytes, headBytes}
+use Rattle.zone.specs.Claims.Encode.{elementHourBytes, basisNumber, elementBytes, elementsBytes, headBytes}
+use Rattle.zone.specs.declared.record.building_element.Kind.{Kind}
 use Rattle.zone.specs.declared.record.zone_record.Zone.{Zone}
 use Rattle.solver.proofs.Laws.Tests.{and-true}
 use Rattle.zone.proofs.Laws.ElementLayout.{shaped, treatments-few}
 use Rattle.zone.proofs.Laws.Structure.{Whole, whole-of, Structured, structured}
 use Rattle.zone.proofs.Laws.RoundTrip.{Number, Numbers, part, part-add, part-one, number-part, row-part}
 use Rattle.zone.proofs.Laws.Numbers.{area-number, pitch-number, coefficient-number, hPli-number, kPli-number, fraction-number, sky-number, deltaR-number, temperature-number, heatingSetpoint-number, setpoint-number}
-use Rattle.zone.proofs.Claims.Head.{accepted, zone-elements, end-is}
+use Rattle.zone.proofs.Laws.StructuredHead.{zone-elements}
+use Rattle.zone.proofs.Claims.Head.{accepted, end-is}
 use Rattle.zone.proofs.Claims.ConditionsBytes.{six, hour-part}
+
+-- float i of the element at p, and of the zone
+abbrev elementFloat : List ℕ → (p i : ℕ) → Float
+elementFloat s p i = floatAt s (p + (elementFloats + 8 * i))
+
+abbrev zoneFloat : List ℕ → (i : ℕ) → Float
+zoneFloat s i = floatAt s (zoneFloats + 8 * i)
+
+-- "171 per five-node element, 123 + 8t per Transparent"
+pub element-size : (k : Kind) (t : ℕ) → elementSize k t ≡ cond (isTwoNodes k) (123 + 8 * t) 171
+element-size k t = refl
 
 pub kind-back : (k : ℕ) → k ≤ 5 → kindNumber (kindOf k) ≡ k
 unfolding kindOf
@@ -62,21 +75,16 @@ front-floats : (s : List ℕ) (p n m : ℕ) → take n (floatsAt s p n ++ replic
 front-floats s p n m = take-at (floatsAt s p n) (replicate m zero64) n (length-floats s p n)
 
 seven-floats : (s : List ℕ) (p : ℕ)
-    → floatsAt s (p + 2) 7
-    ≡ floatAt s (p + 2) ∷ floatAt s (p + 10) ∷ floatAt s (p + 18) ∷ floatAt s (p + 26) ∷ floatAt s (p + 34) ∷ floatAt s (p + 42) ∷ floatAt s (p + 50) ∷ []
+    → floatsAt s (p + elementFloats) 7
+    ≡ elementFloat s p 0 ∷ elementFloat s p 1 ∷ elementFloat s p 2 ∷ elementFloat s p 3 ∷ elementFloat s p 4 ∷ elementFloat s p 5 ∷ elementFloat s p 6 ∷ []
 unfolding floatsAt
 seven-floats s p =
-    let e1 : p + 2 + 8 ≡ p + 10 = omega arith in
-    let e2 : p + 10 + 8 ≡ p + 18 = omega arith in
-    let e3 : p + 18 + 8 ≡ p + 26 = omega arith in
-    let e4 : p + 26 + 8 ≡ p + 34 = omega arith in
-    let e5 : p + 34 + 8 ≡ p + 42 = omega arith in
-    let e6 : p + 42 + 8 ≡ p + 50 = omega arith in
-    rw (e1, e2, e3, e4, e5, e6)
+    let next : (i : ℕ) → p + (elementFloats + 8 * i) + 8 ≡ p + (elementFloats + 8 * (i + 1)) = λ i. omega arith in
+    rw (next 0, next 1, next 2, next 3, next 4, next 5)
 
 -- what the tests of an element tell of its floats
 record Told (s : List ℕ) (p t kc hc : ℕ) : Type 0 where
-  seven : Numbers (floatsAt s (p + 2) 7)
+  seven : Numbers (floatsAt s (p + elementFloats) 7)
   ks : Numbers (floatsAt s (p + elementArrays) kc)
   hs : Numbers (floatsAt s (p + elementArrays + 8 * kc) hc)
   ds : Numbers (floatsAt s (p + elementArrays + 8 * kc + 8 * hc) t)
@@ -107,18 +115,18 @@ told s p e =
     let hour = elementHourAt s (p + elementArrays + 8 * numberOfNodes k + 8 * hCount k + 8 * t) in
     let arrays = arraysInRange (numberOfNodes k) (hCount k) t (elementAt s p .«k_pli») (elementAt s p .«h_pli») (elementAt s p .«delta_r») in
     let open-good = openWithin t (hour .«treatments_open») in
-    let six-good = areaRange (floatAt s (p + 2)) && pitchRange (floatAt s (p + 10)) && coefficientRange (floatAt s (p + 18)) && coefficientRange (floatAt s (p + 26)) && coefficientRange (floatAt s (p + 34)) && fractionRange (floatAt s (p + 42)) in
-    let a = and-true (six-good && skyRange (floatAt s (p + 50))) (arrays && elementHourInRange hour && open-good) e in
-    let b = and-true six-good (skyRange (floatAt s (p + 50))) (a .0) in
+    let six-good = areaRange (elementFloat s p 0) && pitchRange (elementFloat s p 1) && coefficientRange (elementFloat s p 2) && coefficientRange (elementFloat s p 3) && coefficientRange (elementFloat s p 4) && fractionRange (elementFloat s p 5) in
+    let a = and-true (six-good && skyRange (elementFloat s p 6)) (arrays && elementHourInRange hour && open-good) e in
+    let b = and-true six-good (skyRange (elementFloat s p 6)) (a .0) in
     let r =
-    six (areaRange (floatAt s (p + 2))) (pitchRange (floatAt s (p + 10))) (coefficientRange (floatAt s (p + 18))) (coefficientRange (floatAt s (p + 26))) (coefficientRange (floatAt s (p + 34))) (fractionRange (floatAt s (p + 42))) (b .0) in
+    six (areaRange (elementFloat s p 0)) (pitchRange (elementFloat s p 1)) (coefficientRange (elementFloat s p 2)) (coefficientRange (elementFloat s p 3)) (coefficientRange (elementFloat s p 4)) (fractionRange (elementFloat s p 5)) (b .0) in
     let d = and-true (arrays && elementHourInRange hour) open-good (a .1) in
     let f = and-true arrays (elementHourInRange hour) (d .0) in
     let n = arrays-told s t (numberOfNodes k) (hCount k) at ah ad (5 - numberOfNodes k) (4 - hCount k) (4 - t) (f .0) in
     record {
       seven =
           rw (seven-floats s p)
-          (area-number (floatAt s (p + 2)) (r .0), (pitch-number (floatAt s (p + 10)) (r .1), (coefficient-number (floatAt s (p + 18)) (r .2), (coefficient-number (floatAt s (p + 26)) (r .3), (coefficient-number (floatAt s (p + 34)) (r .4), (fraction-number (floatAt s (p + 42)) (r .5), (sky-number (floatAt s (p + 50)) (b .1), tt)))))));
+          (area-number (elementFloat s p 0) (r .0), (pitch-number (elementFloat s p 1) (r .1), (coefficient-number (elementFloat s p 2) (r .2), (coefficient-number (elementFloat s p 3) (r .3), (coefficient-number (elementFloat s p 4) (r .4), (fraction-number (elementFloat s p 5) (r .5), (sky-number (elementFloat s p 6) (b .1), tt)))))));
       ks = n .0;
       hs = n .1;
       ds = n .2;
@@ -128,27 +136,27 @@ told s p e =
 module _ (s : List ℕ) (b : Bytes s) where
   -- an element's bytes past the first two
   rest-part : (p t kc hc : ℕ) → p + (elementArrays + 8 * kc + 8 * hc + 8 * t + elementHourSize) ≤ length s → Told s p t kc hc
-      → rowBytes (floatsAt s (p + 2) 7) ++ (rowBytes (floatsAt s (p + elementArrays) kc) ++ (rowBytes (floatsAt s (p + elementArrays + 8 * kc) hc) ++ (rowBytes (floatsAt s (p + elementArrays + 8 * kc + 8 * hc) t) ++ elementHourBytes (elementHourAt s (p + elementArrays + 8 * kc + 8 * hc + 8 * t)))))
-      ≡ part s (p + 2) (56 + (8 * kc + (8 * hc + (8 * t + 41))))
+      → rowBytes (floatsAt s (p + elementFloats) 7) ++ (rowBytes (floatsAt s (p + elementArrays) kc) ++ (rowBytes (floatsAt s (p + elementArrays + 8 * kc) hc) ++ (rowBytes (floatsAt s (p + elementArrays + 8 * kc + 8 * hc) t) ++ elementHourBytes (elementHourAt s (p + elementArrays + 8 * kc + 8 * hc + 8 * t)))))
+      ≡ part s (p + elementFloats) (8 * 7 + (8 * kc + (8 * hc + (8 * t + elementHourSize))))
   rest-part p t kc hc h w =
-      let e : p + 2 + 56 ≡ p + elementArrays = omega arith in
+      let e : p + elementFloats + 8 * 7 ≡ p + elementArrays = omega arith in
       rw (
-        part-add s (p + 2) 56 (8 * kc + (8 * hc + (8 * t + 41))),
+        part-add s (p + elementFloats) (8 * 7) (8 * kc + (8 * hc + (8 * t + elementHourSize))),
         e,
-        part-add s (p + elementArrays) (8 * kc) (8 * hc + (8 * t + 41)),
-        part-add s (p + elementArrays + 8 * kc) (8 * hc) (8 * t + 41),
-        part-add s (p + elementArrays + 8 * kc + 8 * hc) (8 * t) 41,
-        row-part s b (p + 2) 7 (omega arith) (w .seven),
+        part-add s (p + elementArrays) (8 * kc) (8 * hc + (8 * t + elementHourSize)),
+        part-add s (p + elementArrays + 8 * kc) (8 * hc) (8 * t + elementHourSize),
+        part-add s (p + elementArrays + 8 * kc + 8 * hc) (8 * t) elementHourSize,
+        row-part s b (p + elementFloats) 7 (omega arith) (w .seven),
         row-part s b (p + elementArrays) kc (omega arith) (w .ks),
         row-part s b (p + elementArrays + 8 * kc) hc (omega arith) (w .hs),
         row-part s b (p + elementArrays + 8 * kc + 8 * hc) t (omega arith) (w .ds),
         hour-part s b (p + elementArrays + 8 * kc + 8 * hc + 8 * t) (omega arith) (w .hour),
       )
 
-  front-part : (p m : ℕ) → p + 2 ≤ length s → part s p (2 + m) ≡ getD s p 0 ∷ getD s (p + 1) 0 ∷ part s (p + 2) m
+  front-part : (p m : ℕ) → p + elementFloats ≤ length s → part s p (elementFloats + m) ≡ getD s p 0 ∷ getD s (p + 1) 0 ∷ part s (p + elementFloats) m
   front-part p m h =
-      let e : 2 + m ≡ 1 + (1 + m) = omega arith in
-      let f : p + 1 + 1 ≡ p + 2 = omega arith in
+      let e : elementFloats + m ≡ 1 + (1 + m) = omega arith in
+      let f : p + 1 + 1 ≡ p + elementFloats = omega arith in
       rw (e, part-add s p 1 (1 + m), part-add s (p + 1) 1 m, part-one s p (omega arith), part-one s (p + 1) (omega arith), f)
 
   element-part : (end left i p q : ℕ) → end ≤ length s → Whole s end left i p q → elementInRange (elementAt s p) ≡ true → elementBytes (elementAt s p) ≡ part s p (sizeAt s p)
@@ -157,17 +165,17 @@ module _ (s : List ℕ) (b : Bytes s) where
       let k = kindAt s p in
       let t = treatmentsAt s p in
       let f = shaped k t (treatments-few (getD s p 0) t (w .kind-valid)) in
-      let z : sizeAt s p ≡ 2 + (56 + (8 * numberOfNodes k + (8 * hCount k + (8 * t + 41)))) = omega (arith, f .sized) in
+      let z : sizeAt s p ≡ elementFloats + (8 * 7 + (8 * numberOfNodes k + (8 * hCount k + (8 * t + elementHourSize)))) = omega (arith, f .sized) in
       let five : getD s p 0 ≤ 5 = leb-true (getD s p 0) 5 (and-true (leb (getD s p 0) 5) (leb t (maxTreatments k)) (w .kind-valid) .0) in
       sym
       (ap (part s p) z
-      ∙ front-part p (56 + (8 * numberOfNodes k + (8 * hCount k + (8 * t + 41)))) (omega (arith, w .front))
+      ∙ front-part p (8 * 7 + (8 * numberOfNodes k + (8 * hCount k + (8 * t + elementHourSize)))) (omega (arith, w .front))
       ∙ ap (λ (l : List ℕ). getD s p 0 ∷ t ∷ l) (sym (rest-part p t (numberOfNodes k) (hCount k) (omega (arith, f .sized, w .rest)) (told s p e)))
       ∙ sym (rw (kind-back (getD s p 0) five, front-floats s (p + elementArrays) (numberOfNodes k) (5 - numberOfNodes k), front-floats s (p + elementArrays + 8 * numberOfNodes k) (hCount k) (4 - hCount k), front-floats s (p + elementArrays + 8 * numberOfNodes k + 8 * hCount k) t (4 - t), seven-floats s p)))
 
-  elements-part : (end left i p q j : ℕ) → end ≤ length s → elementsEnd s end left i p ≡ ok q → eachNeeds elementInRange zoneValue (elementsAt s p left) j ≡ ok tt
+  elements-part : (end left i p q j : ℕ) → end ≤ length s → elementsEnd s end left i p ≡ ok q → allRequired elementInRange zoneValue (elementsAt s p left) j ≡ ok tt
       → elementsBytes (elementsAt s p left) ≡ part s p (sizes (elementsAt s p left))
-  unfolding elementsAt elementsBytes sizes eachNeeds
+  unfolding elementsAt elementsBytes sizes allRequired
   elements-part end zero i p q j h e v = refl
   elements-part end (suc left) i p q j h e v =
       let w = whole-of s end left i p q e in
@@ -177,38 +185,38 @@ module _ (s : List ℕ) (b : Bytes s) where
       ∙ ap (λ (l : List ℕ). part s p (sizeAt s p) ++ l) (elements-part end left (i + 1) (p + sizeAt s p) q (j + 1) h (w .on) (x .2))
       ∙ sym (part-add s p (sizeAt s p) (sizes (elementsAt s (p + sizeAt s p) left)))
 
-  front-numbers : frontInRange (zoneAt s) ≡ true → Numbers (floatsAt s 9 6)
+  front-numbers : frontInRange (zoneAt s) ≡ true → Numbers (floatsAt s zoneFloats 6)
   unfolding frontInRange zoneAt Numbers floatsAt
   front-numbers e =
       let r =
-      six (limitRange (numAt s 7 2) && areaRange (floatAt s 9)) (areaRange (floatAt s 17)) (coefficientRange (floatAt s 25)) (temperatureRange (floatAt s 33)) (heatingSetpointRange (floatAt s 41)) (setpointRange (floatAt s 49)) e in
-      let a = and-true (limitRange (numAt s 7 2)) (areaRange (floatAt s 9)) (r .0) in
-      (area-number (floatAt s 9) (a .1), (area-number (floatAt s 17) (r .1), (coefficient-number (floatAt s 25) (r .2), (temperature-number (floatAt s 33) (r .3), (heatingSetpoint-number (floatAt s 41) (r .4), (setpoint-number (floatAt s 49) (r .5), tt))))))
+      six (limitRange (limitIn s) && areaRange (zoneFloat s 0)) (areaRange (zoneFloat s 1)) (coefficientRange (zoneFloat s 2)) (temperatureRange (zoneFloat s 3)) (heatingSetpointRange (zoneFloat s 4)) (setpointRange (zoneFloat s 5)) e in
+      let a = and-true (limitRange (limitIn s)) (areaRange (zoneFloat s 0)) (r .0) in
+      (area-number (zoneFloat s 0) (a .1), (area-number (zoneFloat s 1) (r .1), (coefficient-number (zoneFloat s 2) (r .2), (temperature-number (zoneFloat s 3) (r .3), (heatingSetpoint-number (zoneFloat s 4) (r .4), (setpoint-number (zoneFloat s 5) (r .5), tt))))))
 
-  six-part : firstElement ≤ length s → frontInRange (zoneAt s) ≡ true → rowBytes (floatAt s 9 ∷ floatAt s 17 ∷ floatAt s 25 ∷ floatAt s 33 ∷ floatAt s 41 ∷ floatAt s 49 ∷ []) ≡ part s 9 48
+  six-part : firstElement ≤ length s → frontInRange (zoneAt s) ≡ true → rowBytes (zoneFloat s 0 ∷ zoneFloat s 1 ∷ zoneFloat s 2 ∷ zoneFloat s 3 ∷ zoneFloat s 4 ∷ zoneFloat s 5 ∷ []) ≡ part s zoneFloats (8 * 6)
   unfolding floatsAt
-  six-part h e = row-part s b 9 6 (omega arith) (front-numbers e)
+  six-part h e = row-part s b zoneFloats 6 (omega arith) (front-numbers e)
 
   -- the front, with what follows it
-  front-bytes : (n m : ℕ) → Structured s n → frontInRange (zoneAt s) ≡ true → n - 4 ≡ numAt s 0 4 → n ≡ firstElement + m
-      → bytesOf 4 (n - 4) ++ (1 ∷ basisNumber (basisOf (basisIn s)) ∷ countIn s ∷ (bytesOf 2 (numAt s 7 2) ++ (rowBytes (floatAt s 9 ∷ floatAt s 17 ∷ floatAt s 25 ∷ floatAt s 33 ∷ floatAt s 41 ∷ floatAt s 49 ∷ []) ++ part s 57 m)))
+  front-bytes : (n m : ℕ) → Structured s n → frontInRange (zoneAt s) ≡ true → n - lengthSize ≡ lengthField s → n ≡ firstElement + m
+      → bytesOf lengthSize (n - lengthSize) ++ (1 ∷ basisNumber (basisOf (basisIn s)) ∷ countIn s ∷ (bytesOf limitSize (limitIn s) ++ (rowBytes (zoneFloat s 0 ∷ zoneFloat s 1 ∷ zoneFloat s 2 ∷ zoneFloat s 3 ∷ zoneFloat s 4 ∷ zoneFloat s 5 ∷ []) ++ part s firstElement m)))
       ≡ take n s
   front-bytes n m q good four ends =
-      let total : n ≡ 4 + (1 + (1 + (1 + (2 + (48 + m))))) = omega (arith, ends) in
+      let total : n ≡ lengthSize + (1 + (1 + (1 + (limitSize + (8 * 6 + m))))) = omega (arith, ends) in
       let room : firstElement ≤ length s = omega (arith, q .low, q .there) in
-      rw (four, basis-back (basisIn s) (q .basis), number-part s b 0 4 (omega arith), number-part s b 7 2 (omega arith), six-part room good)
+      rw (four, basis-back (basisIn s) (q .basis), number-part s b 0 lengthSize (omega arith), number-part s b limitAt limitSize (omega arith), six-part room good)
       (sym
       (ap (part s 0) total
       ∙ rw (
-        part-add s 0 4 (1 + (1 + (1 + (2 + (48 + m))))),
-        part-add s 4 1 (1 + (1 + (2 + (48 + m)))),
-        part-add s 5 1 (1 + (2 + (48 + m))),
-        part-add s 6 1 (2 + (48 + m)),
-        part-add s 7 2 (48 + m),
-        part-add s 9 48 m,
-        part-one s 4 (omega arith),
-        part-one s 5 (omega arith),
-        part-one s 6 (omega arith),
+        part-add s 0 lengthSize (1 + (1 + (1 + (limitSize + (8 * 6 + m))))),
+        part-add s versionAt 1 (1 + (1 + (limitSize + (8 * 6 + m)))),
+        part-add s basisAt 1 (1 + (limitSize + (8 * 6 + m))),
+        part-add s countAt 1 (limitSize + (8 * 6 + m)),
+        part-add s limitAt limitSize (8 * 6 + m),
+        part-add s zoneFloats (8 * 6) m,
+        part-one s versionAt (omega arith),
+        part-one s basisAt (omega arith),
+        part-one s countAt (omega arith),
         q .version,
       )))
 
@@ -218,9 +226,9 @@ module _ (s : List ℕ) (b : Bytes s) where
       let x = bind-ok (requireAt (frontInRange (zoneAt s)) zoneValue 0) _ tt v in
       let good = require-ok (frontInRange (zoneAt s)) zoneValue 0 (x .0) (x .1) in
       let es = elementsAt s firstElement (countIn s) in
-      let values : eachNeeds elementInRange zoneValue es 1 ≡ ok tt = rw (zone-elements s) at (x .2) in
+      let values : allRequired elementInRange zoneValue es 1 ≡ ok tt = rw (zone-elements s) at (x .2) in
       let ends : n ≡ firstElement + sizes es = end-is s n (countIn s) 0 firstElement n (q .elements) in
-      let four : n - 4 ≡ numAt s 0 4 = omega (arith, q .ends) in
+      let four : n - lengthSize ≡ lengthField s = omega (arith, q .ends) in
       rw (zone-elements s, elements-part n (countIn s) 0 firstElement n 1 (q .there) (q .elements) values) (front-bytes n (sizes es) q good four ends)
 
 -- an accepted head is the bytes of its zone

@@ -4,18 +4,18 @@ use mathlib.Core.Bool.{true}
 use lib.ListN.{length}
 use Rattle.zone.specs.Format.Decode.{noElement, noElementHour, floatsAt, zoneAt, elementsAt}
 use Rattle.zone.specs.Format.ElementLayout.{kindOf}
-use Rattle.solver.specs.F64.{dec}
-use Rattle.solver.specs.Each.{eachOf, eachDown, allOf}
+use Rattle.solver.specs.F64.{decimal}
+use Rattle.solver.specs.Repeat.{repeatOf, repeatDown, allOf}
 use Rattle.solver.specs.Closeness.{abs, isFinite, relativeEq, closeInDemand, validDivisor, withinStateBound, isclose}
 use Rattle.solver.specs.Sums.{sum2AddAll, sumFrom, termsOf}
 use Rattle.solver.specs.Rows.{row, setRow, largerInColumn, eliminateRow}
 use Rattle.solver.specs.Lu.{interchangeRows, eliminateColumnBy, eliminateColumn, pivotsValid, applyInterchanges, forwardStep, forwardSubstitution, backStep, backSubstitution, luSolve}
 use Rattle.solver.specs.Chain.{eliminateChain, eliminateChains, chainDivisorsValid, divisorsValid, reduceRightSide, reduceRightSides, backSubstituteChain, backSubstituteChains, elementWithin, nodesWithin}
-use Rattle.solver.specs.FastSolver.{setInnerDiagonals, gatherDense, scatterDense, temperatures, diagOf, denseOf, divisible, temperaturesOf, bounded, solve}
+use Rattle.solver.specs.FastSolver.{setInnerDiagonals, gatherDense, scatterDense, temperatures, diagOf, denseOf, allDivisorsValid, temperaturesOf, temperaturesValid, solve}
 use Rattle.zone.specs.Record.BuildingElement.{standardCoefficients, hCi, addClosed, hPliTransparent, numberOfNodes, nodesOf, nodeCount}
 use Rattle.zone.specs.Format.Bytes.{bigEndianFrom, bytesOf}
 use Rattle.zone.specs.Check.Ranges.{areaRange, pitchRange, coefficientRange, hPliRange, kPliRange, fractionRange, skyRange, deltaRRange, irradianceRange, gainsRange, rateRange, temperatureRange, heatingSetpointRange, setpointRange, hourLengthRange, allIn}
-use Rattle.zone.specs.Check.ZoneTest.{elementHourInRange, elementInRange, frontInRange, valuesTest, countsTest, zoneTest, eachNeeds}
+use Rattle.zone.specs.Check.ZoneTest.{elementHourInRange, elementInRange, frontInRange, valuesTest, countsTest, zoneTest, allRequired}
 use Rattle.zone.specs.Format.Conditions.{elementHoursAt, conditionsAt, openBitsValid, hourAndGainsInRange, setpointsInRange, conditionsTest, conditionsOf}
 use Rattle.zone.specs.Physics.Ventilation.{airProperties, densityKgPerM3, calcVentHeatTransferCoeff, orMinimum, raisedTo, cappedAt, achReqToReachTemperature}
 use Rattle.zone.specs.Format.Encode.{rowBytes}
@@ -27,7 +27,7 @@ use Rattle.zone.specs.Physics.Equations.{rowsOf, rightSidesOf}
 use Rattle.zone.specs.Physics.NodeLayout.{firstNode, copyNodes, toSlots, toNodes}
 use Rattle.zone.specs.Calls.State.{stateTest, zoneAndStateTest, slotsOf, stateOf}
 use Rattle.zone.specs.Hour.Demand.{controlTemperature, fracConvGainsHeatCool, wanted, fracUpper, interpHeatCoolDemand, demandRecord, calcCoolingPotentialFromVentilation, shareOrZero, demandForLoad, spaceHeatCoolDemand}
-use Rattle.zone.specs.Calls.Hour.{tested, step, updateTemperatures, demand, delivered, convectiveShare, hourStep}
+use Rattle.zone.specs.Calls.Hour.{testedHour, tested, step, updateTemperatures, demand, delivered, convectiveShare, hourStep}
 use lib.Ieee.{add, sub, mul, div, lt, le, eq, ne, ofBits, toBits, neg}
 use Rattle.zone.specs.Format.Head.{headOf, structureOf, elementsEnd}
 use Rattle.zone.specs.Calls.StartUp.{startUpConditions, allClose, close, pass, settle, initNodeTemps}
@@ -43,11 +43,11 @@ unfolding elementHoursAt conditionsAt openBitsValid hourAndGainsInRange setpoint
 records2 = tt
 
 unfoldable floats : Unit {0}
-unfolding dec add sub mul div lt le eq ne ofBits toBits neg
+unfolding decimal add sub mul div lt le eq ne ofBits toBits neg
 floats = tt
 
 unfoldable solver1 : Unit {0}
-unfolding eachOf eachDown allOf abs isFinite relativeEq closeInDemand validDivisor withinStateBound sum2AddAll termsOf row setRow largerInColumn eliminateRow interchangeRows eliminateColumnBy
+unfolding repeatOf repeatDown allOf abs isFinite relativeEq closeInDemand validDivisor withinStateBound sum2AddAll termsOf row setRow largerInColumn eliminateRow interchangeRows eliminateColumnBy
 solver1 = tt
 
 unfoldable solver2 : Unit {0}
@@ -59,7 +59,7 @@ unfolding reduceRightSide reduceRightSides backSubstituteChain backSubstituteCha
 solver3 = tt
 
 unfoldable solver4 : Unit {0}
-unfolding diagOf denseOf divisible temperaturesOf bounded solve isclose
+unfolding diagOf denseOf allDivisorsValid temperaturesOf temperaturesValid solve isclose
 solver4 = tt
 
 unfoldable checks1 : Unit {0}
@@ -67,7 +67,7 @@ unfolding areaRange pitchRange coefficientRange hPliRange kPliRange fractionRang
 checks1 = tt
 
 unfoldable checks2 : Unit {0}
-unfolding setpointRange hourLengthRange allIn elementHourInRange elementInRange frontInRange valuesTest countsTest zoneTest eachNeeds
+unfolding setpointRange hourLengthRange allIn elementHourInRange elementInRange frontInRange valuesTest countsTest zoneTest allRequired
 checks2 = tt
 
 unfoldable physics1 : Unit {0}
@@ -87,7 +87,7 @@ unfolding stateTest zoneAndStateTest slotsOf stateOf controlTemperature fracConv
 calls1 = tt
 
 unfoldable calls2 : Unit {0}
-unfolding calcCoolingPotentialFromVentilation shareOrZero demandForLoad spaceHeatCoolDemand tested step updateTemperatures demand startUpConditions allClose close
+unfolding calcCoolingPotentialFromVentilation shareOrZero demandForLoad spaceHeatCoolDemand testedHour tested step updateTemperatures demand startUpConditions allClose close
 calls2 = tt
 
 unfoldable calls3 : Unit {0}

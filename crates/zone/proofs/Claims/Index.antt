@@ -6,41 +6,41 @@ use native.Mathlib.Omega.{arith}
 use lib.Dec.{leb, eqb}
 use lib.ListN.{length, take, length-take}
 use lib.Ieee.{Float}
-use Rattle.solver.specs.Refusals.{RefusesOnly, SolveRefusal, accepts, refuses, divisor, temperature}
+use Rattle.solver.specs.Refusals.{RefusesOnly, SolveRefusal, accepts, refuses, solveDivisor, solveTemperature}
 use Rattle.solver.proofs.Laws.Refusals.{bind-refuses, cond-refuses, require-refuses, test-refuses}
 use Rattle.zone.specs.declared.record.building_element.Coefficients.{Coefficients}
+use Rattle.zone.specs.declared.record.building_element.Element.{Element}
 use Rattle.zone.specs.declared.record.zone_record.Zone.{Zone}
 use Rattle.zone.specs.declared.calls.state.State.{State}
 use Rattle.zone.specs.Record.BuildingElement.{nodeCount}
 use Rattle.zone.specs.Check.Ranges.{gainsRange, fractionRange, rateRange}
-use Rattle.zone.specs.Check.ZoneTest.{elementHourInRange, elementInRange, eachNeeds, frontInRange, valuesTest, countValid, elementTreatmentsValid, countsTest, zoneTest}
+use Rattle.zone.specs.Check.ZoneTest.{elementHourInRange, elementInRange, allRequired, frontInRange, valuesTest, countValid, elementTreatmentsValid, countsTest, zoneTest}
 use Rattle.zone.specs.Format.Layout.{conditionsLength}
 use Rattle.zone.specs.Format.Conditions.{conditionsAt, rateCodeValid, openBitsValid, hourAndGainsInRange, setpointsInRange, achArgsInRange, conditionsTest, conditionsOf}
-use Rattle.zone.specs.Inner.Format.{treatmentsOf}
 use Rattle.zone.specs.Calls.State.{allWithinStateBound, stateTest, zoneAndStateTest, slotsOf, operative}
-use Rattle.zone.specs.Calls.Hour.{tested, demand, hourStep, updateTemperatures}
+use Rattle.zone.specs.Calls.Hour.{testedHour, tested, demand, hourStep, updateTemperatures}
 use Rattle.zone.specs.Calls.StartUp.{startState, close, settle, initNodeTemps}
 use Rattle.zone.specs.Claims.Refusals.{OfZone, IndicesOfZone}
 use Rattle.zone.proofs.Laws.Refusals.{demand-refuses, step-refuses, pass-refuses}
 
 -- a test of each of a list, of which the first has index i
-each-within : {A : Type 0} (z : Zone) (test : A → Bool) (number : ℕ) (l : List A) (i : ℕ) → length l + i ≤ z .count + 1 → RefusesOnly (OfZone z) (eachNeeds test number l i)
-unfolding eachNeeds
-each-within z test number [] i h = accepts tt
-each-within z test number (a ∷ as′) i h =
+required-within : {A : Type 0} (z : Zone) (test : A → Bool) (number : ℕ) (l : List A) (i : ℕ) → length l + i ≤ z .count + 1 → RefusesOnly (OfZone z) (allRequired test number l i)
+unfolding allRequired
+required-within z test number [] i h = accepts tt
+required-within z test number (a ∷ as′) i h =
     test-refuses (test a) number i _ (omega arith) λ _.
-    each-within z test number as′ (i + 1) (omega arith)
+    required-within z test number as′ (i + 1) (omega arith)
 
-elements-within : {A : Type 0} (z : Zone) (test : A → Bool) (number : ℕ) (l : List A) → RefusesOnly (OfZone z) (eachNeeds test number (take (z .count) l) 1)
-elements-within z test number l = each-within z test number (take (z .count) l) 1 (simp length-take (omega arith))
+elements-within : {A : Type 0} (z : Zone) (test : A → Bool) (number : ℕ) (l : List A) → RefusesOnly (OfZone z) (allRequired test number (take (z .count) l) 1)
+elements-within z test number l = required-within z test number (take (z .count) l) 1 (simp length-take (omega arith))
 
 module _ (z : Zone) where
   none : 0 ≤ z .count
   none = omega arith
 
   solve-none : (n i : ℕ) → SolveRefusal n i → OfZone z n i
-  solve-none n i divisor = none
-  solve-none n i temperature = none
+  solve-none n i solveDivisor = none
+  solve-none n i solveTemperature = none
 
   zone-within : RefusesOnly (OfZone z) (zoneTest z)
   unfolding zoneTest countsTest valuesTest
@@ -57,26 +57,29 @@ module _ (z : Zone) where
       let n = z .count in
       let h = conditionsAt bs n in
       test-refuses (leb n 24 && eqb (length bs) (conditionsLength n)) 7 0 _ none λ _.
-      test-refuses (rateCodeValid bs && openBitsValid bs (take n (map treatmentsOf (z .«building_elements»))) 113) 8 0 _ none λ _.
+      test-refuses (rateCodeValid bs && openBitsValid bs (take n (map (λ (e : Element). e .treatments) (z .«building_elements»))) 113) 8 0 _ none λ _.
       bind-refuses _
       (test-refuses (hourAndGainsInRange h && setpointsInRange h && achArgsInRange (h .«ach_args»)) 9 0 _ none λ _.
       elements-within z elementHourInRange 9 (h .elements)) λ _ _.
       accepts h
 
   module _ (s : State) where
-    state-within : RefusesOnly (OfZone z) (zoneAndStateTest z s)
-    unfolding zoneAndStateTest stateTest
-    state-within =
-        bind-refuses _ zone-within λ _ _.
-        require-refuses (eqb (s .nodes) (nodeCount z) && allWithinStateBound (take (s .nodes) (s .temps))) 6 0 none
+    state-within : RefusesOnly (OfZone z) (stateTest z s)
+    unfolding stateTest
+    state-within = require-refuses (eqb (s .nodes) (nodeCount z) && allWithinStateBound (take (s .nodes) (s .temps))) 6 0 none
 
     operative-within : RefusesOnly (OfZone z) (operative z s)
-    unfolding operative
-    operative-within = bind-refuses _ state-within λ _ _. accepts _
+    unfolding operative zoneAndStateTest
+    operative-within =
+        bind-refuses _ (bind-refuses _ zone-within λ _ _. state-within) λ _ _.
+        accepts _
 
     tested-within : (bytes : List ℕ) → RefusesOnly (OfZone z) (tested z s bytes)
-    unfolding tested
-    tested-within bytes = bind-refuses _ state-within λ _ _. conditions-within bytes
+    unfolding tested testedHour
+    tested-within bytes =
+        bind-refuses _ zone-within λ _ _.
+        bind-refuses _ state-within λ _ _.
+        conditions-within bytes
 
     module _ (c : Coefficients) (bytes : List ℕ) where
       demand-within : RefusesOnly (OfZone z) (demand c z s bytes)

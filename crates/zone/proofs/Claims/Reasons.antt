@@ -17,7 +17,7 @@ use Rattle.zone.specs.Check.ZoneTest.{zoneTest}
 use Rattle.zone.specs.Calls.State.{slotsOf}
 use Rattle.zone.specs.Calls.Hour.{tested, step, demand, hourStep, updateTemperatures}
 use Rattle.zone.specs.Calls.StartUp.{startUpConditions, startState, close, pass, settle, initNodeTemps}
-use Rattle.zone.specs.Claims.HeadRefusals.{ZoneRefusal, zoneCounts, zoneValue, ConditionsRefusal, conditionsSize, conditionsRates, conditionsValue}
+use Rattle.zone.specs.Claims.HeadRefusals.{ZoneRefusal, zoneStructure, zoneValue, ConditionsRefusal, conditionsSize, conditionsCode, conditionsValue}
 use Rattle.zone.specs.Claims.StartUpClaims.{Unsettled, start, further}
 use Rattle.zone.specs.Claims.Reasons.{
   AfterTests,
@@ -27,14 +27,14 @@ use Rattle.zone.specs.Claims.Reasons.{
   asked,
   met,
   HourReasons,
-  outOfRange,
+  byConditionsValue,
   inStep,
   UpdateReasons,
   StartUpReason,
   inZone,
   inPass,
   inMeeting,
-  atLimit,
+  byNotSettled,
   StartUpReasons,
 }
 use Rattle.zone.proofs.Claims.HeadRefusals.{zone-refusals}
@@ -50,12 +50,12 @@ Below10 : (number index : ℕ) → Type 0
 Below10 number index = number < 10
 
 zone-below : (number index : ℕ) → ZoneRefusal number index → number < 6
-zone-below number index (zoneCounts i h) = omega arith
+zone-below number index (zoneStructure i h) = omega arith
 zone-below number index (zoneValue i h) = omega arith
 
 conditions-below : (number index : ℕ) → ConditionsRefusal number index → number < 10
 conditions-below number index conditionsSize = omega arith
-conditions-below number index conditionsRates = omega arith
+conditions-below number index conditionsCode = omega arith
 conditions-below number index (conditionsValue i h) = omega arith
 
 module _ (z : Zone) (s : State) (bytes : List ℕ) where
@@ -87,27 +87,28 @@ module _ (c : Coefficients) (z : Zone) where
   unfolding updateTemperatures step
   update-reasons s bytes gains fraction ach =
       tests-then z s bytes _ λ h.
-      Laws.because (gainsRange gains && fractionRange fraction && rateRange ach) 9 0 _ outOfRange λ _.
-      bind-refuses _ (refuses-also (λ n i p. inStep p) (Laws.solve-reasons c z (slotsOf z s) h gains fraction ach)) λ t _. accepts _
+      Laws.because (gainsRange gains && fractionRange fraction && rateRange ach) 9 0 _ byConditionsValue λ k.
+      bind-refuses _ (refuses-also (λ n i p. inStep k p) (Laws.solve-reasons c z (slotsOf z s) h gains fraction ach)) λ t _. accepts _
 
   -- one pass more
   one-more : {n : ℕ} {t u u′ : List Float} → Unsettled c z n t u → pass c z u ≡ ok u′ → close z u u′ ≡ false → Unsettled c z (suc n) t u′
   one-more start p q = further p q start
   one-more (further p′ q′ rest) p q = further p′ q′ (one-more rest p q)
 
-  settle-reasons : (left n : ℕ) (t : List Float) → n + left ≡ z .«start_up_limit» → Unsettled c z n (slotsOf z (startState z)) t → RefusesOnly (StartUpReason c z) (settle c z left t)
+  settle-reasons : (left n : ℕ) (t : List Float) → zoneTest z ≡ ok tt → n + left ≡ z .«start_up_limit» → Unsettled c z n (slotsOf z (startState z)) t
+      → RefusesOnly (StartUpReason c z) (settle c z left t)
   unfolding settle pass
-  settle-reasons zero n t e u = let m : n ≡ z .«start_up_limit» = omega arith in refuses (atLimit (rw m at u))
-  settle-reasons (suc left) n t e u =
+  settle-reasons zero n t a e u = let m : n ≡ z .«start_up_limit» = omega arith in refuses (byNotSettled a (rw m at u))
+  settle-reasons (suc left) n t a e u =
       let less : n < z .«start_up_limit» = omega arith in
       bind-refuses _
-      (bind-refuses _ (refuses-also (λ m i p. inPass u less p) (Laws.demand-reasons c z t (startUpConditions z))) λ d k.
-      refuses-also (λ m i p. inMeeting u less k p) (Laws.solve-reasons c z t (startUpConditions z) _ _ _)) λ t′ p.
-      Laws.choice-refuses (close z t t′) (λ _. accepts t) λ q. settle-reasons left (suc n) t′ (omega arith) (one-more u p q)
+      (bind-refuses _ (refuses-also (λ m i p. inPass a u less p) (Laws.demand-reasons c z t (startUpConditions z))) λ d k.
+      refuses-also (λ m i p. inMeeting a u less k p) (Laws.solve-reasons c z t (startUpConditions z) _ _ _)) λ t′ p.
+      Laws.choice-refuses (close z t t′) (λ _. accepts t) λ q. settle-reasons left (suc n) t′ a (omega arith) (one-more u p q)
 
   pub start-up-reasons : StartUpReasons c z
   unfolding initNodeTemps
   start-up-reasons =
-      bind-refuses _ (refuses-also (λ n i p. inZone (p .1) (zone-below n i (p .0))) (by-equation (zoneTest z) (zone-refusals z))) λ _ _.
-      bind-refuses _ (settle-reasons (z .«start_up_limit») 0 (slotsOf z (startState z)) (omega arith) start) λ t _.
+      bind-refuses _ (refuses-also (λ n i p. inZone (p .1) (zone-below n i (p .0))) (by-equation (zoneTest z) (zone-refusals z))) λ _ a.
+      bind-refuses _ (settle-reasons (z .«start_up_limit») 0 (slotsOf z (startState z)) a (omega arith) start) λ t _.
       accepts _

@@ -26,27 +26,27 @@ use Rattle.zone.specs.Calls.Answers.{demandReply, updateReply, hourStepR
 use Rattle.zone.specs.Claims.Refusals.{
   OperativeRefusal,
   operativeZone,
-  operativeState,
+  operativeStateInvalid,
   HourRefusal,
   hourZone,
-  hourState,
+  hourStateInvalid,
   hourConditions,
-  hourCooling,
-  hourVentilation,
+  hourCoolingBelowHeating,
+  hourVentilationBelowHeating,
   hourSolve,
-  hourClose,
+  hourNoEffect,
   UpdateRefusal,
   updateZone,
-  updateState,
+  updateStateInvalid,
   updateConditions,
-  updateValues,
+  updateConditionsValue,
   updateSolve,
   StartUpRefusal,
   startUpZone,
-  startUpVentilation,
+  startUpVentilationBelowHeating,
   startUpSolve,
-  startUpClose,
-  startUpLimit,
+  startUpNoEffect,
+  startUpNotSettled,
   CallRefusals,
 }
 use Rattle.zone.specs.Claims.StateClaims.{StateKept}
@@ -55,15 +55,15 @@ use Rattle.zone.proofs.Laws.Refusals.{before-refuses, tested-refuses, s
 module _ (c : Coefficients) (z : Zone) where
   module _ (s : State) (bytes : List ℕ) where
     hour-tested : RefusesOnly HourRefusal (tested z s bytes)
-    hour-tested = tested-refuses (λ n i p. hourZone p) hourState (λ n i p. hourConditions p) z s bytes
+    hour-tested = tested-refuses (λ n i p. hourZone p) hourStateInvalid (λ n i p. hourConditions p) z s bytes
 
     hour-demand : (h : Conditions) → RefusesOnly HourRefusal (spaceHeatCoolDemand c z (slotsOf z s) h)
-    hour-demand h = demand-refuses (λ n i p. hourSolve p) c z (slotsOf z s) h hourClose (λ _. hourCooling) hourVentilation
+    hour-demand h = demand-refuses (λ n i p. hourSolve p) c z (slotsOf z s) h hourNoEffect (λ _. hourCoolingBelowHeating) hourVentilationBelowHeating
 
     pub operative-refusals : RefusesOnly OperativeRefusal (operative z s)
     unfolding operative
     operative-refusals =
-        bind-refuses _ (before-refuses (λ n i p. operativeZone p) operativeState z s) λ _ _.
+        bind-refuses _ (before-refuses (λ n i p. operativeZone p) operativeStateInvalid z s) λ _ _.
         accepts _
 
     pub demand-refusals : RefusesOnly HourRefusal (demand c z s bytes)
@@ -83,15 +83,15 @@ module _ (c : Coefficients) (z : Zone) where
     pub update-refusals : (gains fraction ach : Float) → RefusesOnly UpdateRefusal (updateTemperatures c z s bytes gains fraction ach)
     unfolding updateTemperatures
     update-refusals gains fraction ach =
-        bind-refuses _ (tested-refuses (λ n i p. updateZone p) updateState (λ n i p. updateConditions p) z s bytes) λ h _.
-        test-refuses (gainsRange gains && fractionRange fraction && rateRange ach) 9 0 _ updateValues λ _.
+        bind-refuses _ (tested-refuses (λ n i p. updateZone p) updateStateInvalid (λ n i p. updateConditions p) z s bytes) λ h _.
+        test-refuses (gainsRange gains && fractionRange fraction && rateRange ach) 9 0 _ updateConditionsValue λ _.
         step-refuses (λ n i p. updateSolve p) c z s h gains fraction ach
 
   settle-refuses : (limit : ℕ) (t : List Float) → RefusesOnly StartUpRefusal (settle c z limit t)
   unfolding settle
-  settle-refuses zero t = refuses startUpLimit
+  settle-refuses zero t = refuses startUpNotSettled
   settle-refuses (suc n) t =
-      bind-refuses _ (pass-refuses startUpVentilation (λ n i p. startUpSolve p) startUpClose c z t) λ t′ _.
+      bind-refuses _ (pass-refuses startUpVentilationBelowHeating (λ n i p. startUpSolve p) startUpNoEffect c z t) λ t′ _.
       cond-refuses (close z t t′) (accepts t) (settle-refuses n t′)
 
   pub start-up-refusals : RefusesOnly StartUpRefusal (initNodeTemps c z)

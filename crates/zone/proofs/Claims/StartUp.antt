@@ -7,15 +7,15 @@ use native.Mathlib.Omega.{arith}
 use lib.Ieee.{Float}
 use Rattle.solver.specs.Result.{Result, ok, refused, bind}
 use Rattle.solver.proofs.Laws.Result.{bind-ok, ok-inj}
-use Rattle.solver.specs.Refusals.{RefusesOnly, SolveRefusal, divisor, temperature}
+use Rattle.solver.specs.Refusals.{RefusesOnly, SolveRefusal, solveDivisor, solveTemperature}
 use Rattle.solver.proofs.Laws.Refusals.{refusal-by}
 use Rattle.zone.specs.declared.record.building_element.Coefficients.{Coefficients}
 use Rattle.zone.specs.declared.record.zone_record.Zone.{Zone}
 use Rattle.zone.specs.Check.ZoneTest.{zoneTest}
 use Rattle.zone.specs.Calls.State.{slotsOf, stateOf}
 use Rattle.zone.specs.Calls.StartUp.{startState, close, pass, settle, initNodeTemps}
-use Rattle.zone.specs.Claims.StartUpClaims.{Unsettled, start, further, Settles, SettledAt, LimitUnsettled, StartUp15, StartUpIs15, StartUpSettled, StartUpIsSettled}
-use Rattle.zone.specs.Claims.HeadRefusals.{ZoneRefusal, zoneCounts, zoneValue}
+use Rattle.zone.specs.Claims.StartUpClaims.{Unsettled, start, further, Settles, SettledAt, LimitUnsettled, StartUpNotSettled, StartUpIsNotSettled, StartUpSettled, StartUpIsSettled}
+use Rattle.zone.specs.Claims.HeadRefusals.{ZoneRefusal, zoneStructure, zoneValue}
 use Rattle.zone.proofs.Claims.HeadRefusals.{zone-refusals}
 use Rattle.zone.proofs.Laws.Refusals.{pass-refuses}
 
@@ -24,11 +24,11 @@ abbrev Below15 : (number index : ℕ) → Type 0
 Below15 number index = number < 15
 
 solve-below : (number index : ℕ) → SolveRefusal number index → Below15 number index
-solve-below number index divisor = omega arith
-solve-below number index temperature = omega arith
+solve-below number index solveDivisor = omega arith
+solve-below number index solveTemperature = omega arith
 
 zone-below : (number index : ℕ) → ZoneRefusal number index → Below15 number index
-zone-below number index (zoneCounts i h) = omega arith
+zone-below number index (zoneStructure i h) = omega arith
 zone-below number index (zoneValue i h) = omega arith
 
 module _ (c : Coefficients) (z : Zone) where
@@ -57,14 +57,14 @@ module _ (c : Coefficients) (z : Zone) where
   below-pass : (t : List Float) → RefusesOnly Below15 (pass c z t)
   below-pass t = pass-refuses {P = Below15} (omega arith) solve-below (omega arith) c z t
 
-  no-pass-gives-15 : (t : List Float) (j : ℕ) → pass c z t ≡ refused 15 j → ⊥
-  no-pass-gives-15 t j e = let w : 15 < 15 = refusal-by (below-pass t) e in omega arith
+  no-pass-gives-not-settled : (t : List Float) (j : ℕ) → pass c z t ≡ refused 15 j → ⊥
+  no-pass-gives-not-settled t j e = let w : 15 < 15 = refusal-by (below-pass t) e in omega arith
 
   -- 15 means that no pass up to the limit settled
-  fifteen : (limit j : ℕ) (t : List Float) → settle c z limit t ≡ refused 15 j → (u : List Float) × Unsettled c z limit t u
+  not-settled : (limit j : ℕ) (t : List Float) → settle c z limit t ≡ refused 15 j → (u : List Float) × Unsettled c z limit t u
   unfolding settle settleBy
-  fifteen zero j t e = (t, start)
-  fifteen (suc n) j t e = go (pass c z t) refl e (λ t′. fifteen n j t′)
+  not-settled zero j t e = (t, start)
+  not-settled (suc n) j t e = go (pass c z t) refl e (λ t′. not-settled n j t′)
     where
       at : (t′ : List Float) → pass c z t ≡ ok t′ → (b : Bool) → close z t t′ ≡ b → cond b (ok t) (settle c z n t′) ≡ refused 15 j
           → (settle c z n t′ ≡ refused 15 j → (u : List Float) × Unsettled c z n t′ u) → (u : List Float) × Unsettled c z (suc n) t u
@@ -74,13 +74,13 @@ module _ (c : Coefficients) (z : Zone) where
       go : (r : Result (List Float)) → pass c z t ≡ r → settleBy n t r ≡ refused 15 j
           → ((t′ : List Float) → settle c z n t′ ≡ refused 15 j → (u : List Float) × Unsettled c z n t′ u) → (u : List Float) × Unsettled c z (suc n) t u
       go (ok t′) p f rest = at t′ p (close z t t′) refl f (rest t′)
-      go (refused k i) p f rest = absurd (no-pass-gives-15 t j (p ∙ f))
+      go (refused k i) p f rest = absurd (no-pass-gives-not-settled t j (p ∙ f))
 
   -- and if none does, 15 is the answer
-  unsettled-15 : {limit : ℕ} {t u : List Float} → Unsettled c z limit t u → settle c z limit t ≡ refused 15 0
+  limit-not-settled : {limit : ℕ} {t u : List Float} → Unsettled c z limit t u → settle c z limit t ≡ refused 15 0
   unfolding settle
-  unsettled-15 start = refl
-  unsettled-15 (further p q rest) = rw (p, q) (unsettled-15 rest)
+  limit-not-settled start = refl
+  limit-not-settled (further p q rest) = rw (p, q) (limit-not-settled rest)
 
   -- where a pass settles within the limit, the temperatures before it are the answer, whatever the limit
   settled-is : {passes limit : ℕ} {t u : List Float} → Unsettled c z passes t u → Settles c z u → passes < limit → settle c z limit t ≡ ok u
@@ -95,21 +95,21 @@ module _ (c : Coefficients) (z : Zone) where
   settled-from (ok t) j e = let w : _≡_ {A = ℕ} 0 1 = cc in absurd (omega arith)
   settled-from (refused n i) j e = let u : n ≡ 15 = cc in let v : i ≡ j = cc in rw (u, v) refl
 
-  pub start-up-15 : StartUp15 c z
+  pub start-up-not-settled : StartUpNotSettled c z
   unfolding initNodeTemps
-  start-up-15 j e = go (zoneTest z) refl e
+  start-up-not-settled j e = go (zoneTest z) refl e
     where
       go : (r : Result (Unit {0})) → zoneTest z ≡ r → bind r (λ _. bind (settle c z (z .«start_up_limit») (slotsOf z (startState z))) λ t. ok (stateOf z t)) ≡ refused 15 j
           → (u : List Float) × LimitUnsettled c z u
-      go (ok _) p f = fifteen (z .«start_up_limit») j (slotsOf z (startState z)) (settled-from (settle c z (z .«start_up_limit») (slotsOf z (startState z))) j f)
+      go (ok _) p f = not-settled (z .«start_up_limit») j (slotsOf z (startState z)) (settled-from (settle c z (z .«start_up_limit») (slotsOf z (startState z))) j f)
       go (refused n i) p f =
           let n15 : n ≡ 15 = cc in
           let w : n < 15 = zone-below n i (refusal-by (zone-refusals z) p) in
           absurd (omega arith)
 
-  pub start-up-is-15 : StartUpIs15 c z
+  pub start-up-is-not-settled : StartUpIsNotSettled c z
   unfolding initNodeTemps
-  start-up-is-15 u e n = rw (e, unsettled-15 n) refl
+  start-up-is-not-settled u e n = rw (e, limit-not-settled n) refl
 
   pub start-up-settled : StartUpSettled c z
   unfolding initNodeTemps

@@ -4,7 +4,7 @@ use mathlib.Core.Bool.{_&&_}
 use Prim.Native.Nat.{ℕ}
 use mathlib.Core.List.{List}
 use lib.Ieee.{Float}
-use Rattle.solver.specs.F64.{dec, zero64}
+use Rattle.solver.specs.F64.{decimal, zero64}
 use Rattle.solver.specs.Result.{ok, require, requireAt}
 use Rattle.solver.proofs.Laws.Result.{bind-ok, require-ok}
 use Rattle.solver.proofs.Laws.Tests.{and-true}
@@ -36,10 +36,9 @@ both-tested z s u p q = rw p q
 module _ (c : Coefficients) (z : Zone) where
   -- after a step under conditions that passed the tests
   step-tested : (s : State) (bytes : List ℕ) (h : Conditions) (after : State) → tested z s bytes ≡ ok h → StepMade c z (slotsOf z s) h after → zoneAndStateTest z after ≡ ok tt
-  unfolding tested zoneAndStateTest
+  unfolding tested
   step-tested s bytes h after e m =
-      let t = bind-ok (zoneAndStateTest z s) _ h e in
-      let u = bind-ok (zoneTest z) _ (t .0) (t .1) in
+      let u = bind-ok (zoneTest z) _ h e in
       let kept = step-within c z (slotsOf z s) h (deltaT h) (m .gains) (m .fraction) (m .ach) (m .temps) (m .solved) in
       both-tested z after (u .0) (u .1) (subst (λ (x : State). stateTest z x ≡ ok tt) (m .state) (state-tested z (m .temps) kept (zone-count z (u .1) .1)))
 
@@ -62,7 +61,7 @@ module _ (c : Coefficients) (z : Zone) where
   passed-within {t = t} kept (further {t′ = t′} p q rest) =
       let h = startUpConditions z in
       let d = bind-ok (spaceHeatCoolDemand c z t h) _ t′ p in
-      passed-within (step-within c z t h (deltaT h) (delivered h (d .0)) (dec 4 1) zero64 t′ (d .2)) rest
+      passed-within (step-within c z t h (deltaT h) (delivered h (d .0)) (decimal 4 1) zero64 t′ (d .2)) rest
 
   first-within : (u : Unit {0}) → zoneTest z ≡ ok u → Within (z .count) (zoneTwoNodes z) (slotsOf z (startState z))
   unfolding zoneTest valuesTest frontInRange

@@ -19,9 +19,9 @@ use Rattle.zone.specs.Physics.CalcTemperatures.{calcTemperatures}
 use Rattle.zone.proofs.Laws.Nodes.{to-nodes-length}
 use Rattle.zone.specs.declared.physics.balance.HeatBalance.{HeatBalance}
 use Rattle.zone.specs.declared.calls.state.State.{State}
-use Rattle.zone.specs.Calls.State.{zoneAndStateTest, slotsOf, stateOf}
+use Rattle.zone.specs.Calls.State.{stateTest, slotsOf, stateOf}
 use Rattle.zone.specs.Hour.Demand.{deltaT, gainsHeatCool, spaceHeatCoolDemand}
-use Rattle.zone.specs.Calls.Hour.{tested, step, delivered, convectiveShare, HourResult, hourStep}
+use Rattle.zone.specs.Calls.Hour.{testedHour, tested, step, delivered, convectiveShare, HourResult, hourStep}
 
 -- the temperatures after an accepted step, and its state
 pub record StepMade (c : Coefficients) (z : Zone) (t : List Float) (h : Conditions) (after : State) : Type 0 where
@@ -65,18 +65,18 @@ module _ (c : Coefficients) (z : Zone) (s : State) where
 
     -- the conditions had their size: refusal 7
     pub conditions-length : length bytes ≡ conditionsLength (z .count)
-    unfolding tested
+    unfolding tested testedHour
     conditions-length =
-        let t = bind-ok (zoneAndStateTest z s) _ (hour-made .conditions) (hour-made .tests) in
-        Conditions.conditions-length z bytes (hour-made .conditions) (t .2)
+        let t = bind-ok (zoneTest z) _ (hour-made .conditions) (hour-made .tests) in
+        let u = bind-ok (stateTest z s) _ (hour-made .conditions) (t .2) in
+        Conditions.conditions-length z bytes (hour-made .conditions) (u .2)
 
     -- the zone was tested: refusal 4
     pub count-few : z .count ≤ 24
-    unfolding tested zoneAndStateTest
+    unfolding tested
     count-few =
-        let t = bind-ok (zoneAndStateTest z s) _ (hour-made .conditions) (hour-made .tests) in
-        let u = bind-ok (zoneTest z) _ (t .0) (t .1) in
-        zone-count z (u .1) .1
+        let t = bind-ok (zoneTest z) _ (hour-made .conditions) (hour-made .tests) in
+        zone-count z (t .1) .1
 
     -- the state after the hour is a whole array
     pub temps-length : length (r .state .temps) ≡ 121

@@ -4,14 +4,11 @@ use mathlib.Core.List.{List}
 use Prim.Native.Nat.{ℕ, _≤_, _<_}
 use lib.ListN.{length, getD}
 use lib.Ieee.{Float, nan}
-use Rattle.solver.specs.Each.{each}
+use Rattle.solver.specs.Repeat.{repeat}
 use Rattle.solver.specs.Sums.{sum2, terms}
-use Rattle.zone.specs.declared.record.building_element.Element.{Element}
-use Rattle.zone.specs.declared.record.building_element.ElementHour.{ElementHour}
-use Rattle.zone.specs.declared.record.building_element.Coefficients.{Coefficients}
 use Rattle.zone.specs.Physics.Slots.{withTerms}
-use Rattle.zone.specs.Inner.Assembly.{at, hCiBy, shareBy, convectiveBy, Chains, elementRows, couple, coupleRow}
-use Rattle.zone.proofs.Laws.Terms.{each-same, terms-same, terms-at}
+use Rattle.zone.specs.Inner.Assembly.{at, shareBy, convectiveBy, couple, coupleRow}
+use Rattle.zone.proofs.Laws.Terms.{repeat-same, terms-same, terms-at}
 
 abbrev pub Agree : ℕ → (f g : ℕ → Float) → Type 0
 Agree n f g = (e : ℕ) → e < n → f e ≡ g e
@@ -27,9 +24,6 @@ module _ (n : ℕ) (f f' g g' : ℕ → Float) where
   pub shares-agree : (total total' : Float) → Agree n f f' → total ≡ total' → Agree n (shareBy f total) (shareBy f' total')
   shares-agree total total' p q e h = rw (p e h, q) refl
 
-  pub h-ci-agree : (c : Coefficients) (t : List Float) → Agree n f f' → Agree n (hCiBy c f t) (hCiBy c f' t)
-  h-ci-agree c t p e h = rw (p e h) refl
-
   pub convective-agree : Agree n f f' → Agree n g g' → Agree n (convectiveBy f g) (convectiveBy f' g')
   convective-agree p q e h = rw (p e h, q e h) refl
 
@@ -37,17 +31,10 @@ pub sum2-same : (n : ℕ) (f g : ℕ → Float) → Agree n f g → sum2 (terms 
 sum2-same n f g p = ap (λ (x : List Float). sum2 x) (terms-same f g n p)
 
 module _ (n : ℕ) («h_ci» «h_ci'» share share' : ℕ → Float) (p : Agree n «h_ci» «h_ci'») (q : Agree n share share') where
-  pub rows-same : (es : List Element) (hours : List ElementHour) («delta_t» : Float) (s : Chains)
-      → each 0 n (elementRows es hours «delta_t» «h_ci» share) s ≡ each 0 n (elementRows es hours «delta_t» «h_ci'» share') s
-  unfolding elementRows
-  rows-same es hours «delta_t» s =
-      each-same (elementRows es hours «delta_t» «h_ci» share) (elementRows es hours «delta_t» «h_ci'» share') n s
-      (λ e h x. rw (p e h, q e h) refl)
-
   pub couplings-same : (area area' «h_ri» «h_ri'» : ℕ → Float) (m : List Float) → Agree n area area' → Agree n «h_ri» «h_ri'»
-      → each 0 n (coupleRow n area «h_ri» «h_ci» share) m ≡ each 0 n (coupleRow n area' «h_ri'» «h_ci'» share') m
+      → repeat 0 n (coupleRow n area «h_ri» «h_ci» share) m ≡ repeat 0 n (coupleRow n area' «h_ri'» «h_ci'» share') m
   unfolding coupleRow
   couplings-same area area' «h_ri» «h_ri'» m a r =
-      each-same (coupleRow n area «h_ri» «h_ci» share) (coupleRow n area' «h_ri'» «h_ci'» share') n m
+      repeat-same (coupleRow n area «h_ri» «h_ci» share) (coupleRow n area' «h_ri'» «h_ci'» share') n m
       (λ i h x.
-      rw (p i h, a i h, r i h, each-same (couple share («h_ri'» i) i) (couple share' («h_ri'» i) i) n x (λ k l y. rw (q k l) refl)) refl)
+      rw (p i h, a i h, r i h, repeat-same (couple share («h_ri'» i) i) (couple share' («h_ri'» i) i) n x (λ k l y. rw (q k l) refl)) refl)

@@ -5,7 +5,7 @@ use mathlib.Core.List.{List}
 use Prim.Native.Nat.{ℕ, zero, suc, _-_}
 use native.Mathlib.Omega.{arith}
 use lib.Ieee.{Float}
-use Rattle.solver.specs.Each.{eachOf, each}
+use Rattle.solver.specs.Repeat.{repeatOf, repeat}
 use Rattle.solver.specs.Sums.{sumFrom, termsOf}
 use Rattle.solver.specs.FastSolver.{atMost24}
 use Rattle.zone.specs.declared.record.building_element.Kind.{Kind}
@@ -18,7 +18,7 @@ use Rattle.zone.specs.Physics.Slots.{outerSurface, element, elementHour}
 use Rattle.zone.specs.Physics.System.{zoneTwoNodes}
 use Rattle.zone.specs.Physics.HeatBalance.{convectiveHeat, radiativeHeat, solarHeat, skyHeat, isKind, heatAt, termsOfKind, externalBoundary}
 use Rattle.zone.specs.Inner.FabricSums.{addElement, noFabric, addElementAt, externalBoundaryFrom}
-use Rattle.zone.proofs.Laws.Terms.{each-same}
+use Rattle.zone.proofs.Laws.Terms.{repeat-same}
 use Rattle.zone.proofs.Laws.Zones.{two-nodes-at}
 
 module _ (z : Zone) (hour : Conditions) («vector_x» : List Float) where
@@ -28,10 +28,10 @@ module _ (z : Zone) (hour : Conditions) («vector_x» : List Float) where
       addElement (element (z .«building_elements») e) (elementHour (hour .elements) e) (outerSurface (zoneTwoNodes z) «vector_x» e) s
 
   turns-same : (n : ℕ) (s : FabricSums) → n ≡ atMost24 (z .count)
-      → each 0 n (addElementAt (z .«building_elements») (hour .elements) «vector_x») s ≡ each 0 n turn s
+      → repeat 0 n (addElementAt (z .«building_elements») (hour .elements) «vector_x») s ≡ repeat 0 n turn s
   unfolding turn
   turns-same n s h =
-      each-same (addElementAt (z .«building_elements») (hour .elements) «vector_x») turn n s (λ e l s. rw (two-nodes-at z e (omega arith)) refl)
+      repeat-same (addElementAt (z .«building_elements») (hour .elements) «vector_x») turn n s (λ e l s. rw (two-nodes-at z e (omega arith)) refl)
 
   -- what k elements from element i on add to nine sums
   abbrev sums : (k i : ℕ) → FabricSums → FabricSums
@@ -59,14 +59,14 @@ module _ (z : Zone) (hour : Conditions) («vector_x» : List Float) where
   sums-next k i s Transparent e = rw e refl
   sums-next k i s PartyWall e = rw e refl
 
-  sums-are : (k i : ℕ) (s : FabricSums) → eachOf k i turn s ≡ sums k i s
-  unfolding eachOf termsOf sumFrom termsOfKind
+  sums-are : (k i : ℕ) (s : FabricSums) → repeatOf k i turn s ≡ sums k i s
+  unfolding repeatOf termsOf sumFrom termsOfKind
   sums-are zero i s = refl
   sums-are (suc k) i s =
       sums-are k (suc i) (turn i s) ∙ sums-next k i s (element (z .«building_elements») i .kind) refl
 
   external-all : (a : HeatBalanceAirNode) («gains_heat_cool» : Float)
-      → externalBoundaryFrom (each 0 (atMost24 (z .count)) (addElementAt (z .«building_elements») (hour .elements) «vector_x») noFabric) a hour «gains_heat_cool»
+      → externalBoundaryFrom (repeat 0 (atMost24 (z .count)) (addElementAt (z .«building_elements») (hour .elements) «vector_x») noFabric) a hour «gains_heat_cool»
       ≡ externalBoundary z hour «vector_x» a «gains_heat_cool»
   external-all a «gains_heat_cool» =
       let n = atMost24 (z .count) in
@@ -74,6 +74,6 @@ module _ (z : Zone) (hour : Conditions) («vector_x» : List Float) where
       rw (turns-same n noFabric refl, sums-are (n - 0) 0 noFabric, all) refl
 
   pub external-is : (n : ℕ) (a : HeatBalanceAirNode) («gains_heat_cool» : Float) → n ≡ atMost24 (z .count)
-      → externalBoundaryFrom (each 0 n (addElementAt (z .«building_elements») (hour .elements) «vector_x») noFabric) a hour «gains_heat_cool»
+      → externalBoundaryFrom (repeat 0 n (addElementAt (z .«building_elements») (hour .elements) «vector_x») noFabric) a hour «gains_heat_cool»
       ≡ externalBoundary z hour «vector_x» a «gains_heat_cool»
   external-is n a «gains_heat_cool» h = rw h (external-all a «gains_heat_cool»)

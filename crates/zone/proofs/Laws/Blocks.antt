@@ -7,9 +7,9 @@ use native.Mathlib.Nat.{eq-or-lt-of-le}
 use native.Mathlib.Omega.{arith}
 use lib.ListN.{length, getD, length-set}
 use lib.Ieee.{Float, nan}
-use Rattle.solver.specs.Each.{eachOf}
+use Rattle.solver.specs.Repeat.{repeatOf}
 use Rattle.zone.specs.Physics.NodeLayout.{move, copyNodes}
-use Rattle.zone.proofs.Laws.Terms.{each-length, store-other, store-at}
+use Rattle.zone.proofs.Laws.Terms.{repeat-length, store-other, store-at}
 
 module _ (k from to : ℕ) (a : List Float) where
   move-other : (b : List Float) (q : ℕ) → ((j : ℕ) → j < k → q ≡ to + j → ⊥) → getD (copyNodes k from to a b) q nan ≡ getD b q nan
@@ -24,19 +24,19 @@ module _ (k from to : ℕ) (a : List Float) where
 
   move-length : (b : List Float) → length (copyNodes k from to a b) ≡ length b
   unfolding copyNodes
-  move-length b = each-length (move from to a) (λ j l. length-set l (to + j) (getD a (from + j) nan)) (k - 0) 0 b
+  move-length b = repeat-length (move from to a) (λ j l. length-set l (to + j) (getD a (from + j) nan)) (k - 0) 0 b
 
 module _ (k src dst : ℕ → ℕ) (a : List Float) where
   abbrev pub block : ℕ → List Float → List Float
   block e b = copyNodes (k e) (src e) (dst e) a b
 
-  pub blocks-length : (m i : ℕ) (b : List Float) → length (eachOf m i block b) ≡ length b
-  blocks-length m i b = each-length block (λ e l. move-length (k e) (src e) (dst e) a l) m i b
+  pub blocks-length : (m i : ℕ) (b : List Float) → length (repeatOf m i block b) ≡ length b
+  blocks-length m i b = repeat-length block (λ e l. move-length (k e) (src e) (dst e) a l) m i b
 
   -- a place of no block
   pub blocks-other : (m i : ℕ) (b : List Float) (q : ℕ) → ((e : ℕ) → i ≤ e → e < i + m → (j : ℕ) → j < k e → q ≡ dst e + j → ⊥)
-      → getD (eachOf m i block b) q nan ≡ getD b q nan
-  unfolding eachOf
+      → getD (repeatOf m i block b) q nan ≡ getD b q nan
+  unfolding repeatOf
   blocks-other zero i b q h = refl
   blocks-other (suc m) i b q h =
       blocks-other m (suc i) (block i b) q (λ e l l'. h e (omega arith) (omega arith))
@@ -58,7 +58,7 @@ module _ (k src dst : ℕ → ℕ) (a : List Float) where
         subst (λ (x : ℕ). dst e + k e ≤ dst x) p (rises (e' - suc e) e)
 
     first-block : (m i : ℕ) (b : List Float) (j : ℕ) → j < k i → dst i + j < length b
-        → getD (eachOf m (suc i) block (block i b)) (dst i + j) nan ≡ getD a (src i + j) nan
+        → getD (repeatOf m (suc i) block (block i b)) (dst i + j) nan ≡ getD a (src i + j) nan
     first-block m i b j h hb =
         blocks-other m (suc i) (block i b) (dst i + j)
         (λ e l l' j' lj z. let g : dst i + k i ≤ dst e = apart i e (omega arith) in omega arith)
@@ -66,13 +66,13 @@ module _ (k src dst : ℕ → ℕ) (a : List Float) where
 
     -- what was moved
     pub blocks-at : (m i : ℕ) (b : List Float) (e j : ℕ) → i ≤ e → e < i + m → j < k e → dst e + j < length b
-        → getD (eachOf m i block b) (dst e + j) nan ≡ getD a (src e + j) nan
-    unfolding eachOf
+        → getD (repeatOf m i block b) (dst e + j) nan ≡ getD a (src e + j) nan
+    unfolding repeatOf
     blocks-at zero i b e j h h' hj hb = absurd (omega arith)
     blocks-at (suc m) i b e j h h' hj hb =
         ⊎-elim
         (λ z.
-        subst (λ (x : ℕ). j < k x → dst x + j < length b → getD (eachOf m (suc i) block (block i b)) (dst x + j) nan ≡ getD a (src x + j) nan) z
+        subst (λ (x : ℕ). j < k x → dst x + j < length b → getD (repeatOf m (suc i) block (block i b)) (dst x + j) nan ≡ getD a (src x + j) nan) z
         (first-block m i b j) hj hb)
         (λ z.
         let same : length (block i b) ≡ length b = move-length (k i) (src i) (dst i) a b in

@@ -9,11 +9,11 @@ use native.Mathlib.Omega.{arith}
 use lib.ListN.{getD, take, replicate}
 use lib.Ieee.{Float, nan}
 use borrow.Author.Tests.{eq-eqb, le-ltb}
-use Rattle.solver.specs.Each.{allOf}
+use Rattle.solver.specs.Repeat.{allOf}
 use Rattle.solver.specs.Closeness.{withinStateBound}
 use Rattle.solver.specs.Result.{ok, require}
 use Rattle.solver.specs.Chain.{outerSlot, elementWithin, nodesWithin}
-use Rattle.solver.specs.FastSolver.{atMost24, divisible, temperaturesOf, bounded, solve}
+use Rattle.solver.specs.FastSolver.{atMost24, allDivisorsValid, temperaturesOf, temperaturesValid, solve}
 use Rattle.solver.proofs.Laws.Result.{bind-ok, require-ok, ok-inj}
 use Rattle.solver.proofs.Laws.Tests.{and-true}
 use Rattle.zone.specs.declared.record.building_element.Coefficients.{Coefficients}
@@ -72,15 +72,15 @@ at-most-twice n = let h = at-most-24-le n in rw (le-ltb 24 (atMost24 n) h) refl
 -- an accepted step keeps the bound
 pub step-within : (c : Coefficients) (z : Zone) (t : List Float) (h : Conditions) (dt gains fraction ach : Float) (t′ : List Float)
     → calcTemperatures c z t h dt gains fraction ach ≡ ok t′ → Within (z .count) (zoneTwoNodes z) t′
-unfolding calcTemperatures solve bounded matrixA
+unfolding calcTemperatures solve temperaturesValid matrixA
 step-within c z t h dt gains fraction ach t′ e =
     let v = calcVentHeatTransferCoeff (z .volume) ach in
     let a = matrixA c z t h dt v in
     let b = vectorB c z t h dt gains fraction v in
-    let twelve = bind-ok (require (divisible a) 12) _ t′ e in
-    let thirteen = bind-ok (require (bounded a (temperaturesOf a b)) 13) _ t′ (twelve .2) in
+    let twelve = bind-ok (require (allDivisorsValid a) 12) _ t′ e in
+    let thirteen = bind-ok (require (temperaturesValid a (temperaturesOf a b)) 13) _ t′ (twelve .2) in
     let held : nodesWithin (atMost24 (atMost24 (z .count))) (zoneTwoNodes z) (temperaturesOf a b) ≡ true =
-    require-ok (bounded a (temperaturesOf a b)) 13 0 (thirteen .0) (thirteen .1) in
+    require-ok (temperaturesValid a (temperaturesOf a b)) 13 0 (thirteen .0) (thirteen .1) in
     within (z .count) (zoneTwoNodes z) t′
     (subst (λ (u : List Float). nodesWithin (atMost24 (z .count)) (zoneTwoNodes z) u ≡ true) (ok-inj (thirteen .2))
     (subst (λ (n : ℕ). nodesWithin n (zoneTwoNodes z) (temperaturesOf a b) ≡ true) (at-most-twice (z .count)) held))

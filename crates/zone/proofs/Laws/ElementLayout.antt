@@ -6,7 +6,7 @@ use native.Mathlib.Omega.{arith}
 use borrow.Author.Tests.{leb-true}
 use lib.Dec.{leb}
 use Rattle.solver.proofs.Laws.Tests.{and-true}
-use Rattle.zone.specs.Format.Layout.{elementArrays, elementHourSize}
+use Rattle.zone.specs.Format.Layout.{floatSize, elementArrays, elementHourSize, fiveNodesSize, transparentSize}
 use Rattle.zone.specs.Record.BuildingElement.{isTwoNodes, numberOfNodes}
 use Rattle.zone.specs.Format.ElementLayout.{hCount, kindOf, maxTreatments, elementSize}
 use Rattle.zone.specs.Inner.Format.{kindValid}
@@ -18,7 +18,7 @@ pub record Shaped (size t kc hc : ℕ) : Type 0 where
   pub few-h : hc ≤ 4
   pub few-t : t ≤ 4
 
-shaped-by : (b : Bool) (t : ℕ) → t ≤ cond b 4 0 → Shaped (cond b (123 + 8 * t) 171) t (cond b 2 5) (cond b 1 4)
+shaped-by : (b : Bool) (t : ℕ) → t ≤ cond b 4 0 → Shaped (cond b (transparentSize + floatSize * t) fiveNodesSize) t (cond b 2 5) (cond b 1 4)
 shaped-by true t e = record { sized = omega arith; few-k = omega arith; few-h = omega arith; few-t = e }
 shaped-by false t e = record { sized = omega arith; few-k = omega arith; few-h = omega arith; few-t = omega arith }
 

@@ -1,31 +1,23 @@
 -- The ways out of the functions of arguments.rt, update.rt and hour_step.rt.
 use mathlib.Core.Path.{_≡_, refl, sym, ap, _∙_}
 use mathlib.Core.Bool.{Bool, true, false, _&&_}
-use mathlib.Core.List.{List}
+use mathlib.Core.List.{List, []}
 use Prim.Native.Nat.{ℕ}
-use lib.ListN.{take}
-use lib.Dec.{eqb}
 use lib.Ieee.{Float}
 use Rattle.solver.specs.F64.{_+ᶠ_}
 use Rattle.solver.specs.Result.{Result, ok, refused, bind}
-use Rattle.solver.specs.declared.system.Solved.{Solved}
 use Rattle.zone.specs.declared.record.building_element.Coefficients.{Coefficients}
 use Rattle.zone.specs.declared.record.zone_record.Zone.{Zone}
 use Rattle.zone.specs.declared.record.zone_record.Verdict.{Verdict}
 use Rattle.zone.specs.declared.record.zone_record.Verdict.the-variants as Verdict
 use Rattle.zone.specs.declared.format.conditions.Conditions.{Conditions}
-use Rattle.zone.specs.declared.format.conditions.HourConditions.{HourConditions}
-use Rattle.zone.specs.Record.BuildingElement.{standardCoefficients, nodeCount}
+use Rattle.zone.specs.declared.format.conditions.HourFront.{HourFront}
+use Rattle.zone.specs.declared.record.building_element.ElementHour.{ElementHour}
+use Rattle.zone.specs.Record.BuildingElement.{standardCoefficients}
 use Rattle.zone.specs.Record.Numbers.{conditionsValue}
 use Rattle.zone.specs.Check.Ranges.{gainsRange, fractionRange, rateRange}
-use Rattle.zone.specs.Check.ZoneTest.{zoneTest, verdictOf}
-use Rattle.zone.specs.Format.Conditions.{conditionsOf}
-use Rattle.zone.specs.Inner.Format.{conditionsAnswer}
-use Rattle.zone.proofs.Laws.Ranges.{verdict-accepted, verdict-refused}
 use Rattle.zone.specs.declared.physics.balance.HeatBalance.{HeatBalance}
-use Rattle.zone.specs.Physics.CalcTemperatures.{calcTemperatures}
 use Rattle.zone.specs.Physics.HeatBalance.{heatBalance}
-use Rattle.zone.specs.Inner.Assembled.{solvedOrBefore}
 use Rattle.zone.specs.declared.calls.state.State.{State}
 use Rattle.zone.specs.declared.calls.state.Demand.{Demand}
 use Rattle.zone.specs.declared.calls.state.DemandAnswer.{DemandAnswer}
@@ -35,14 +27,18 @@ use Rattle.zone.specs.declared.calls.state.HourAnswer.the-variants as Ho
 use Rattle.zone.specs.declared.calls.state.DemandReply.{DemandReply}
 use Rattle.zone.specs.declared.calls.state.UpdateReply.{UpdateReply}
 use Rattle.zone.specs.declared.calls.state.HourStepReply.{HourStepReply}
-use Rattle.zone.specs.Calls.State.{allWithinStateBound, stateTest, zoneAndStateTest, slotsOf, stateOf}
+use Rattle.zone.specs.Calls.State.{slotsOf, stateOf}
 use Rattle.zone.specs.Hour.Demand.{deltaT, gainsHeatCool, temperaturesWith, spaceHeatCoolDemand}
-use Rattle.zone.specs.Calls.Hour.{tested, step, updateTemperatures, demand, delivered, convectiveShare, HourResult, hourStep}
+use Rattle.zone.specs.Calls.Hour.{testedHour, tested, step, updateTemperatures, demand, delivered, convectiveShare, HourResult, hourStep}
+use Rattle.zone.specs.Inner.NextHour.{nextHour}
 use Rattle.zone.specs.declared.hour.hour.Meeting.the-variants.{NotMet, WithGains}
-use Rattle.zone.specs.Inner.Hour.{answerWith, hourSolved}
+use Rattle.zone.specs.declared.hour.hour.Asked.the-variants as Asked
+use Rattle.zone.specs.Inner.Lent.{hourOf}
+use Rattle.zone.specs.Inner.Demand.{answerWith}
+use Rattle.zone.specs.Inner.Hour.{demandSolved, updateSolved, hourSolved}
 use Rattle.zone.specs.Calls.Answers.{demandReply, updateReply, hourStepReply}
-use Rattle.zone.specs.Inner.Solves.{verdictRes}
-use Rattle.zone.proofs.Laws.SolveRefusals.{calc-refused, calc-ok}
+use Rattle.zone.specs.Inner.NextHour.{nextHourReply}
+use Rattle.zone.specs.Inner.Verdict.{verdictRes}
 
 -- a verdict with its value
 module _ {A : Type 0} (v : Verdict) (x : A) (r : Result A) (e : verdictRes v x ≡ r) where
@@ -55,9 +51,9 @@ module _ {A : Type 0} (v : Verdict) (x : A) (r : Result A) (e : verdictRes v x �
 -- ---- the hour, solved
 
 -- the demand, where nothing is met
-demand-solved : (z : Zone) (t : List Float) (h : Conditions) (before after : List Float) (a : DemandAnswer) → answerWith a after ≡ hourSolved z t h NotMet before
+demand-solved : (z : Zone) (t : List Float) (h : Conditions) (before after : List Float) (a : DemandAnswer) → answerWith a after ≡ hourSolved z t h (Asked.Demand NotMet) before
     → spaceHeatCoolDemand standardCoefficients z t h ≡ bind (answerWith a after) λ u. ok (u .0)
-unfolding hourSolved
+unfolding demandSolved
 demand-solved z t h before after a e = rw e (go (spaceHeatCoolDemand standardCoefficients z t h))
   where
     go : (x : Result Demand) → x ≡ bind {A = Demand × List Float} (bind x λ d. ok (d, before)) λ u. ok (u .0)
@@ -77,50 +73,49 @@ stepped z t h u =
     ok (record { demand = d; state = stateOf z (u .1); balance = heatBalance standardCoefficients z t h (deltaT h) g (convectiveShare h w g) (d .«ach_cooling») (u .1) })
 
 module _ (z : Zone) (s : State) (bytes : List ℕ) (h : Conditions) (read : tested z s bytes ≡ ok h) (t : List Float) (t-is : t ≡ slotsOf z s) (before : List Float) where
-  hour-solved : hourStep standardCoefficients z s bytes ≡ bind (hourSolved z t h WithGains before) (stepped z t h)
-  unfolding hourStep step hourSolved
+  hour-solved : hourStep standardCoefficients z s bytes ≡ bind (hourSolved z t h (Asked.Demand WithGains) before) (stepped z t h)
+  unfolding hourStep step demandSolved
   hour-solved = go (spaceHeatCoolDemand standardCoefficients z t h) refl
     where
       last : (d : Demand) → spaceHeatCoolDemand standardCoefficients z t h ≡ ok d → (y : Result (List Float))
           → temperaturesWith standardCoefficients z t h (gainsHeatCool h +ᶠ delivered h d) (convectiveShare h (delivered h d) (gainsHeatCool h +ᶠ delivered h d)) (d .«ach_cooling») ≡ y
-          → hourStep standardCoefficients z s bytes ≡ bind (hourSolved z t h WithGains before) (stepped z t h)
+          → hourStep standardCoefficients z s bytes ≡ bind (hourSolved z t h (Asked.Demand WithGains) before) (stepped z t h)
       last d p (ok after) q = rw (read, ← t-is, p, q) refl
       last d p (refused n i) q = rw (read, ← t-is, p, q) refl
 
-      go : (x : Result Demand) → spaceHeatCoolDemand standardCoefficients z t h ≡ x → hourStep standardCoefficients z s bytes ≡ bind (hourSolved z t h WithGains before) (stepped z t h)
+      go : (x : Result Demand) → spaceHeatCoolDemand standardCoefficients z t h ≡ x → hourStep standardCoefficients z s bytes ≡ bind (hourSolved z t h (Asked.Demand WithGains) before) (stepped z t h)
       go (ok d) p = last d p _ refl
       go (refused n i) p = rw (read, ← t-is, p) refl
+
+-- the same without the heat balance
+module _ (z : Zone) (s : State) (bytes : List ℕ) (h : Conditions) (read : testedHour z s bytes ≡ ok h) (t : List Float) (t-is : t ≡ slotsOf z s) (before : List Float) where
+  next-solved : nextHour standardCoefficients z s bytes ≡ bind (hourSolved z t h (Asked.Demand WithGains) before) λ u. ok (u .0, stateOf z (u .1))
+  unfolding nextHour demandSolved
+  next-solved = go (spaceHeatCoolDemand standardCoefficients z t h) refl
+    where
+      last : (d : Demand) → spaceHeatCoolDemand standardCoefficients z t h ≡ ok d → (y : Result (List Float))
+          → temperaturesWith standardCoefficients z t h (gainsHeatCool h +ᶠ delivered h d) (convectiveShare h (delivered h d) (gainsHeatCool h +ᶠ delivered h d)) (d .«ach_cooling») ≡ y
+          → nextHour standardCoefficients z s bytes ≡ bind (hourSolved z t h (Asked.Demand WithGains) before) λ u. ok (u .0, stateOf z (u .1))
+      last d p (ok after) q = rw (read, ← t-is, p, q) refl
+      last d p (refused n i) q = rw (read, ← t-is, p, q) refl
+
+      go : (x : Result Demand) → spaceHeatCoolDemand standardCoefficients z t h ≡ x → nextHour standardCoefficients z s bytes ≡ bind (hourSolved z t h (Asked.Demand WithGains) before) λ u. ok (u .0, stateOf z (u .1))
+      go (ok d) p = last d p _ refl
+      go (refused n i) p = rw (read, ← t-is, p) refl
+
+-- ---- what reads the front alone
+
+pub front-delivered : (h : HourFront) (hours : List ElementHour) (d : Demand) → delivered (hourOf h []) d ≡ delivered (hourOf h hours) d
+unfolding delivered
+front-delivered h hours d = refl
+
+pub front-share : (h : HourFront) (hours : List ElementHour) (w g : Float) → convectiveShare (hourOf h []) w g ≡ convectiveShare (hourOf h hours) w g
+unfolding convectiveShare
+front-share h hours w g = refl
 
 -- ---- the tests
 
 module _ (z : Zone) (s : State) where
-  module _ (v : Verdict) (zone : v ≡ verdictOf (zoneTest z)) where
-    pub zone-refused : (n i : ℕ) → v ≡ Verdict.Refused n i → Verdict.Refused n i ≡ verdictOf (zoneAndStateTest z s)
-    unfolding zoneAndStateTest
-    zone-refused n i e = let w : zoneTest z ≡ refused n i = verdict-refused (zoneTest z) n i (sym zone ∙ e) in rw w refl
-
-    module _ (good : v ≡ Verdict.Accepted) (test : Bool) (state : test ≡ (eqb (s .nodes) (nodeCount z) && allWithinStateBound (take (s .nodes) (s .temps)))) where
-      pub state-accepted : test ≡ true → Verdict.Accepted ≡ verdictOf (zoneAndStateTest z s)
-      unfolding zoneAndStateTest stateTest
-      state-accepted k = rw (verdict-accepted (zoneTest z) (sym zone ∙ good), ← state, k) refl
-
-      pub state-6 : test ≡ false → Verdict.Refused 6 0 ≡ verdictOf (zoneAndStateTest z s)
-      unfolding zoneAndStateTest stateTest
-      state-6 k = rw (verdict-accepted (zoneTest z) (sym zone ∙ good), ← state, k) refl
-
-  module _ (bytes : List ℕ) (v : Verdict) (before : v ≡ verdictOf (zoneAndStateTest z s)) where
-    pub tested-refused : (n i : ℕ) → v ≡ Verdict.Refused n i → refused n i ≡ tested z s bytes
-    unfolding tested
-    tested-refused n i e = let w : zoneAndStateTest z s ≡ refused n i = verdict-refused (zoneAndStateTest z s) n i (sym before ∙ e) in rw w refl
-
-    pub tested-read : (r : HourConditions) → v ≡ Verdict.Accepted → r ≡ conditionsAnswer (conditionsOf z bytes) → verdictRes (r .verdict) (r .conditions) ≡ tested z s bytes
-    unfolding tested
-    tested-read r e p = rw (verdict-accepted (zoneAndStateTest z s) (sym before ∙ e), p) (go (conditionsOf z bytes))
-      where
-        go : (x : Result Conditions) → verdictRes (conditionsAnswer x .verdict) (conditionsAnswer x .conditions) ≡ x
-        go (ok h) = refl
-        go (refused n i) = refl
-
   -- what the tests let through, and what not
   module _ (bytes : List ℕ) (v : Verdict) (h : Conditions) (read : verdictRes v h ≡ tested z s bytes) where
     pub update-refused : (gains fraction ach : Float) (n i : ℕ) (r : UpdateReply) → v ≡ Verdict.Refused n i → r ≡ updateReply s (refused n i)
@@ -143,7 +138,7 @@ module _ (z : Zone) (s : State) where
     asked-refused n i r e p = rw (res-refused v h (tested z s bytes) read n i e) p
 
     pub asked-accepted : v ≡ Verdict.Accepted → (t before after : List Float) (a : DemandAnswer) → t ≡ slotsOf z s
-        → answerWith a after ≡ hourSolved z t h NotMet before → record { answer = a; state = s } ≡ demandReply s (demand standardCoefficients z s bytes)
+        → answerWith a after ≡ hourSolved z t h (Asked.Demand NotMet) before → record { answer = a; state = s } ≡ demandReply s (demand standardCoefficients z s bytes)
     unfolding demand
     asked-accepted e t before after a t-is solved = rw (res-accepted v h (tested z s bytes) read e, ← t-is, demand-solved z t h before after a solved) (demanded-is s after a)
 
@@ -151,28 +146,55 @@ module _ (z : Zone) (s : State) where
     unfolding hourStep
     hour-refused n i r e p = rw (res-refused v h (tested z s bytes) read n i e) p
 
-    module _ (good : v ≡ Verdict.Accepted) (t before after : List Float) (t-is : t ≡ slotsOf z s) (a : DemandAnswer) (solved : answerWith a after ≡ hourSolved z t h WithGains before) where
+    module _ (good : v ≡ Verdict.Accepted) (t before after : List Float) (t-is : t ≡ slotsOf z s) (a : DemandAnswer) (solved : answerWith a after ≡ hourSolved z t h (Asked.Demand WithGains) before) where
       pub hour-not-met : (n i : ℕ) (r : HourStepReply) → a ≡ DemandAnswer.Refused n i → r ≡ hourStepReply s (refused n i) → r ≡ hourStepReply s (hourStep standardCoefficients z s bytes)
       hour-not-met n i r e p = rw (hour-solved z s bytes h (res-accepted v h (tested z s bytes) read good) t t-is before, ← solved, e) p
 
-      pub hour-met : (d : Demand) → a ≡ DemandAnswer.Accepted d → (w g share : Float) → w ≡ delivered h d → g ≡ gainsHeatCool h +ᶠ w → share ≡ convectiveShare h w g
-          → (c : Coefficients) (dt : Float) (balance : HeatBalance) (state : State) → c ≡ standardCoefficients → dt ≡ deltaT h
-          → balance ≡ heatBalance c z t h dt g share (d .«ach_cooling») after → state ≡ stateOf z after
-          → record { answer = HourAnswer.Accepted d balance; state = state } ≡ hourStepReply s (hourStep standardCoefficients z s bytes)
-      hour-met d e w g share w-is g-is share-is c dt balance state c-is dt-is p q =
-          rw (hour-solved z s bytes h (res-accepted v h (tested z s bytes) read good) t t-is before, ← solved, e, ← w-is, ← g-is, ← share-is, p, q, c-is, dt-is) refl
+-- with the front of the conditions, from which the load is worked out
+module _ (z : Zone) (s : State) (bytes : List ℕ) (v : Verdict) (hf : HourFront) (hours : List ElementHour) (read : verdictRes v (hourOf hf hours) ≡ tested z s bytes)
+    (good : v ≡ Verdict.Accepted) (t before after : List Float) (t-is : t ≡ slotsOf z s) (a : DemandAnswer)
+    (solved : answerWith a after ≡ hourSolved z t (hourOf hf hours) (Asked.Demand WithGains) before) where
+  pub hour-met : (d : Demand) → a ≡ DemandAnswer.Accepted d → (w g share : Float) → w ≡ delivered (hourOf hf []) d → g ≡ gainsHeatCool (hourOf hf []) +ᶠ w → share ≡ convectiveShare (hourOf hf []) w g
+      → (c : Coefficients) (dt : Float) (balance : HeatBalance) (state : State) → c ≡ standardCoefficients → dt ≡ deltaT (hourOf hf [])
+      → balance ≡ heatBalance c z t (hourOf hf hours) dt g share (d .«ach_cooling») after → state ≡ stateOf z after
+      → record { answer = HourAnswer.Accepted d balance; state = state } ≡ hourStepReply s (hourStep standardCoefficients z s bytes)
+  hour-met d e w g share w-is g-is share-is c dt balance state c-is dt-is p q =
+      rw (hour-solved z s bytes (hourOf hf hours) (res-accepted v (hourOf hf hours) (tested z s bytes) read good) t t-is before, ← solved, e, ← front-delivered hf hours d, ← w-is, ← g-is, ← front-share hf hours w g, ← share-is, p, q, c-is, dt-is) refl
+
+-- an hour of a zone that is tested
+module _ (z : Zone) (s : State) (bytes : List ℕ) (v : Verdict) (h : Conditions) (read : verdictRes v h ≡ testedHour z s bytes) where
+  pub next-refused : (n i : ℕ) (r : DemandReply) → v ≡ Verdict.Refused n i → r ≡ demandReply s (refused n i) → r ≡ nextHourReply s (nextHour standardCoefficients z s bytes)
+  unfolding nextHour
+  next-refused n i r e p = rw (res-refused v h (testedHour z s bytes) read n i e) p
+
+  module _ (good : v ≡ Verdict.Accepted) (t before after : List Float) (t-is : t ≡ slotsOf z s) (a : DemandAnswer) (solved : answerWith a after ≡ hourSolved z t h (Asked.Demand WithGains) before) where
+    pub next-not-met : (n i : ℕ) (r : DemandReply) → a ≡ DemandAnswer.Refused n i → r ≡ demandReply s (refused n i) → r ≡ nextHourReply s (nextHour standardCoefficients z s bytes)
+    next-not-met n i r e p = rw (next-solved z s bytes h (res-accepted v h (testedHour z s bytes) read good) t t-is before, ← solved, e) p
+
+    pub next-met : (d : Demand) (state : State) → a ≡ DemandAnswer.Accepted d → state ≡ stateOf z after
+        → record { answer = DemandAnswer.Accepted d; state = state } ≡ nextHourReply s (nextHour standardCoefficients z s bytes)
+    next-met d state e q = rw (next-solved z s bytes h (res-accepted v h (testedHour z s bytes) read good) t t-is before, ← solved, e, q) refl
 
 -- ---- one time step
 
-module _ (z : Zone) (s : State) (h : Conditions) (gains fraction ach : Float) where
-  module _ (c : Coefficients) (c-is : c ≡ standardCoefficients) (t : List Float) (t-is : t ≡ slotsOf z s) (dt : Float) (dt-is : dt ≡ deltaT h)
-      (r : Solved) (after : r ≡ solvedOrBefore t (calcTemperatures c z t h dt gains fraction ach)) where
-    pub step-refused : (a : UpdateReply) → (r .number ≡ 0 → ⊥) → a ≡ updateReply s (refused (r .number) 0) → a ≡ updateReply s (step standardCoefficients z s h gains fraction ach)
-    unfolding step
-    step-refused a k p = rw (← c-is, ← t-is, ← dt-is, calc-refused c z t h dt gains fraction ach r after k) p
+module _ (z : Zone) (s : State) (hf : HourFront) (hours : List ElementHour) (gains fraction ach : Float) where
+  step-solved : (t before : List Float) → t ≡ slotsOf z s
+      → step standardCoefficients z s (hourOf hf hours) gains fraction ach
+      ≡ bind {B = State × HeatBalance} (hourSolved z t (hourOf hf hours) (Asked.Update gains fraction ach) before) λ u. ok (stateOf z (u .1), heatBalance standardCoefficients z t (hourOf hf hours) (deltaT (hourOf hf hours)) gains fraction ach (u .1))
+  unfolding step updateSolved
+  step-solved t before t-is = rw (← t-is) (go (temperaturesWith standardCoefficients z t (hourOf hf hours) gains fraction ach) refl)
+    where
+      go : (y : Result (List Float)) → temperaturesWith standardCoefficients z t (hourOf hf hours) gains fraction ach ≡ y
+          → (bind {B = State × HeatBalance} (temperaturesWith standardCoefficients z t (hourOf hf hours) gains fraction ach) λ u. ok (stateOf z u, heatBalance standardCoefficients z t (hourOf hf hours) (deltaT (hourOf hf hours)) gains fraction ach u))
+          ≡ bind {B = State × HeatBalance} (hourSolved z t (hourOf hf hours) (Asked.Update gains fraction ach) before) λ u. ok (stateOf z (u .1), heatBalance standardCoefficients z t (hourOf hf hours) (deltaT (hourOf hf hours)) gains fraction ach (u .1))
+      go (ok after) q = rw q refl
+      go (refused n i) q = rw q refl
 
-    pub step-ok : (balance : HeatBalance) (state : State) → r .number ≡ 0
-        → balance ≡ heatBalance c z t h dt gains fraction ach (r .temps) → state ≡ stateOf z (r .temps)
-        → record { answer = UpdateAnswer.Accepted balance; state = state } ≡ updateReply s (step standardCoefficients z s h gains fraction ach)
-    unfolding step
-    step-ok balance state k p q = rw (← c-is, ← t-is, ← dt-is, calc-ok c z t h dt gains fraction ach r after k, p, q) refl
+  module _ (t before after : List Float) (t-is : t ≡ slotsOf z s) (a : DemandAnswer) (solved : answerWith a after ≡ hourSolved z t (hourOf hf hours) (Asked.Update gains fraction ach) before) where
+    pub step-refused : (n i : ℕ) (r : UpdateReply) → a ≡ DemandAnswer.Refused n i → r ≡ updateReply s (refused n i) → r ≡ updateReply s (step standardCoefficients z s (hourOf hf hours) gains fraction ach)
+    step-refused n i r e p = rw (step-solved t before t-is, ← solved, e) p
+
+    pub step-ok : (d : Demand) → a ≡ DemandAnswer.Accepted d → (c : Coefficients) (dt : Float) (balance : HeatBalance) (state : State) → c ≡ standardCoefficients → dt ≡ deltaT (hourOf hf [])
+        → balance ≡ heatBalance c z t (hourOf hf hours) dt gains fraction ach after → state ≡ stateOf z after
+        → record { answer = UpdateAnswer.Accepted balance; state = state } ≡ updateReply s (step standardCoefficients z s (hourOf hf hours) gains fraction ach)
+    step-ok d e c dt balance state c-is dt-is p q = rw (step-solved t before t-is, ← solved, e, p, q, c-is, dt-is) refl

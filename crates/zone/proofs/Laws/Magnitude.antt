@@ -10,7 +10,7 @@ use lib.Ieee.{Float, nan, inf, fin, binary64, prec, low, emax, up, down, unlike,
 use lib.Ieee.Fits.{down-pos}
 use lib.Ieee.Order.{round-mono}
 use borrow.Author.Tests.{ltb-true, lt-ltb, eqb-true}
-use Rattle.solver.specs.F64.{_+ᶠ_, _/ᶠ_, dec}
+use Rattle.solver.specs.F64.{_+ᶠ_, _/ᶠ_, decimal}
 use Rattle.solver.specs.Closeness.{withinStateBound}
 use Rattle.solver.proofs.Laws.Tests.{and-true}
 use Rattle.zone.specs.Check.Ranges.{temperatureRange, heatingSetpointRange}
@@ -143,7 +143,7 @@ half-size (fin s m e) p = let l = down-pos e in round-size (unlike s false) (m *
 -- ---- ranges
 
 in-state : (x : Float) → AtMost 1024 x → withinStateBound x ≡ true
-unfolding withinStateBound dec round le lt eq neg
+unfolding withinStateBound decimal round le lt eq neg
 in-state nan p = absurd p
 in-state (inf s) p = absurd p
 in-state (fin false m e) p =
@@ -176,11 +176,11 @@ range-size n d n′ d′ l h (fin false m e) p q = under (m * up e) (n′ * up d
 range-size n d n′ d′ l h (fin true m e) p q = under (m * up e) (n * up d) (down d) (down e) (down-pos d) l (or-ge (n * up d * down e) (m * up e * down d) _ p)
 
 -- a mean of a temperature and a first set temperature
-pub mean-within : (x y : Float) → temperatureRange x ≡ true → heatingSetpointRange y ≡ true → withinStateBound ((x +ᶠ y) /ᶠ dec 2 0) ≡ true
-unfolding temperatureRange heatingSetpointRange dec round neg
+pub mean-within : (x y : Float) → temperatureRange x ≡ true → heatingSetpointRange y ≡ true → withinStateBound ((x +ᶠ y) /ᶠ decimal 2 0) ≡ true
+unfolding temperatureRange heatingSetpointRange decimal round neg
 mean-within x y p q =
-    let a = and-true (le (neg (dec 100 0)) x) (le x (dec 100 0)) p in
-    let b = and-true (le (neg (dec 27315 2)) y) (le y (dec 100 0)) q in
+    let a = and-true (le (neg (decimal 100 0)) x) (le x (decimal 100 0)) p in
+    let b = and-true (le (neg (decimal 27315 2)) y) (le y (decimal 100 0)) q in
     in-state ((x +ᶠ y) /ᶠ fin false 1 (pos 1))
     (half-size (x +ᶠ y)
     (add-size x y

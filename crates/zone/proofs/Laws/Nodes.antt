@@ -13,7 +13,7 @@ use lib.Seq.{getD-set-same, getD-set-other, ext-getD}
 use lib.Ieee.{Float, nan}
 use borrow.Author.Tests.{ltb-true, ltb-false}
 use Rattle.solver.specs.F64.{zero64}
-use Rattle.solver.specs.Each.{each}
+use Rattle.solver.specs.Repeat.{repeat}
 use Rattle.solver.specs.Chain.{outerSlot}
 use Rattle.solver.specs.FastSolver.{atMost24}
 use Rattle.zone.specs.Physics.NodeLayout.{nodesAt, firstNode, toSlotsAt, toNodesAt, toSlots, toNodes}
@@ -102,7 +102,7 @@ module _ (twoNodes : List Bool) where
         let n = atMost24 count in
         let small = at-most-24-le count in
         let k = slot-le e in
-        let all = each 0 n (toSlotsAt twoNodes t) (replicate 121 zero64) in
+        let all = repeat 0 n (toSlotsAt twoNodes t) (replicate 121 zero64) in
         getD-set-other all 120 (outerSlot twoNodes e + j) (getD t (firstNode twoNodes n) nan) nan (λ z. omega arith)
         ∙ blocks-at (nodesAt twoNodes) (firstNode twoNodes) (outerSlot twoNodes) t slots-up (n - 0) 0 (replicate 121 zero64) e j
         (omega arith) (omega arith) hj (simp length-replicate (omega arith))
@@ -111,9 +111,9 @@ module _ (twoNodes : List Bool) where
     unfolding toSlots
     to-slots-air t =
         let n = atMost24 count in
-        let same : length (each 0 n (toSlotsAt twoNodes t) (replicate 121 zero64)) ≡ 121 =
+        let same : length (repeat 0 n (toSlotsAt twoNodes t) (replicate 121 zero64)) ≡ 121 =
         blocks-length (nodesAt twoNodes) (firstNode twoNodes) (outerSlot twoNodes) t (n - 0) 0 (replicate 121 zero64) ∙ length-replicate 121 zero64 in
-        getD-set-same (each 0 n (toSlotsAt twoNodes t) (replicate 121 zero64)) 120 (getD t (firstNode twoNodes n) nan) nan (omega arith)
+        getD-set-same (repeat 0 n (toSlotsAt twoNodes t) (replicate 121 zero64)) 120 (getD t (firstNode twoNodes n) nan) nan (omega arith)
 
     -- and back
     pub to-nodes-at : (s : List Float) (e j : ℕ) → e < atMost24 count → j < nodesAt twoNodes e
@@ -126,11 +126,11 @@ module _ (twoNodes : List Bool) where
         let f = first-le e in
         let before : firstNode twoNodes e + nodesAt twoNodes e ≤ firstNode twoNodes n =
         apart (nodesAt twoNodes) (outerSlot twoNodes) (firstNode twoNodes) s nodes-up e n he in
-        getD-set-other (each 0 n (toNodesAt twoNodes s) (replicate 121 zero64)) (firstNode twoNodes n) (firstNode twoNodes e + j) (getD s 120 nan) nan (λ z. omega arith)
+        getD-set-other (repeat 0 n (toNodesAt twoNodes s) (replicate 121 zero64)) (firstNode twoNodes n) (firstNode twoNodes e + j) (getD s 120 nan) nan (λ z. omega arith)
         ∙ blocks-at (nodesAt twoNodes) (outerSlot twoNodes) (firstNode twoNodes) s nodes-up (n - 0) 0 (replicate 121 zero64) e j
         (omega arith) (omega arith) hj (simp length-replicate (omega arith))
 
-    nodes-length : (s : List Float) → length (each 0 (atMost24 count) (toNodesAt twoNodes s) (replicate 121 zero64)) ≡ 121
+    nodes-length : (s : List Float) → length (repeat 0 (atMost24 count) (toNodesAt twoNodes s) (replicate 121 zero64)) ≡ 121
     nodes-length s =
         blocks-length (nodesAt twoNodes) (outerSlot twoNodes) (firstNode twoNodes) s (atMost24 count - 0) 0 (replicate 121 zero64)
         ∙ length-replicate 121 zero64
@@ -142,7 +142,7 @@ module _ (twoNodes : List Bool) where
         let small = at-most-24-le count in
         let f = first-le n in
         let same = nodes-length s in
-        getD-set-same (each 0 n (toNodesAt twoNodes s) (replicate 121 zero64)) (firstNode twoNodes n) (getD s 120 nan) nan (omega arith)
+        getD-set-same (repeat 0 n (toNodesAt twoNodes s) (replicate 121 zero64)) (firstNode twoNodes n) (getD s 120 nan) nan (omega arith)
 
     pub to-nodes-length : (s : List Float) → length (toNodes count twoNodes s) ≡ 121
     unfolding toNodes
@@ -153,7 +153,7 @@ module _ (twoNodes : List Bool) where
     unfolding toNodes
     to-nodes-behind s q h hq =
         let n = atMost24 count in
-        getD-set-other (each 0 n (toNodesAt twoNodes s) (replicate 121 zero64)) (firstNode twoNodes n) q (getD s 120 nan) nan (λ z. omega arith)
+        getD-set-other (repeat 0 n (toNodesAt twoNodes s) (replicate 121 zero64)) (firstNode twoNodes n) q (getD s 120 nan) nan (λ z. omega arith)
         ∙ blocks-other (nodesAt twoNodes) (outerSlot twoNodes) (firstNode twoNodes) s (n - 0) 0 (replicate 121 zero64) q
         (λ e l l' j hj z.
         let before : firstNode twoNodes e + nodesAt twoNodes e ≤ firstNode twoNodes n =

@@ -11,11 +11,11 @@ use lib.ListN.{take}
 use lib.Ieee.{Float, nan, inf, fin, up, down, ne, lt}
 use Rattle.solver.specs.F64.{_-ᶠ_, zero64}
 use Rattle.solver.specs.Closeness.{closeInDemand}
-use Rattle.solver.specs.FastSolver.{divisible, temperaturesOf, bounded, solve}
+use Rattle.solver.specs.FastSolver.{allDivisorsValid, temperaturesOf, temperaturesValid, solve}
 use Rattle.solver.specs.Result.{Result, ok, bind, require, requireAt}
-use Rattle.solver.specs.Refusals.{RefusesOnly, accepts, refuses, SolveRefusal, divisor, temperature}
+use Rattle.solver.specs.Refusals.{RefusesOnly, accepts, refuses, SolveRefusal, solveDivisor, solveTemperature}
 use Rattle.solver.proofs.Laws.Signs.{never}
-use Rattle.solver.proofs.Laws.Refusals.{bind-refuses, require-refuses, refuses-also}
+use Rattle.solver.proofs.Laws.Refusals.{bind-refuses, require-refuses, refuses-also, test-refuses}
 use Rattle.zone.specs.declared.record.building_element.Coefficients.{Coefficients}
 use Rattle.zone.specs.declared.record.zone_record.Zone.{Zone}
 use Rattle.zone.specs.declared.format.conditions.Conditions.{Conditions}
@@ -30,10 +30,10 @@ use Rattle.zone.specs.declared.hour.windows.VentilationChoice.{Ventilati
 use Rattle.zone.specs.declared.hour.load.HeatCoolLoad.{HeatCoolLoad}
 use Rattle.zone.specs.declared.hour.load.HeatCoolLoad.the-variants.{NoLoad, Toward}
 use Rattle.zone.specs.Calls.State.{allWithinStateBound, stateTest, zoneAndStateTest, slotsOf}
-use Rattle.zone.specs.Calls.Hour.{tested, step}
+use Rattle.zone.specs.Calls.Hour.{testedHour, tested, step}
 use Rattle.zone.specs.Physics.Slots.{air}
 use Rattle.zone.specs.Hour.Demand.{deltaT, controlTemperature, achTarget, wanted, interpHeatCoolDemand, temperaturesWith, freeTemperatures, calcCoolingPotentialFromVentilation, demandForLoad, spaceHeatCoolDemand}
-use Rattle.zone.specs.Claims.Reasons.{stepMatrix, stepRightSide, SolveReason, divisorAt, temperatureAt, Tried, DemandSolve, atTarget, atOpen, between, loaded, DemandReason, coolingBelow, ventilationBelow, inSolve, withoutEffect}
+use Rattle.zone.specs.Claims.Reasons.{SetpointsPass, stepMatrix, stepRightSide, SolveReason, byDivisor, byTemperature, Tried, DemandSolve, atTarget, atOpen, between, loaded, DemandReason, byCoolingBelowHeating, byVentilationBelowHeating, inSolve, byNoEffect}
 use Rattle.zone.specs.Calls.StartUp.{startUpConditions, pass}
 
 module _ {P : ℕ → ℕ → Type 0} where
@@ -48,9 +48,10 @@ module _ {P : ℕ → ℕ → Type 0} where
   pub tested-refuses :
       ((n i : ℕ) → ZoneRefusal n i → P n i) → P 6 0 → ((n i : ℕ) → ConditionsRefusal n i → P n i)
       → (z : Zone) (s : State) (bytes : List ℕ) → RefusesOnly P (tested z s bytes)
-  unfolding tested
+  unfolding tested testedHour stateTest
   tested-refuses zone six conditions z s bytes =
-      bind-refuses _ (before-refuses zone six z s) λ _ _.
+      bind-refuses _ (refuses-also zone (zone-refusals z)) λ _ _.
+      test-refuses (eqb (s .nodes) (nodeCount z) && allWithinStateBound (take (s .nodes) (s .temps))) 6 0 _ six λ _.
       refuses-also conditions (conditions-refusals z bytes)
 
 -- a test that has to fail, and what comes after it, where it fails
@@ -82,53 +83,54 @@ unfolding calcTemperatures solve
 solve-reasons c z t h gains fraction ach =
     let a = stepMatrix c z t h ach in
     let b = stepRightSide c z t h gains fraction ach in
-    because (divisible a) 12 0 _ divisorAt λ d.
-    because (bounded a (temperaturesOf a b)) 13 0 _ (temperatureAt d) λ _.
+    because (allDivisorsValid a) 12 0 _ byDivisor λ d.
+    because (temperaturesValid a (temperaturesOf a b)) 13 0 _ (byTemperature d) λ _.
     accepts _
 
 module _ (c : Coefficients) (z : Zone) (t : List Float) (h : Conditions) where
-  solves : {gains fraction ach : Float} → DemandSolve c z t h gains fraction ach → RefusesOnly (DemandReason c z t h) (temperaturesWith c z t h gains fraction ach)
-  solves {gains} {fraction} {ach} s = refuses-also (λ n i p. inSolve s p) (solve-reasons c z t h gains fraction ach)
+  solves : {gains fraction ach : Float} → SetpointsPass h → DemandSolve c z t h gains fraction ach → RefusesOnly (DemandReason c z t h) (temperaturesWith c z t h gains fraction ach)
+  solves {gains} {fraction} {ach} b s = refuses-also (λ n i p. inSolve b s p) (solve-reasons c z t h gains fraction ach)
 
-  potential-reasons : (free : List Float) (a : AirChangesPerHourArgument) → h .«ach_args» ≡ a → freeTemperatures c z t h (achTarget a) ≡ ok free
+  potential-reasons : SetpointsPass h → (free : List Float) (a : AirChangesPerHourArgument) → h .«ach_args» ≡ a → freeTemperatures c z t h (achTarget a) ≡ ok free
       → RefusesOnly (DemandReason c z t h) (calcCoolingPotentialFromVentilation c z t h free a)
   unfolding calcCoolingPotentialFromVentilation
-  potential-reasons free (Cooling ach) e f = accepts _
-  potential-reasons free (TargetAndWindowsOpen target windowsOpen) e f =
+  potential-reasons b free (Cooling ach) e f = accepts _
+  potential-reasons b free (TargetAndWindowsOpen target windowsOpen) e f =
       choice-refuses (ne windowsOpen target)
       (λ o.
-      bind-refuses _ (solves (atOpen e o)) λ ventMax v.
+      bind-refuses _ (solves b (atOpen e o f)) λ ventMax v.
       choice-refuses
       (lt (controlTemperature z ventMax) (controlTemperature z free) && lt (h .«temp_setpnt_cool_vent») (controlTemperature z free) && lt (h .«avg_air_supply_temp») (air free))
-      (λ u. bind-refuses _ (solves (between e o f v u)) λ extra _. accepts _) λ _. accepts _)
+      (λ u. bind-refuses _ (solves b (between e o f v u)) λ extra _. accepts _) λ _. accepts _)
       λ _. accepts _
 
-  towards-reasons : (free : List Float) (v : VentilationChoice) (w : HeatCoolLoad) → freeTemperatures c z t h (achTarget (h .«ach_args»)) ≡ ok free
+  towards-reasons : SetpointsPass h → (free : List Float) (v : VentilationChoice) (w : HeatCoolLoad) → freeTemperatures c z t h (achTarget (h .«ach_args»)) ≡ ok free
       → calcCoolingPotentialFromVentilation c z t h free (h .«ach_args») ≡ ok v → wanted (z .«useful_area») h (v .«temp_free») ≡ w
       → RefusesOnly (DemandReason c z t h) (demandForLoad c z t h v w)
   unfolding demandForLoad interpHeatCoolDemand
-  towards-reasons free v NoLoad f e w = accepts _
-  towards-reasons free v (Toward setpoint load fraction) f e w =
+  towards-reasons b free v NoLoad f e w = accepts _
+  towards-reasons b free v (Toward setpoint load fraction) f e w =
       let tried : Tried c z t h v setpoint load fraction = record { free = free; solved = f; chosen = e; towards = w } in
-      bind-refuses _ (solves (loaded tried)) λ upper u.
-      bind-refuses _ (unless-refuses (closeInDemand (controlTemperature z upper -ᶠ v .«temp_free») zero64) 14 _ (λ k. withoutEffect tried u k) λ _. accepts _) λ kWh _.
+      bind-refuses _ (solves b (loaded tried)) λ upper u.
+      bind-refuses _ (unless-refuses (closeInDemand (controlTemperature z upper -ᶠ v .«temp_free») zero64) 14 _ (λ k. byNoEffect b tried u k) λ _. accepts _) λ kWh _.
       accepts _
 
   pub demand-reasons : RefusesOnly (DemandReason c z t h) (spaceHeatCoolDemand c z t h)
   unfolding spaceHeatCoolDemand
   demand-reasons =
-      unless-refuses (lt (h .«temp_setpnt_cool») (h .«temp_setpnt_heat»)) 10 _ coolingBelow λ k.
-      unless-refuses (lt (h .«temp_setpnt_cool_vent») (h .«temp_setpnt_heat»)) 11 _ (ventilationBelow k) λ _.
-      bind-refuses _ (solves atTarget) λ free f.
-      bind-refuses _ (potential-reasons free (h .«ach_args») refl f) λ v e.
-      towards-reasons free v (wanted (z .«useful_area») h (v .«temp_free»)) f e refl
+      unless-refuses (lt (h .«temp_setpnt_cool») (h .«temp_setpnt_heat»)) 10 _ byCoolingBelowHeating λ k.
+      unless-refuses (lt (h .«temp_setpnt_cool_vent») (h .«temp_setpnt_heat»)) 11 _ (byVentilationBelowHeating k) λ l.
+      let b : SetpointsPass h = record { cooling = k; ventilation = l } in
+      bind-refuses _ (solves b atTarget) λ free f.
+      bind-refuses _ (potential-reasons b free (h .«ach_args») refl f) λ v e.
+      towards-reasons b free v (wanted (z .«useful_area») h (v .«temp_free»)) f e refl
 
 -- ---- which numbers
 
 module _ {P : ℕ → ℕ → Type 0} (by-solve : (n i : ℕ) → SolveRefusal n i → P n i) (c : Coefficients) (z : Zone) where
   solve-number : {t : List Float} {h : Conditions} {gains fraction ach : Float} (n i : ℕ) → SolveReason c z t h gains fraction ach n i → P n i
-  solve-number n i (divisorAt _) = by-solve 12 0 divisor
-  solve-number n i (temperatureAt _ _) = by-solve 13 0 temperature
+  solve-number n i (byDivisor _) = by-solve 12 0 solveDivisor
+  solve-number n i (byTemperature _ _) = by-solve 13 0 solveTemperature
 
   -- 10, where it can be, 11, then 12, 13, 14
   pub demand-refuses : (t : List Float) (h : Conditions) → P 14 0 → (lt (h .«temp_setpnt_cool») (h .«temp_setpnt_heat») ≡ true → P 10 0) → P 11 0
@@ -136,10 +138,10 @@ module _ {P : ℕ → ℕ → Type 0} (by-solve : (n i : ℕ) → SolveRefusal n
   demand-refuses t h fourteen ten eleven = refuses-also number (demand-reasons c z t h)
     where
       number : (n i : ℕ) → DemandReason c z t h n i → P n i
-      number n i (coolingBelow e) = ten e
-      number n i (ventilationBelow k e) = eleven
-      number n i (inSolve s p) = solve-number n i p
-      number n i (withoutEffect l e k) = fourteen
+      number n i (byCoolingBelowHeating e) = ten e
+      number n i (byVentilationBelowHeating k e) = eleven
+      number n i (inSolve b s p) = solve-number n i p
+      number n i (byNoEffect b l e k) = fourteen
 
   -- one time step
   pub step-refuses : (s : State) (h : Conditions) (gains fraction ach : Float) → RefusesOnly P (step c z s h gains fraction ach)

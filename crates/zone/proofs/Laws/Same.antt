@@ -7,7 +7,7 @@ use lib.ListN.{take, drop, length, getD, take-append-drop, length-drop}
 use lib.Seq.{take-append-le, drop-append-le, getD-take, length-take-le}
 use lib.Ieee.{binary64, ofBits}
 use Rattle.solver.specs.Result.{ok}
-use Rattle.zone.specs.Format.Layout.{countIn, firstElement, elementArrays, openByte, elementHourSize}
+use Rattle.zone.specs.Format.Layout.{basisAt, countAt, limitAt, limitSize, zoneFloats, countIn, firstElement, elementFloats, elementArrays, openByte, elementHourSize}
 use Rattle.zone.specs.Format.Bytes.{bigEndian, numAt, floatAt}
 use Rattle.zone.specs.Record.BuildingElement.{numberOfNodes}
 use Rattle.zone.specs.Format.ElementLayout.{hCount, kindOf, sizeAt, kindAt, treatmentsAt}
@@ -46,23 +46,23 @@ module _ (a b : List ℕ) (n : ℕ) (e : take n a ≡ take n b) (ha : n ≤ leng
   hour-same at h =
       rw (
         float-same at (omega arith),
-        float-same (at + 8) (omega arith),
-        float-same (at + 16) (omega arith),
-        float-same (at + 24) (omega arith),
-        float-same (at + 32) (omega arith),
+        float-same (at + 8 * 1) (omega arith),
+        float-same (at + 8 * 2) (omega arith),
+        float-same (at + 8 * 3) (omega arith),
+        float-same (at + 8 * 4) (omega arith),
         byte-same (at + openByte) (omega arith),
       )
 
   with-same : (p : ℕ) (kind : Kind) (t kc hc : ℕ) → p + (elementArrays + 8 * kc + 8 * hc + 8 * t + elementHourSize) ≤ n → elementWith a p kind t kc hc ≡ elementWith b p kind t kc hc
   with-same p kind t kc hc h =
       rw (
-        float-same (p + 2) (omega arith),
-        float-same (p + 10) (omega arith),
-        float-same (p + 18) (omega arith),
-        float-same (p + 26) (omega arith),
-        float-same (p + 34) (omega arith),
-        float-same (p + 42) (omega arith),
-        float-same (p + 50) (omega arith),
+        float-same (p + elementFloats) (omega arith),
+        float-same (p + (elementFloats + 8 * 1)) (omega arith),
+        float-same (p + (elementFloats + 8 * 2)) (omega arith),
+        float-same (p + (elementFloats + 8 * 3)) (omega arith),
+        float-same (p + (elementFloats + 8 * 4)) (omega arith),
+        float-same (p + (elementFloats + 8 * 5)) (omega arith),
+        float-same (p + (elementFloats + 8 * 6)) (omega arith),
         floats-same (p + elementArrays) kc (omega arith),
         floats-same (p + elementArrays + 8 * kc) hc (omega arith),
         floats-same (p + elementArrays + 8 * kc + 8 * hc) t (omega arith),
@@ -78,7 +78,7 @@ module _ (a b : List ℕ) (n : ℕ) (e : take n a ≡ take n b) (ha : n ≤ leng
       ∙ ap (λ (x : ℕ). elementWith b p (kindOf x) t (numberOfNodes (kindOf x)) (hCount (kindOf x))) (byte-same p (omega (arith, w .front)))
       ∙ ap (λ (x : ℕ). elementWith b p (kindAt b p) x (numberOfNodes (kindAt b p)) (hCount (kindAt b p))) (byte-same (p + 1) (omega (arith, w .front)))
 
-  size-same : (p : ℕ) → p + 2 ≤ n → sizeAt a p ≡ sizeAt b p
+  size-same : (p : ℕ) → p + elementFloats ≤ n → sizeAt a p ≡ sizeAt b p
   size-same p h = rw (byte-same p (omega arith), byte-same (p + 1) (omega arith))
 
   pub elements-same : (left i p q : ℕ) → elementsEnd a n left i p ≡ ok q → elementsAt a p left ≡ elementsAt b p left
@@ -93,13 +93,13 @@ module _ (a b : List ℕ) (n : ℕ) (e : take n a ≡ take n b) (ha : n ≤ leng
   zone-same h w =
       rw (
         elements-same (countIn a) 0 firstElement n w,
-        byte-same 5 (omega arith),
-        byte-same 6 (omega arith),
-        num-same 7 2 (omega arith),
-        float-same 9 (omega arith),
-        float-same 17 (omega arith),
-        float-same 25 (omega arith),
-        float-same 33 (omega arith),
-        float-same 41 (omega arith),
-        float-same 49 (omega arith),
+        byte-same basisAt (omega arith),
+        byte-same countAt (omega arith),
+        num-same limitAt limitSize (omega arith),
+        float-same zoneFloats (omega arith),
+        float-same (zoneFloats + 8 * 1) (omega arith),
+        float-same (zoneFloats + 8 * 2) (omega arith),
+        float-same (zoneFloats + 8 * 3) (omega arith),
+        float-same (zoneFloats + 8 * 4) (omega arith),
+        float-same (zoneFloats + 8 * 5) (omega arith),
       )

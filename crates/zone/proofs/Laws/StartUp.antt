@@ -6,7 +6,7 @@ use Prim.Native.Nat.{ℕ, _+_, _-_, _<_, _≤_}
 use native.Mathlib.Omega.{arith}
 use lib.ListN.{length, getD, set, take, drop, drop-of-length-le}
 use lib.Ieee.{Float, nan, lt}
-use Rattle.solver.specs.F64.{dec, zero64}
+use Rattle.solver.specs.F64.{decimal, zero64}
 use Rattle.solver.specs.Closeness as Closeness
 use Rattle.solver.specs.Result.{Result, ok, refused, bind, require}
 use Rattle.solver.proofs.Laws.Result.{bind-ok}
@@ -35,9 +35,11 @@ use Rattle.zone.specs.Hour.Demand.{achTarget, controlTemperature, freeTe
 use Rattle.zone.specs.Calls.Hour.{delivered}
 use Rattle.zone.specs.Calls.StartUp.{firstHour, startUpConditions, startState, allClose, close, pass, settle, initNodeTemps}
 use Rattle.zone.specs.Calls.Answers.{startUpReply}
-use Rattle.zone.specs.Inner.Solves.{verdictRes}
+use Rattle.zone.specs.Inner.Verdict.{verdictRes}
 use Rattle.zone.specs.declared.hour.hour.Meeting.the-variants.{Alone}
-use Rattle.zone.specs.Inner.Hour.{answerWith, hourSolved}
+use Rattle.zone.specs.declared.hour.hour.Asked.the-variants as Asked
+use Rattle.zone.specs.Inner.Demand.{answerWith}
+use Rattle.zone.specs.Inner.Hour.{demandSolved, hourSolved}
 use Rattle.zone.proofs.Laws.Demand.{towards-rate}
 use Rattle.zone.proofs.Laws.Hour.{res-accepted, res-refused}
 
@@ -100,23 +102,23 @@ start-rate : (z : Zone) (h : Conditions) → h ≡ startUpConditions z → h .«
 unfolding startUpConditions
 start-rate z h e = ap (λ (y : Conditions). y .«ach_args») e
 
-start-fraction : (z : Zone) (h : Conditions) → h ≡ startUpConditions z → h .«frac_convective_heat» ≡ dec 4 1
+start-fraction : (z : Zone) (h : Conditions) → h ≡ startUpConditions z → h .«frac_convective_heat» ≡ decimal 4 1
 unfolding startUpConditions
 start-fraction z h e = ap (λ (y : Conditions). y .«frac_convective_heat») e
 
 module _ (z : Zone) (t : List Float) (h : Conditions) (h-is : h ≡ startUpConditions z) (before : List Float) where
-  pass-solved : pass standardCoefficients z t ≡ bind (hourSolved z t h Alone before) λ u. ok (u .1)
-  unfolding pass hourSolved
+  pass-solved : pass standardCoefficients z t ≡ bind (hourSolved z t h (Asked.Demand Alone) before) λ u. ok (u .1)
+  unfolding pass demandSolved
   pass-solved = go (spaceHeatCoolDemand standardCoefficients z t h) refl
     where
       last : (d : Demand) → spaceHeatCoolDemand standardCoefficients z t h ≡ ok d → (y : Result (List Float))
-          → temperaturesWith standardCoefficients z t h (delivered h d) (dec 4 1) zero64 ≡ y
+          → temperaturesWith standardCoefficients z t h (delivered h d) (decimal 4 1) zero64 ≡ y
           → temperaturesWith standardCoefficients z t h (delivered h d) (h .«frac_convective_heat») (d .«ach_cooling») ≡ y
-          → pass standardCoefficients z t ≡ bind (hourSolved z t h Alone before) λ u. ok (u .1)
+          → pass standardCoefficients z t ≡ bind (hourSolved z t h (Asked.Demand Alone) before) λ u. ok (u .1)
       last d p (ok after) q r = rw (← h-is, p, q, r) refl
       last d p (refused n i) q r = rw (← h-is, p, q, r) refl
 
-      go : (x : Result Demand) → spaceHeatCoolDemand standardCoefficients z t h ≡ x → pass standardCoefficients z t ≡ bind (hourSolved z t h Alone before) λ u. ok (u .1)
+      go : (x : Result Demand) → spaceHeatCoolDemand standardCoefficients z t h ≡ x → pass standardCoefficients z t ≡ bind (hourSolved z t h (Asked.Demand Alone) before) λ u. ok (u .1)
       go (ok d) p =
           last d p _
           (ap (λ (f : Float). temperaturesWith standardCoefficients z t h (delivered h d) f zero64) (sym (start-fraction z h h-is))
@@ -124,7 +126,7 @@ module _ (z : Zone) (t : List Float) (h : Conditions) (h-is : h ≡ startUpCondi
           refl
       go (refused n i) p = rw (← h-is, p) refl
 
-  module _ (after : List Float) (a : DemandAnswer) (solved : answerWith a after ≡ hourSolved z t h Alone before) where
+  module _ (after : List Float) (a : DemandAnswer) (solved : answerWith a after ≡ hourSolved z t h (Asked.Demand Alone) before) where
     pub pass-refused : (n i : ℕ) → a ≡ DemandAnswer.Refused n i → refused n i ≡ pass standardCoefficients z t
     pass-refused n i e = rw (pass-solved, ← solved, e) refl
 
@@ -138,9 +140,9 @@ settle-start z limit t₀ t p = let e : limit - 0 ≡ limit = omega arith in rw 
 
 module _ (z : Zone) (limit : ℕ) (t₀ t : List Float) (passes : ℕ)
     (left : settle standardCoefficients z limit t₀ ≡ settle standardCoefficients z (limit - passes) t) where
-  pub settle-15 : (r : StartUp) → limit ≤ passes → r ≡ startUpReply (refused 15 0) → r ≡ startUpReply (bind (settle standardCoefficients z limit t₀) λ u. ok (stateOf z u))
+  pub settle-at-limit : (r : StartUp) → limit ≤ passes → r ≡ startUpReply (refused 15 0) → r ≡ startUpReply (bind (settle standardCoefficients z limit t₀) λ u. ok (stateOf z u))
   unfolding settle
-  settle-15 r h p = let e : limit - passes ≡ 0 = omega arith in rw (left, e) p
+  settle-at-limit r h p = let e : limit - passes ≡ 0 = omega arith in rw (left, e) p
 
   module _ (more : passes < limit) (v : Verdict) (after : List Float) (passed : verdictRes v after ≡ pass standardCoefficients z t) where
     pub settle-refused : (n i : ℕ) (r : StartUp) → v ≡ Verdict.Refused n i → r ≡ startUpReply (refused n i) → r ≡ startUpReply (bind (settle standardCoefficients z limit t₀) λ u. ok (stateOf z u))

@@ -14,8 +14,8 @@ use Rattle.zone.specs.Format.ElementLayout.{kindValidAt, sizeAt}
 use Rattle.zone.specs.Format.Layout.{lengthField, shortestLength, longestLength, lengthSize, versionIn, basisIn, countIn, firstElement, elementFloats}
 use Rattle.zone.specs.Check.ZoneTest.{countValid}
 use Rattle.zone.specs.Format.Head.{elementsEnd, structureOf}
-use Rattle.zone.specs.Inner.Format.{structureWithin, structureAnswer}
-use Rattle.zone.specs.declared.format.head.Structure.the-variants.{End, Wrong}
+use Rattle.zone.specs.Inner.Format.{structureWithin, extentAnswer}
+use Rattle.zone.specs.declared.format.head.Extent.the-variants.{End, Refused}
 use Rattle.zone.proofs.Laws.Lists.{one-left}
 use Rattle.solver.proofs.Laws.Tests.{and-true}
 
@@ -23,13 +23,13 @@ abbrev pub lengthValid : ℕ → Bool
 lengthValid n = leb shortestLength n && leb n longestLength
 
 -- what an answer tells of the test that gave it
-pub answer-end : (r : Result ℕ) (n : ℕ) → structureAnswer r ≡ End n → r ≡ ok n
+pub answer-end : (r : Result ℕ) (n : ℕ) → extentAnswer r ≡ End n → r ≡ ok n
 answer-end (ok m) n e = cc
 answer-end (refused a b) n e = absurd (let z : _≡_ {A = ℕ} 0 1 = cc in omega arith)
 
-pub answer-wrong : (r : Result ℕ) (a b : ℕ) → structureAnswer r ≡ Wrong a b → r ≡ refused a b
-answer-wrong (ok m) a b e = absurd (let z : _≡_ {A = ℕ} 0 1 = cc in omega arith)
-answer-wrong (refused x y) a b e = cc
+pub answer-refused : (r : Result ℕ) (a b : ℕ) → extentAnswer r ≡ Refused a b → r ≡ refused a b
+answer-refused (ok m) a b e = absurd (let z : _≡_ {A = ℕ} 0 1 = cc in omega arith)
+answer-refused (refused x y) a b e = cc
 
 module _ (s : List ℕ) (end n i p : ℕ) (h : i < n) where
   pub end-short : end < p + elementFloats → elementsEnd s end (n - i) i p ≡ refused headLength 0

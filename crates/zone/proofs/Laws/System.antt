@@ -9,7 +9,7 @@ use lib.Seq.{getD-set-other, set-comm}
 use lib.Ieee.{Float, nan}
 use borrow.Author.Tests.{le-ltb}
 use Rattle.solver.specs.F64.{_+ᶠ_, zero64}
-use Rattle.solver.specs.Each.{eachOf}
+use Rattle.solver.specs.Repeat.{repeatOf}
 use Rattle.solver.specs.FastSolver.{atMost24}
 use Rattle.zone.specs.declared.record.building_element.Element.{Element}
 use Rattle.zone.specs.declared.record.building_element.ElementHour.{ElementHour}
@@ -23,14 +23,14 @@ use Rattle.zone.specs.Physics.Equations.{kPli, outerRightSide, capacityT
 use Rattle.zone.specs.Physics.System.{zoneTwoNodes, rowsAt, couplings, matrixA, gainsPerArea, rightSidesAt, zoneRightSide, vectorB}
 use Rattle.zone.specs.Inner.Assembly.{Chains, chains, setRows, elementRows, elementRightSides, coupleRow, addGains, withGains}
 use Rattle.zone.specs.Inner.Assembled.{convectiveSum, elementChains, couplingsOf, elementSides, zoneTermsOf, assembled, assembledWith, assemble, denseWith, rightSideWith, assembleStep, matrixOf, rightSideOf}
-use Rattle.zone.proofs.Laws.Terms.{each-same}
+use Rattle.zone.proofs.Laws.Terms.{repeat-same}
 use Rattle.zone.proofs.Laws.Nodes.{at-most-24-le}
 
 -- three lists that a loop writes together
 chains-apart : (rows : ℕ → Rows) (k i : ℕ) (diag next prev : List Float)
-    → eachOf k i (λ e s. setRows e (rows e) s) (chains diag next prev)
-    ≡ chains (eachOf k i (λ e. setSlots e (rows e .diag)) diag) (eachOf k i (λ e. setSlots e (rows e .next)) next) (eachOf k i (λ e. setSlots e (rows e .prev)) prev)
-unfolding eachOf setRows
+    → repeatOf k i (λ e s. setRows e (rows e) s) (chains diag next prev)
+    ≡ chains (repeatOf k i (λ e. setSlots e (rows e .diag)) diag) (repeatOf k i (λ e. setSlots e (rows e .next)) next) (repeatOf k i (λ e. setSlots e (rows e .prev)) prev)
+unfolding repeatOf setRows
 chains-apart rows zero i diag next prev = refl
 chains-apart rows (suc k) i diag next prev =
     chains-apart rows k (suc i) (setSlots i (rows i .diag) diag) (setSlots i (rows i .next) next) (setSlots i (rows i .prev) prev)
@@ -40,16 +40,16 @@ at-most-24-again n = rw (le-ltb 24 (atMost24 n) (at-most-24-le n)) refl
 
 -- two loops in one, where a turn of the second leaves alone what later turns of the first write
 module _ {A : Type 0} (f g : ℕ → A → A) (apart : (i j : ℕ) → i < j → (s : A) → g i (f j s) ≡ f j (g i s)) where
-  past : (k i j : ℕ) (s : A) → i < j → g i (eachOf k j f s) ≡ eachOf k j f (g i s)
-  unfolding eachOf
+  past : (k i j : ℕ) (s : A) → i < j → g i (repeatOf k j f s) ≡ repeatOf k j f (g i s)
+  unfolding repeatOf
   past zero i j s h = refl
-  past (suc k) i j s h = past k i (suc j) (f j s) (omega arith) ∙ ap (eachOf k (suc j) f) (apart i j h s)
+  past (suc k) i j s h = past k i (suc j) (f j s) (omega arith) ∙ ap (repeatOf k (suc j) f) (apart i j h s)
 
-  both : (k i : ℕ) (s : A) → eachOf k i g (eachOf k i f s) ≡ eachOf k i (λ e s. g e (f e s)) s
-  unfolding eachOf
+  both : (k i : ℕ) (s : A) → repeatOf k i g (repeatOf k i f s) ≡ repeatOf k i (λ e s. g e (f e s)) s
+  unfolding repeatOf
   both zero i s = refl
   both (suc k) i s =
-      ap (eachOf k (suc i) g) (past k i (suc i) (f i s) (omega arith)) ∙ both k (suc i) (g i (f i s))
+      ap (repeatOf k (suc i) g) (past k i (suc i) (f i s) (omega arith)) ∙ both k (suc i) (g i (f i s))
 
 -- a place to which the gains are added, and another one that is set
 gains-apart : (x y : Float) (p q : ℕ) (l : List Float) → (p ≡ q → ⊥)
@@ -66,7 +66,7 @@ gains-same x y (suc p) (a ∷ l) = ap (λ (l : List Float). a ∷ l) (gains-same
 module _ (x : Float) where
   -- element i's inner surface gains; element j's slots are set
   slots-apart : (i j : ℕ) → i < j → (r l : List Float) → addGains x i (setSlots j r l) ≡ setSlots j r (addGains x i l)
-  unfolding setSlots eachOf
+  unfolding setSlots repeatOf
   slots-apart i j h r l =
       let p = 5 * i + 4 in
       let far : (m : ℕ) → p ≡ 5 * j + m → ⊥ = λ m e. omega arith in
@@ -80,7 +80,7 @@ module _ (x : Float) where
   -- element e's slots are set, then its inner surface gains
   slots-gain : (e : ℕ) (a b c d f : Float) (l : List Float)
       → addGains x e (setSlots e (a ∷ b ∷ c ∷ d ∷ f ∷ []) l) ≡ setSlots e (a ∷ b ∷ c ∷ d ∷ (f +ᶠ x) ∷ []) l
-  unfolding setSlots eachOf
+  unfolding setSlots repeatOf
   slots-gain e a b c d f l =
       gains-same x f (5 * e + 4) (set (set (set (set l (5 * e + 0) a) (5 * e + 1) b) (5 * e + 2) c) (5 * e + 3) d)
 
@@ -123,5 +123,5 @@ module _ (c : Coefficients) (z : Zone) («temp_prev» : List Float) (hour : Cond
       rw (step-is, at-most-24-again)
       (ap (λ (b : List Float). set b 120 (zoneRightSide c z «temp_prev» hour «delta_t» «gains_heat_cool» «f_hc_c» «h_ve»))
       (both f (addGains x) (λ i j h s. slots-apart x i j h (sides j) s) (n - 0) 0 (replicate 121 zero64)
-      ∙ each-same (λ e s. addGains x e (f e s)) (λ e. setSlots e (rightSidesAt c z «temp_prev» hour «delta_t» «gains_heat_cool» «f_hc_c» e)) n (replicate 121 zero64)
+      ∙ repeat-same (λ e s. addGains x e (f e s)) (λ e. setSlots e (rightSidesAt c z «temp_prev» hour «delta_t» «gains_heat_cool» «f_hc_c» e)) n (replicate 121 zero64)
       (λ e h s. sides-gain x (element (z .«building_elements») e) «delta_t» (elementHour (hour .elements) e) (elementSlots «temp_prev» e) e s (isTwoNodes (element (z .«building_elements») e .kind)) (sides e) refl)))

@@ -3,12 +3,13 @@ use Prim.Native.Nat.{ℕ}
 use mathlib.Core.Bool.{_&&_}
 use mathlib.Core.List.{List}
 use lib.Ieee.{Float}
-use Rattle.solver.specs.F64.{_+ᶠ_, _*ᶠ_, _/ᶠ_, dec}
+use Rattle.solver.specs.F64.{_+ᶠ_, _*ᶠ_, _/ᶠ_, decimal}
 use Rattle.solver.specs.Result.{Result, ok, bind, require}
 use Rattle.zone.specs.declared.record.building_element.Coefficients.{Coefficients}
 use Rattle.zone.specs.declared.record.zone_record.Zone.{Zone}
 use Rattle.zone.specs.declared.format.conditions.Conditions.{Conditions}
 use Rattle.zone.specs.Record.Numbers.{conditionsValue}
+use Rattle.zone.specs.Check.ZoneTest.{zoneTest}
 use Rattle.zone.specs.Check.Ranges.{gainsRange, fractionRange, rateRange}
 use Rattle.zone.specs.Format.Conditions.{conditionsOf}
 use Rattle.zone.specs.declared.physics.balance.HeatBalance.{HeatBalance}
@@ -16,14 +17,19 @@ use Rattle.zone.specs.Physics.CalcTemperatures.{calcTemperatures}
 use Rattle.zone.specs.Physics.HeatBalance.{heatBalance}
 use Rattle.zone.specs.declared.calls.state.State.{State}
 use Rattle.zone.specs.declared.calls.state.Demand.{Demand}
-use Rattle.zone.specs.Calls.State.{zoneAndStateTest, slotsOf, stateOf}
+use Rattle.zone.specs.Calls.State.{stateTest, slotsOf, stateOf}
 use Rattle.zone.specs.Hour.Demand.{deltaT, gainsHeatCool, shareOrZero, spaceHeatCoolDemand}
 
--- the tests that demand, update and hour step share: the zone's 4, 5, then 6, then the conditions' 7, 8, 9
+-- the tests that demand, update and hour step share: 6, then the conditions' 7, 8, 9; before them the zone's 4, 5
+unfoldable pub testedHour : Zone → State → List ℕ → Result Conditions
+testedHour z s bytes =
+    bind (stateTest z s) λ _.
+    conditionsOf z bytes
+
 unfoldable pub tested : Zone → State → List ℕ → Result Conditions
 tested z s bytes =
-    bind (zoneAndStateTest z s) λ _.
-    conditionsOf z bytes
+    bind (zoneTest z) λ _.
+    testedHour z s bytes
 
 -- one time step: the new state and the heat balance
 unfoldable pub step : Coefficients → Zone → State → Conditions → (gains fraction ach : Float) → Result (State × HeatBalance)
@@ -49,7 +55,7 @@ demand c z s bytes =
 
 -- delivered W
 unfoldable pub delivered : Conditions → Demand → Float
-delivered h d = (d .«space_heat_demand» +ᶠ d .«space_cool_demand») *ᶠ dec 1000 0 /ᶠ h .«delta_t_h»
+delivered h d = (d .«space_heat_demand» +ᶠ d .«space_cool_demand») *ᶠ decimal 1000 0 /ᶠ h .«delta_t_h»
 
 -- the convective share of the total gains g, 0 where g is close to 0
 unfoldable pub convectiveShare : Conditions → (w g : Float) → Float

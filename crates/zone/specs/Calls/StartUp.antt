@@ -4,7 +4,7 @@ use mathlib.Core.Bool.{Bool, true, cond, _&&_}
 use mathlib.Core.List.{List, [], _∷_, map}
 use lib.ListN.{replicate}
 use lib.Ieee.{Float}
-use Rattle.solver.specs.F64.{_+ᶠ_, _/ᶠ_, dec, zero64}
+use Rattle.solver.specs.F64.{_+ᶠ_, _/ᶠ_, decimal, zero64}
 use Rattle.solver.specs.Result.{Result, ok, refused, bind}
 use Rattle.solver.specs.Closeness as Closeness
 use Rattle.zone.specs.declared.record.building_element.Coefficients.{Coefficients}
@@ -30,12 +30,12 @@ firstHour e = e .«first_hour»
 unfoldable pub startUpConditions : Zone → Conditions
 startUpConditions z =
     record {
-      «delta_t_h» = dec 8760 0;
+      «delta_t_h» = decimal 8760 0;
       «temp_ext_air» = z .«temp_ext_air_init»;
       «gains_internal» = zero64;
       «gains_solar» = zero64;
-      «frac_convective_heat» = dec 4 1;
-      «frac_convective_cool» = dec 4 1;
+      «frac_convective_heat» = decimal 4 1;
+      «frac_convective_cool» = decimal 4 1;
       «temp_setpnt_heat» = z .«temp_setpnt_init»;
       «temp_setpnt_cool» = z .«temp_setpnt_init»;
       «temp_setpnt_cool_vent» = z .«temp_setpnt_cool_vent_init»;
@@ -48,7 +48,7 @@ startUpConditions z =
 
 -- all node temperatures: the mean of the first external and the first set temperature
 abbrev pub tempStart : Zone → Float
-tempStart z = (z .«temp_ext_air_init» +ᶠ z .«temp_setpnt_init») /ᶠ dec 2 0
+tempStart z = (z .«temp_ext_air_init» +ᶠ z .«temp_setpnt_init») /ᶠ decimal 2 0
 
 -- two temperature vectors are close, node by node
 unfoldable pub allClose : List Float → List Float → Bool
@@ -70,7 +70,7 @@ module _ (c : Coefficients) (z : Zone) where
   pass t =
       let h = startUpConditions z in
       bind (spaceHeatCoolDemand c z t h) λ d.
-      calcTemperatures c z t h (deltaT h) (delivered h d) (dec 4 1) zero64
+      calcTemperatures c z t h (deltaT h) (delivered h d) (decimal 4 1) zero64
 
   -- the pass that settles does not store its temperatures; a limit of n allows n passes, then 15
   unfoldable pub settle : (limit : ℕ) → List Float → Result (List Float)

@@ -4,7 +4,7 @@ use mathlib.Core.Bool.{Bool, true, _&&_}
 use mathlib.Core.List.{List, [], _∷_}
 use lib.Dec.{ltb, leb}
 use lib.Ieee.{Float, neg, lt, le}
-use Rattle.solver.specs.F64.{dec}
+use Rattle.solver.specs.F64.{decimal}
 
 -- low to high, both included
 abbrev pub fromTo : (low high : Float) → Float → Bool
@@ -16,63 +16,63 @@ aboveTo low high x = lt low x && le x high
 
 -- areas and volume above 0 to 100,000
 unfoldable pub areaRange : Float → Bool
-areaRange = aboveTo (dec 0 0) (dec 100000 0)
+areaRange = aboveTo (decimal 0 0) (decimal 100000 0)
 
 -- pitch 0 to 180
 unfoldable pub pitchRange : Float → Bool
-pitchRange = fromTo (dec 0 0) (dec 180 0)
+pitchRange = fromTo (decimal 0 0) (decimal 180 0)
 
 -- h_ce, h_re, h_ri, bridges 0 to 1e6
 unfoldable pub coefficientRange : Float → Bool
-coefficientRange = fromTo (dec 0 0) (dec 1000000 0)
+coefficientRange = fromTo (decimal 0 0) (decimal 1000000 0)
 
 -- h_pli above 0 to 1e6
 unfoldable pub hPliRange : Float → Bool
-hPliRange = aboveTo (dec 0 0) (dec 1000000 0)
+hPliRange = aboveTo (decimal 0 0) (decimal 1000000 0)
 
 -- k 0 to 1e7
 unfoldable pub kPliRange : Float → Bool
-kPliRange = fromTo (dec 0 0) (dec 10000000 0)
+kPliRange = fromTo (decimal 0 0) (decimal 10000000 0)
 
 -- fractions, shading, absorption 0 to 1
 unfoldable pub fractionRange : Float → Bool
-fractionRange = fromTo (dec 0 0) (dec 1 0)
+fractionRange = fromTo (decimal 0 0) (decimal 1 0)
 
 -- sky ±10,000
 unfoldable pub skyRange : Float → Bool
-skyRange = fromTo (neg (dec 10000 0)) (dec 10000 0)
+skyRange = fromTo (neg (decimal 10000 0)) (decimal 10000 0)
 
 -- `delta_r` 0 to 1,000
 unfoldable pub deltaRRange : Float → Bool
-deltaRRange = fromTo (dec 0 0) (dec 1000 0)
+deltaRRange = fromTo (decimal 0 0) (decimal 1000 0)
 
 -- irradiance 0 to 2,000
 unfoldable pub irradianceRange : Float → Bool
-irradianceRange = fromTo (dec 0 0) (dec 2000 0)
+irradianceRange = fromTo (decimal 0 0) (decimal 2000 0)
 
 -- gains ±1e7
 unfoldable pub gainsRange : Float → Bool
-gainsRange = fromTo (neg (dec 10000000 0)) (dec 10000000 0)
+gainsRange = fromTo (neg (decimal 10000000 0)) (decimal 10000000 0)
 
 -- rates 0 to 1,000
 unfoldable pub rateRange : Float → Bool
-rateRange = fromTo (dec 0 0) (dec 1000 0)
+rateRange = fromTo (decimal 0 0) (decimal 1000 0)
 
 -- temperatures ±100
 unfoldable pub temperatureRange : Float → Bool
-temperatureRange = fromTo (neg (dec 100 0)) (dec 100 0)
+temperatureRange = fromTo (neg (decimal 100 0)) (decimal 100 0)
 
 -- heating and first set temperature −273.15 to 100
 unfoldable pub heatingSetpointRange : Float → Bool
-heatingSetpointRange = fromTo (neg (dec 27315 2)) (dec 100 0)
+heatingSetpointRange = fromTo (neg (decimal 27315 2)) (decimal 100 0)
 
 -- other setpoints −273.15 to 1.4 × 10^32
 unfoldable pub setpointRange : Float → Bool
-setpointRange = fromTo (neg (dec 27315 2)) (dec 140000000000000000000000000000000 0)
+setpointRange = fromTo (neg (decimal 27315 2)) (decimal 140000000000000000000000000000000 0)
 
 -- hour length 0.001 to 8,760
 unfoldable pub hourLengthRange : Float → Bool
-hourLengthRange = fromTo (dec 1 3) (dec 8760 0)
+hourLengthRange = fromTo (decimal 1 3) (decimal 8760 0)
 
 -- limit 1 to 10,000
 abbrev pub limitRange : ℕ → Bool

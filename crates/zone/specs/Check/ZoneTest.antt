@@ -16,11 +16,11 @@ use Rattle.zone.specs.declared.record.zone_record.Verdict.{Verdict}
 use Rattle.zone.specs.declared.record.zone_record.Verdict.the-variants.{Accepted, Refused}
 
 -- each of a list passes a test, or the first that does not is refused; the first of the list has this index
-unfoldable pub eachNeeds : {A : Type 0} → (A → Bool) → (number : ℕ) → List A → (index : ℕ) → Result (Unit {0})
-eachNeeds test number [] i = ok tt
-eachNeeds test number (a ∷ as′) i =
+unfoldable pub allRequired : {A : Type 0} → (A → Bool) → (number : ℕ) → List A → (index : ℕ) → Result (Unit {0})
+allRequired test number [] i = ok tt
+allRequired test number (a ∷ as′) i =
     bind (requireAt (test a) number i) λ _.
-    eachNeeds test number as′ (i + 1)
+    allRequired test number as′ (i + 1)
 
 -- the values of an hour's part of an element, but for the open byte
 unfoldable pub elementHourInRange : ElementHour → Bool
@@ -62,7 +62,7 @@ frontInRange z =
 unfoldable pub valuesTest : Zone → Result (Unit {0})
 valuesTest z =
     bind (require (frontInRange z) zoneValue) λ _.
-    eachNeeds elementInRange zoneValue (take (z .count) (z .«building_elements»)) 1
+    allRequired elementInRange zoneValue (take (z .count) (z .«building_elements»)) 1
 
 -- "element count n (1 to 24)"
 abbrev pub countValid : ℕ → Bool
@@ -75,7 +75,7 @@ elementTreatmentsValid e = treatmentsValid (e .kind) (e .treatments)
 unfoldable pub countsTest : Zone → Result (Unit {0})
 countsTest z =
     bind (require (countValid (z .count)) structure) λ _.
-    eachNeeds elementTreatmentsValid structure (take (z .count) (z .«building_elements»)) 1
+    allRequired elementTreatmentsValid structure (take (z .count) (z .«building_elements»)) 1
 
 unfoldable pub zoneTest : Zone → Result (Unit {0})
 zoneTest z =

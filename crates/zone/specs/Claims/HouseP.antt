@@ -7,7 +7,7 @@ use mathlib.Core.List.{List, [], _∷_, _++_}
 use lib.ListN.{getD, replicate}
 use lib.Dec.{eqb}
 use lib.Ieee.{Float, binary64, nan, neg, toBits}
-use Rattle.solver.specs.F64.{dec, zero64, one64}
+use Rattle.solver.specs.F64.{decimal, zero64, one64}
 use Rattle.solver.specs.Result.{Result, ok, refused}
 use Rattle.zone.specs.Record.BuildingElement.{standardCoefficients, hCi}
 use Rattle.zone.specs.Format.Decode.{zoneAt}
@@ -24,43 +24,43 @@ use Rattle.zone.specs.declared.calls.state.AchToTriggerHeating.the-varia
 
 -- 1.4 × 10^32: no ventilation control
 abbrev noControl : Float
-noControl = dec 140000000000000000000000000000000 0
+noControl = decimal 140000000000000000000000000000000 0
 
 -- an hour's part of its element: 20, no irradiance, shading 1; no treatment is open
 abbrev part : List ℕ
-part = rowBytes (dec 20 0 ∷ zero64 ∷ zero64 ∷ one64 ∷ one64 ∷ []) ++ (0 ∷ [])
+part = rowBytes (decimal 20 0 ∷ zero64 ∷ zero64 ∷ one64 ∷ one64 ∷ []) ++ (0 ∷ [])
 
 -- length, version, air basis, one element, limit 10; useful area, volume, bridges, first external, set and ventilation temperature; a Transparent
 -- with no treatments: area, pitch, h_ce, h_re, h_ri, absorption, sky, k_pli, h_pli; its first hour
 abbrev head : (k h_ce bridges usefulArea : Float) → List ℕ
 head k h_ce bridges usefulArea =
     (0 ∷ 0 ∷ 0 ∷ 176 ∷ 1 ∷ 0 ∷ 1 ∷ 0 ∷ 10 ∷ [])
-    ++ (rowBytes (usefulArea ∷ dec 100 0 ∷ bridges ∷ dec 20 0 ∷ dec 20 0 ∷ noControl ∷ [])
+    ++ (rowBytes (usefulArea ∷ decimal 100 0 ∷ bridges ∷ decimal 20 0 ∷ decimal 20 0 ∷ noControl ∷ [])
     ++ ((4 ∷ 0 ∷ [])
-    ++ (rowBytes (one64 ∷ dec 90 0 ∷ h_ce ∷ zero64 ∷ zero64 ∷ zero64 ∷ zero64 ∷ zero64 ∷ k ∷ one64 ∷ [])
+    ++ (rowBytes (one64 ∷ decimal 90 0 ∷ h_ce ∷ zero64 ∷ zero64 ∷ zero64 ∷ zero64 ∷ zero64 ∷ k ∷ one64 ∷ [])
     ++ part)))
 
 abbrev pub headOfP : List ℕ
-headOfP = head (dec 3600 0) one64 (dec 430625 4) (dec 36 0)
+headOfP = head (decimal 3600 0) one64 (decimal 430625 4) (decimal 36 0)
 
 abbrev pub houseP : Zone
 houseP = zoneAt headOfP
 
 -- "P with k 0, 0, h_ce 0, bridges 0, useful area 1e-20"
 abbrev singular : Zone
-singular = zoneAt (head zero64 zero64 zero64 (dec 1 20))
+singular = zoneAt (head zero64 zero64 zero64 (decimal 1 20))
 
 -- the hour: length, external, no gains, fractions 1, setpoints, no ventilation control, supply, no gains; fixed rate 0
 abbrev hour : (heat cool : Float) → List ℕ
 hour heat cool =
-    rowBytes (one64 ∷ dec 20 0 ∷ zero64 ∷ zero64 ∷ one64 ∷ one64 ∷ heat ∷ cool ∷ noControl ∷ dec 20 0 ∷ zero64 ∷ zero64 ∷ [])
+    rowBytes (one64 ∷ decimal 20 0 ∷ zero64 ∷ zero64 ∷ one64 ∷ one64 ∷ heat ∷ cool ∷ noControl ∷ decimal 20 0 ∷ zero64 ∷ zero64 ∷ [])
     ++ (0 ∷ (rowBytes (zero64 ∷ zero64 ∷ []) ++ part))
 
 abbrev pub hourOfP : List ℕ
-hourOfP = hour (dec 20 0) (dec 24 0)
+hourOfP = hour (decimal 20 0) (decimal 24 0)
 
 abbrev pub twenty : State
-twenty = record { nodes = 3; temps = dec 20 0 ∷ dec 20 0 ∷ dec 20 0 ∷ replicate 118 zero64 }
+twenty = record { nodes = 3; temps = decimal 20 0 ∷ decimal 20 0 ∷ decimal 20 0 ∷ replicate 118 zero64 }
 
 abbrev pub noDemand : Demand
 noDemand = record { «space_heat_demand» = zero64; «space_cool_demand» = zero64; «ach_cooling» = zero64; «ach_to_trigger_heating» = Absent }
@@ -87,7 +87,7 @@ refusedWith n (ok _) = false
 refusedWith n (refused k i) = eqb k n && eqb i 0
 
 abbrev isTwenty : State → ℕ → Bool
-isTwenty s i = same (getD (s .temps) i nan) (dec 20 0)
+isTwenty s i = same (getD (s .temps) i nan) (decimal 20 0)
 
 abbrev allTwenty : Result (State × HeatBalance) → Bool
 allTwenty (ok r) = eqb (r .0 .nodes) 3 && isTwenty (r .0) 0 && isTwenty (r .0) 1 && isTwenty (r .0) 2
@@ -103,11 +103,11 @@ asked z heat cool = demand standardCoefficients z twenty (hour heat cool)
 
 -- h_ci of a pitch, where air and surface have one temperature
 abbrev hCiOfPitch : (pitch : Float) → Float
-hCiOfPitch pitch = hCi standardCoefficients pitch (dec 20 0) (dec 20 0)
+hCiOfPitch pitch = hCi standardCoefficients pitch (decimal 20 0) (decimal 20 0)
 
 -- the rate for a target, operative and air both 24 at the first rate and 16 at the second, supply 8
 abbrev rateFor : (target achMin achMax : Float) → Float
-rateFor target achMin achMax = achReqToReachTemperature target achMin achMax (dec 24 0) (dec 16 0) (dec 24 0) (dec 16 0) (dec 8 0)
+rateFor target achMin achMax = achReqToReachTemperature target achMin achMax (decimal 24 0) (decimal 16 0) (decimal 24 0) (decimal 16 0) (decimal 8 0)
 
 unfoldable pub allHold : List Bool → Bool
 allHold [] = true
@@ -116,18 +116,18 @@ allHold (row ∷ rows) = row && allHold rows
 abbrev pub table : List Bool
 table =
     allTwenty (updated houseP)
-    ∷ demandIs zero64 zero64 (asked houseP (dec 20 0) (dec 24 0))
-    ∷ demandIs (dec 144 3) zero64 (asked houseP (dec 21 0) (dec 24 0))
-    ∷ demandIs zero64 (neg (dec 144 3)) (asked houseP (dec 15 0) (dec 19 0))
-    ∷ refusedWith 10 (asked houseP (dec 22 0) (dec 21 0))
-    ∷ refusedWith 12 (asked singular (dec 20 0) (dec 24 0))
+    ∷ demandIs zero64 zero64 (asked houseP (decimal 20 0) (decimal 24 0))
+    ∷ demandIs (decimal 144 3) zero64 (asked houseP (decimal 21 0) (decimal 24 0))
+    ∷ demandIs zero64 (neg (decimal 144 3)) (asked houseP (decimal 15 0) (decimal 19 0))
+    ∷ refusedWith 10 (asked houseP (decimal 22 0) (decimal 21 0))
+    ∷ refusedWith 12 (asked singular (decimal 20 0) (decimal 24 0))
     ∷ refusedWith 12 (updated singular)
-    ∷ same (hCiOfPitch (dec 60 0)) (dec 25 1)
-    ∷ same (hCiOfPitch (dec 120 0)) (dec 25 1)
-    ∷ same (hCiOfPitch (dec 599 1)) (dec 50 1)
-    ∷ same (hCiOfPitch (dec 1201 1)) (dec 7 1)
-    ∷ same (rateFor (dec 24 0) (dec 1 0) (dec 5 0)) (dec 1 0)
-    ∷ same (rateFor (dec 16 0) (dec 1 0) (dec 5 0)) (dec 5 0)
-    ∷ same (rateFor (dec 8 0) (dec 1 0) (dec 5 0)) (dec 5 0)
-    ∷ same (rateFor (dec 24 0) (dec 2 0) (dec 1 0)) (dec 1 0)
+    ∷ same (hCiOfPitch (decimal 60 0)) (decimal 25 1)
+    ∷ same (hCiOfPitch (decimal 120 0)) (decimal 25 1)
+    ∷ same (hCiOfPitch (decimal 599 1)) (decimal 50 1)
+    ∷ same (hCiOfPitch (decimal 1201 1)) (decimal 7 1)
+    ∷ same (rateFor (decimal 24 0) (decimal 1 0) (decimal 5 0)) (decimal 1 0)
+    ∷ same (rateFor (decimal 16 0) (decimal 1 0) (decimal 5 0)) (decimal 5 0)
+    ∷ same (rateFor (decimal 8 0) (decimal 1 0) (decimal 5 0)) (decimal 5 0)
+    ∷ same (rateFor (decimal 24 0) (decimal 2 0) (decimal 1 0)) (decimal 1 0)
     ∷ []

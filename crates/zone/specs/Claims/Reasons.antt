@@ -4,13 +4,13 @@ use mathlib.Core.Path.{_≡_}
 use mathlib.Core.Bool.{true, false, _&&_}
 use mathlib.Core.List.{List}
 use lib.Ieee.{Float, lt, ne}
-use Rattle.solver.specs.F64.{_+ᶠ_, _-ᶠ_, dec, zero64}
+use Rattle.solver.specs.F64.{_+ᶠ_, _-ᶠ_, decimal, zero64}
 use Rattle.solver.specs.Closeness.{closeInDemand}
 use Rattle.solver.specs.declared.system.Matrix.{Matrix}
-use Rattle.solver.specs.FastSolver.{divisible, temperaturesOf, bounded}
+use Rattle.solver.specs.FastSolver.{allDivisorsValid, temperaturesOf, temperaturesValid}
 use Rattle.solver.specs.Result.{ok, refused}
 use Rattle.solver.specs.Refusals.{RefusesOnly}
-use Rattle.solver.specs.Numbers.{divisorNo, temperatureNo}
+use Rattle.solver.specs.Numbers.{divisor, temperature}
 use Rattle.zone.specs.declared.record.building_element.Coefficients.{Coefficients}
 use Rattle.zone.specs.declared.record.zone_record.Zone.{Zone}
 use Rattle.zone.specs.declared.format.conditions.Conditions.{Conditions}
@@ -45,6 +45,11 @@ use Rattle.zone.specs.Calls.Hour.{tested, demand, delivered, convectiveS
 use Rattle.zone.specs.Calls.StartUp.{startUpConditions, startState, initNodeTemps}
 use Rattle.zone.specs.Claims.StartUpClaims.{Unsettled, LimitUnsettled}
 
+-- 10 and 11 have passed
+pub record SetpointsPass (h : Conditions) : Type 0 where
+  pub cooling : lt (h .«temp_setpnt_cool») (h .«temp_setpnt_heat») ≡ false
+  pub ventilation : lt (h .«temp_setpnt_cool_vent») (h .«temp_setpnt_heat») ≡ false
+
 module _ (c : Coefficients) (z : Zone) (t : List Float) (h : Conditions) where
   -- a time step from t under conditions h: its matrix, which a rate decides, and its right side
   abbrev pub stepMatrix : (ach : Float) → Matrix
@@ -56,11 +61,11 @@ module _ (c : Coefficients) (z : Zone) (t : List Float) (h : Conditions) where
   -- "then per solve"
   pub data SolveReason (gains fraction ach : Float) : (number index : ℕ) → Type 0 where
     -- "a divisor of a chain or a dense pivot that is zero or not finite"
-    divisorAt : divisible (stepMatrix ach) ≡ false → SolveReason gains fraction ach divisorNo 0
+    byDivisor : allDivisorsValid (stepMatrix ach) ≡ false → SolveReason gains fraction ach divisor 0
     -- "node temperature not finite or beyond ±1e6"
-    temperatureAt : divisible (stepMatrix ach) ≡ true
-        → bounded (stepMatrix ach) (temperaturesOf (stepMatrix ach) (stepRightSide gains fraction ach)) ≡ false
-        → SolveReason gains fraction ach temperatureNo 0
+    byTemperature : allDivisorsValid (stepMatrix ach) ≡ true
+        → temperaturesValid (stepMatrix ach) (temperaturesOf (stepMatrix ach) (stepRightSide gains fraction ach)) ≡ false
+        → SolveReason gains fraction ach temperature 0
 
   -- the load that is tried: wanted at the free temperature and the rate that ventilation leaves
   pub record Tried (v : VentilationChoice) (setpoint load fraction : Float) : Type 0 where
@@ -73,7 +78,8 @@ module _ (c : Coefficients) (z : Zone) (t : List Float) (h : Conditions) where
   -- that reaches the ventilation setpoint; then loaded
   pub data DemandSolve : (gains fraction ach : Float) → Type 0 where
     atTarget : DemandSolve (gainsHeatCool h) (fracConvGainsHeatCool h) (achTarget (h .«ach_args»))
-    atOpen : {target windowsOpen : Float} → h .«ach_args» ≡ TargetAndWindowsOpen target windowsOpen → ne windowsOpen target ≡ true
+    atOpen : {target windowsOpen : Float} {free : List Float} → h .«ach_args» ≡ TargetAndWindowsOpen target windowsOpen → ne windowsOpen target ≡ true
+        → freeTemperatures c z t h target ≡ ok free
         → DemandSolve (gainsHeatCool h) (fracConvGainsHeatCool h) windowsOpen
     between : {target windowsOpen : Float} {free ventMax : List Float} → h .«ach_args» ≡ TargetAndWindowsOpen target windowsOpen → ne windowsOpen target ≡ true
         → freeTemperatures c z t h target ≡ ok free → freeTemperatures c z t h windowsOpen ≡ ok ventMax
@@ -84,14 +90,15 @@ module _ (c : Coefficients) (z : Zone) (t : List Float) (h : Conditions) where
 
   pub data DemandReason : (number index : ℕ) → Type 0 where
     -- "cooling below heating setpoint"
-    coolingBelow : lt (h .«temp_setpnt_cool») (h .«temp_setpnt_heat») ≡ true → DemandReason coolingBelowHeating 0
+    byCoolingBelowHeating : lt (h .«temp_setpnt_cool») (h .«temp_setpnt_heat») ≡ true → DemandReason coolingBelowHeating 0
     -- "ventilation below heating"
-    ventilationBelow : lt (h .«temp_setpnt_cool») (h .«temp_setpnt_heat») ≡ false
+    byVentilationBelowHeating : lt (h .«temp_setpnt_cool») (h .«temp_setpnt_heat») ≡ false
         → lt (h .«temp_setpnt_cool_vent») (h .«temp_setpnt_heat») ≡ true → DemandReason ventilationBelowHeating 0
     -- 12, 13
-    inSolve : {gains fraction ach : Float} {number index : ℕ} → DemandSolve gains fraction ach → SolveReason gains fraction ach number index → DemandReason number index
+    inSolve : {gains fraction ach : Float} {number index : ℕ} → SetpointsPass h → DemandSolve gains fraction ach → SolveReason gains fraction ach number index
+        → DemandReason number index
     -- "last, loaded and free temperature differ by something close to 0"
-    withoutEffect : {v : VentilationChoice} {setpoint load fraction : Float} {upper : List Float} → Tried v setpoint load fraction
+    byNoEffect : {v : VentilationChoice} {setpoint load fraction : Float} {upper : List Float} → SetpointsPass h → Tried v setpoint load fraction
         → temperaturesWith c z t h (gainsUpper h load) (fracUpper h load fraction) (v .«ach_cooling») ≡ ok upper
         → closeInDemand (controlTemperature z upper -ᶠ v .«temp_free») zero64 ≡ true → DemandReason noEffect 0
 
@@ -116,23 +123,25 @@ module _ (c : Coefficients) (z : Zone) where
 
   -- "its own gains, fraction and rate tested in 9 after the conditions, index 0, then 12, 13"
   pub data UpdateReason (s : State) (gains fraction ach : Float) (h : Conditions) : (number index : ℕ) → Type 0 where
-    outOfRange : (gainsRange gains && fractionRange fraction && rateRange ach) ≡ false → UpdateReason s gains fraction ach h conditionsValue 0
-    inStep : {number index : ℕ} → SolveReason c z (slotsOf z s) h gains fraction ach number index → UpdateReason s gains fraction ach h number index
+    byConditionsValue : (gainsRange gains && fractionRange fraction && rateRange ach) ≡ false → UpdateReason s gains fraction ach h conditionsValue 0
+    inStep : {number index : ℕ} → (gainsRange gains && fractionRange fraction && rateRange ach) ≡ true
+        → SolveReason c z (slotsOf z s) h gains fraction ach number index → UpdateReason s gains fraction ach h number index
 
   abbrev pub UpdateReasons : Type 0
   UpdateReasons = (s : State) (bytes : List ℕ) (gains fraction ach : Float)
       → RefusesOnly (AfterTests z s bytes (UpdateReason s gains fraction ach)) (updateTemperatures c z s bytes gains fraction ach)
 
-  -- 4, 5 from the zone's tests; those of a pass before the limit, after passes that did not settle; or the limit
+  -- 4, 5 from the zone's tests; where these accept, those of a pass before the limit, after passes that did not settle; or the limit
   pub data StartUpReason : (number index : ℕ) → Type 0 where
     inZone : {number index : ℕ} → zoneTest z ≡ refused number index → number < 6 → StartUpReason number index
-    inPass : {n number index : ℕ} {t : List Float} → Unsettled c z n (slotsOf z (startState z)) t → n < z .«start_up_limit»
+    inPass : {n number index : ℕ} {t : List Float} → zoneTest z ≡ ok tt → Unsettled c z n (slotsOf z (startState z)) t → n < z .«start_up_limit»
         → DemandReason c z t (startUpConditions z) number index → StartUpReason number index
     -- of the solve that meets a pass's demand
-    inMeeting : {n number index : ℕ} {t : List Float} {d : Demand} → Unsettled c z n (slotsOf z (startState z)) t → n < z .«start_up_limit»
+    inMeeting : {n number index : ℕ} {t : List Float} {d : Demand} → zoneTest z ≡ ok tt → Unsettled c z n (slotsOf z (startState z)) t
+        → n < z .«start_up_limit»
         → spaceHeatCoolDemand c z t (startUpConditions z) ≡ ok d
-        → SolveReason c z t (startUpConditions z) (delivered (startUpConditions z) d) (dec 4 1) zero64 number index → StartUpReason number index
-    atLimit : {t : List Float} → LimitUnsettled c z t → StartUpReason notSettled 0
+        → SolveReason c z t (startUpConditions z) (delivered (startUpConditions z) d) (decimal 4 1) zero64 number index → StartUpReason number index
+    byNotSettled : {t : List Float} → zoneTest z ≡ ok tt → LimitUnsettled c z t → StartUpReason notSettled 0
 
   abbrev pub StartUpReasons : Type 0
   StartUpReasons = RefusesOnly StartUpReason (initNodeTemps c z)

@@ -15,40 +15,40 @@ use Rattle.zone.specs.Claims.HeadRefusals.{ZoneRefusal, ConditionsRefusa
 -- the operative temperature: the zone's 4, 5, then the state's 6
 pub data OperativeRefusal : (number index : ℕ) → Type 0 where
   operativeZone : {number index : ℕ} → ZoneRefusal number index → OperativeRefusal number index
-  operativeState : OperativeRefusal stateInvalid 0
+  operativeStateInvalid : OperativeRefusal stateInvalid 0
 
 -- "Demand and hour step"
 pub data HourRefusal : (number index : ℕ) → Type 0 where
   -- the zone's 4, 5
   hourZone : {number index : ℕ} → ZoneRefusal number index → HourRefusal number index
   -- "state of wrong node count or with a value not finite or beyond ±1e6"
-  hourState : HourRefusal stateInvalid 0
+  hourStateInvalid : HourRefusal stateInvalid 0
   -- 7, 8, 9
   hourConditions : {number index : ℕ} → ConditionsRefusal number index → HourRefusal number index
   -- "cooling below heating setpoint"
-  hourCooling : HourRefusal coolingBelowHeating 0
+  hourCoolingBelowHeating : HourRefusal coolingBelowHeating 0
   -- "ventilation below heating"
-  hourVentilation : HourRefusal ventilationBelowHeating 0
+  hourVentilationBelowHeating : HourRefusal ventilationBelowHeating 0
   -- "then per solve": 12, 13
   hourSolve : {number index : ℕ} → SolveRefusal number index → HourRefusal number index
   -- "last, loaded and free temperature differ by something close to 0"
-  hourClose : HourRefusal noEffect 0
+  hourNoEffect : HourRefusal noEffect 0
 
 -- "Update: 6 to 9, its own gains, fraction and rate tested in 9 after the conditions, index 0, then 12, 13."
 pub data UpdateRefusal : (number index : ℕ) → Type 0 where
   updateZone : {number index : ℕ} → ZoneRefusal number index → UpdateRefusal number index
-  updateState : UpdateRefusal stateInvalid 0
+  updateStateInvalid : UpdateRefusal stateInvalid 0
   updateConditions : {number index : ℕ} → ConditionsRefusal number index → UpdateRefusal number index
-  updateValues : UpdateRefusal conditionsValue 0
+  updateConditionsValue : UpdateRefusal conditionsValue 0
   updateSolve : {number index : ℕ} → SolveRefusal number index → UpdateRefusal number index
 
 -- "Start-up: 11, 12, 13, 14 from its solves; 15 when the limit passes without settling." Not 10: its two setpoints are one.
 pub data StartUpRefusal : (number index : ℕ) → Type 0 where
   startUpZone : {number index : ℕ} → ZoneRefusal number index → StartUpRefusal number index
-  startUpVentilation : StartUpRefusal ventilationBelowHeating 0
+  startUpVentilationBelowHeating : StartUpRefusal ventilationBelowHeating 0
   startUpSolve : {number index : ℕ} → SolveRefusal number index → StartUpRefusal number index
-  startUpClose : StartUpRefusal noEffect 0
-  startUpLimit : StartUpRefusal notSettled 0
+  startUpNoEffect : StartUpRefusal noEffect 0
+  startUpNotSettled : StartUpRefusal notSettled 0
 
 -- "an index for 4, 5, 9 (element from 1, 0 if none)": an element of this zone
 abbrev pub OfZone : Zone → (number index : ℕ) → Type 0

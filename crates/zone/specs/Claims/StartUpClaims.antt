@@ -40,11 +40,11 @@ module _ (c : Coefficients) (z : Zone) where
   SettledInLimit u = SettledAt (z .«start_up_limit») (slotsOf z (startState z)) u
 
   -- "15 means that no pass up to the limit settled", and if none does, 15 is the answer
-  abbrev pub StartUp15 : Type 0
-  StartUp15 = (j : ℕ) → initNodeTemps c z ≡ refused notSettled j → (u : List Float) × LimitUnsettled u
+  abbrev pub StartUpNotSettled : Type 0
+  StartUpNotSettled = (j : ℕ) → initNodeTemps c z ≡ refused notSettled j → (u : List Float) × LimitUnsettled u
 
-  abbrev pub StartUpIs15 : Type 0
-  StartUpIs15 = (u : List Float) → zoneTest z ≡ ok tt → LimitUnsettled u → initNodeTemps c z ≡ refused notSettled 0
+  abbrev pub StartUpIsNotSettled : Type 0
+  StartUpIsNotSettled = (u : List Float) → zoneTest z ≡ ok tt → LimitUnsettled u → initNodeTemps c z ≡ refused notSettled 0
 
   -- an accepted start-up is settled, and settled temperatures are its answer
   abbrev pub StartUpSettled : Type 0

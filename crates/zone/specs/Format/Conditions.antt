@@ -9,7 +9,7 @@ use Rattle.solver.specs.Result.{Result, ok, bind, require}
 use Rattle.zone.specs.Format.Bytes.{numAt, floatAt}
 use Rattle.zone.specs.Format.Decode.{elementHourAt, noElementHour}
 use Rattle.zone.specs.Check.Ranges.{hourLengthRange, temperatureRange, gainsRange, fractionRange, heatingSetpointRange, setpointRange, rateRange, openWithin}
-use Rattle.zone.specs.Check.ZoneTest.{elementHourInRange, eachNeeds}
+use Rattle.zone.specs.Check.ZoneTest.{elementHourInRange, allRequired}
 use Rattle.zone.specs.Record.Numbers.{conditionsSize, conditionsCode, conditionsValue}
 use Rattle.zone.specs.Format.Layout.{openByte, elementHourSize, rateCode, secondRate, firstElementHour, conditionsLength}
 use Rattle.zone.specs.declared.record.building_element.ElementHour.{ElementHour}
@@ -86,7 +86,7 @@ achArgsInRange (TargetAndWindowsOpen target windows) = rateRange target && rateR
 unfoldable pub conditionsTest : ℕ → Conditions → Result (Unit {0})
 conditionsTest n c =
     bind (require (hourAndGainsInRange c && setpointsInRange c && achArgsInRange (c .«ach_args»)) conditionsValue) λ _.
-    eachNeeds elementHourInRange conditionsValue (take n (c .elements)) 1
+    allRequired elementHourInRange conditionsValue (take n (c .elements)) 1
 
 -- an hour's conditions for a zone; no bytes are those of more than 24 elements
 unfoldable pub conditionsOf : Zone → (bytes : List ℕ) → Result Conditions

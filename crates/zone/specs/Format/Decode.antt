@@ -88,7 +88,3 @@ zoneAt bs =
       «temp_setpnt_cool_vent_init» = f 5;
       «building_elements» = elementsAt bs firstElement (countIn bs) ++ replicate (24 - countIn bs) noElement;
     }
-
--- what stands beside a refusal
-unfoldable pub noZone : Zone
-noZone = zoneAt []

@@ -5,6 +5,7 @@ use mathlib.Core.List.{List, [], _∷_}
 use lib.ListN.{getD}
 use lib.Dec.{leb, eqb}
 use Rattle.zone.specs.Record.BuildingElement.{isTwoNodes}
+use Rattle.zone.specs.Format.Layout.{floatSize, fiveNodesSize, transparentSize}
 use Rattle.zone.specs.declared.record.building_element.Element.{Element}
 use Rattle.zone.specs.declared.record.building_element.Kind.{Kind}
 use Rattle.zone.specs.declared.record.building_element.Kind.the-variants.{Opaque, AdjacentConditionedSpace, AdjacentUnconditionedSpaceSimple, Ground, Transparent, PartyWall}
@@ -28,7 +29,7 @@ treatmentsValid k t = leb t (maxTreatments k)
 
 -- "171 per five-node element, 123 + 8t per Transparent"
 abbrev pub elementSize : Kind → (treatments : ℕ) → ℕ
-elementSize k t = cond (isTwoNodes k) (123 + 8 * t) 171
+elementSize k t = cond (isTwoNodes k) (transparentSize + floatSize * t) fiveNodesSize
 
 -- of elements one after the other
 unfoldable pub sizes : List Element → ℕ

@@ -4,15 +4,13 @@ use mathlib.Core.Bool.{_&&_}
 use mathlib.Core.List.{List}
 use lib.ListN.{length}
 use lib.Dec.{leb, eqb}
-use Rattle.solver.specs.Result.{Result, ok, refused, bind, require, requireAt}
+use Rattle.solver.specs.Result.{Result, ok, bind, require, requireAt}
 use Rattle.zone.specs.Record.Numbers.{headShort, headLength, headVersion, structure}
 use Rattle.zone.specs.Format.Layout.{lengthSize, lengthField, versionIn, basisIn, countIn, firstElement, shortestLength, longestLength, elementFloats}
 use Rattle.zone.specs.Format.ElementLayout.{kindValidAt, sizeAt}
-use Rattle.zone.specs.Format.Decode.{zoneAt, noZone}
+use Rattle.zone.specs.Format.Decode.{zoneAt}
 use Rattle.zone.specs.Check.ZoneTest.{countValid, valuesTest}
 use Rattle.zone.specs.declared.record.zone_record.Zone.{Zone}
-use Rattle.zone.specs.declared.record.zone_record.Verdict.the-variants.{Accepted, Refused}
-use Rattle.zone.specs.declared.format.head.Head.{Head}
 
 -- where the elements end: from place p so many are left, of which the first has index i + 1. The head ends at `end`
 unfoldable pub elementsEnd : List ℕ → (end left i p : ℕ) → Result ℕ
@@ -46,7 +44,3 @@ headOf bs =
     bind (structureOf bs) λ n.
     bind (valuesTest (zoneAt bs)) λ _.
     ok (record { zone = zoneAt bs; length = n })
-
-abbrev pub headAnswer : Result (ReadHead Zone) → Head
-headAnswer (ok h) = record { verdict = Accepted; zone = h .zone; length = h .length }
-headAnswer (refused number index) = record { verdict = Refused number index; zone = noZone; length = 0 }

@@ -2,7 +2,7 @@
 use mathlib.Core.Bool.{cond, not, _&&_}
 use mathlib.Core.List.{List}
 use lib.Ieee.{Float, lt, ne, neg}
-use Rattle.solver.specs.F64.{_+ᶠ_, _-ᶠ_, _*ᶠ_, _/ᶠ_, dec, zero64}
+use Rattle.solver.specs.F64.{_+ᶠ_, _-ᶠ_, _*ᶠ_, _/ᶠ_, decimal, zero64}
 use Rattle.solver.specs.Result.{Result, ok, bind, require}
 use Rattle.solver.specs.Closeness.{closeInDemand, closeInWindowsTest}
 use Rattle.zone.specs.declared.record.building_element.Coefficients.{Coefficients}
@@ -41,7 +41,7 @@ achTarget (TargetAndWindowsOpen target windows) = target
 
 -- the timestep in seconds
 abbrev pub deltaT : Conditions → Float
-deltaT h = h .«delta_t_h» *ᶠ dec 3600 0
+deltaT h = h .«delta_t_h» *ᶠ decimal 3600 0
 
 -- the gains from heating or cooling that are there before any demand, and their convective fraction
 abbrev pub gainsHeatCool : Conditions → Float
@@ -65,9 +65,9 @@ ventilated tempFree ach trigger =
 unfoldable pub wanted : (usefulArea : Float) → Conditions → (tempFree : Float) → HeatCoolLoad
 wanted usefulArea h tempFree =
     cond (lt (h .«temp_setpnt_cool») tempFree && not (closeInDemand tempFree (h .«temp_setpnt_cool»)))
-    (Toward (h .«temp_setpnt_cool») (neg (dec 10 0) *ᶠ usefulArea) (h .«frac_convective_cool»))
+    (Toward (h .«temp_setpnt_cool») (neg (decimal 10 0) *ᶠ usefulArea) (h .«frac_convective_cool»))
     (cond (lt tempFree (h .«temp_setpnt_heat») && not (closeInDemand tempFree (h .«temp_setpnt_cool»)))
-    (Toward (h .«temp_setpnt_heat») (dec 10 0 *ᶠ usefulArea) (h .«frac_convective_heat»))
+    (Toward (h .«temp_setpnt_heat») (decimal 10 0 *ᶠ usefulArea) (h .«frac_convective_heat»))
     NoLoad)
 
 -- gains with the load, and their convective fraction
@@ -82,7 +82,7 @@ unfoldable pub interpHeatCoolDemand : (deltaTH setpoint load tempFree tempUpper 
 interpHeatCoolDemand deltaTH setpoint load tempFree tempUpper =
     bind (require (not (closeInDemand (tempUpper -ᶠ tempFree) zero64)) noEffect) λ _.
     ok (cond (closeInDemand setpoint tempFree) zero64
-    (load *ᶠ (setpoint -ᶠ tempFree) /ᶠ (tempUpper -ᶠ tempFree) /ᶠ dec 1000 0 *ᶠ deltaTH))
+    (load *ᶠ (setpoint -ᶠ tempFree) /ᶠ (tempUpper -ᶠ tempFree) /ᶠ decimal 1000 0 *ᶠ deltaTH))
 
 unfoldable pub demandRecord : (kWh : Float) → VentilationChoice → Demand
 demandRecord kWh v =

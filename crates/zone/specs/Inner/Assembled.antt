@@ -6,14 +6,11 @@ use mathlib.Core.List.{List}
 use lib.ListN.{set, replicate}
 use lib.Ieee.{Float}
 use Rattle.solver.specs.F64.{_+ᶠ_, _-ᶠ_, _*ᶠ_, _/ᶠ_, zero64, one64}
-use Rattle.solver.specs.Each.{each}
+use Rattle.solver.specs.Repeat.{repeat}
 use Rattle.solver.specs.Rows.{setEntry}
 use Rattle.solver.specs.Sums.{sum2, terms}
-use Rattle.solver.specs.Result.{Result, ok, refused}
 use Rattle.solver.specs.FastSolver.{atMost24}
-use Rattle.solver.specs.Inner.Factored.{solved}
 use Rattle.solver.specs.declared.system.Matrix.{Matrix}
-use Rattle.solver.specs.declared.system.Solved.{Solved}
 use Rattle.zone.specs.declared.record.building_element.Element.{Element}
 use Rattle.zone.specs.declared.record.building_element.ElementHour.{ElementHour}
 use Rattle.zone.specs.declared.record.building_element.Coefficients.{Coefficients}
@@ -39,15 +36,15 @@ module _ (c : Coefficients) (n : ℕ) (es : List Element) where
   -- (41), (40), (39)
   unfoldable pub elementChains : List ElementHour → («delta_t» : Float) → List Float → Chains → Chains
   elementChains hours «delta_t» t s =
-      each 0 n (elementRows es hours «delta_t» (hCiAt c es t) (shareOf n es)) s
+      repeat 0 n (elementRows es hours «delta_t» (hCiAt c es t) (shareOf n es)) s
 
   unfoldable pub couplingsOf : List Float → List Float → List Float
   couplingsOf t m =
-      each 0 n (coupleRow n (areaOf es) (hRiOf es) (hCiAt c es t) (shareOf n es)) m
+      repeat 0 n (coupleRow n (areaOf es) (hRiOf es) (hCiAt c es t) (shareOf n es)) m
 
 -- the right sides of (41), (40), (39), but for the gains
 unfoldable pub elementSides : ℕ → List Element → List ElementHour → («delta_t» : Float) → List Float → List Float → List Float
-elementSides n es hours «delta_t» t b = each 0 n (elementRightSides es hours «delta_t» t) b
+elementSides n es hours «delta_t» t b = repeat 0 n (elementRightSides es hours «delta_t» t) b
 
 -- (38): the terms that neither rate nor load changes, and those of the gains
 abbrev pub zoneTermsOf : Coefficients → Zone → Conditions → («delta_t» : Float) → List Float → ZoneTerms
@@ -138,8 +135,3 @@ matrixOf (assembled s twoNodes diag next prev dense b) «h_ve» =
 abbrev pub rightSideOf : Assembled → («h_ve» «gains_heat_cool» «f_hc_c» : Float) → List Float
 rightSideOf (assembled s twoNodes diag next prev dense b) «h_ve» «gains_heat_cool» «f_hc_c» =
     rightSideWith s «h_ve» «gains_heat_cool» «f_hc_c» b
-
--- the answer of `calc_temperatures`: 0 and the temperatures after the step, or a refusal's number and those before it
-abbrev pub solvedOrBefore : («temp_prev» : List Float) → Result (List Float) → Solved
-solvedOrBefore «temp_prev» (ok after) = solved 0 after
-solvedOrBefore «temp_prev» (refused number index) = solved number «temp_prev»

@@ -5,7 +5,7 @@ use mathlib.Core.List.{List}
 use lib.ListN.{getD, set}
 use lib.Ieee.{Float, nan, neg}
 use Rattle.solver.specs.F64.{_+ᶠ_, _-ᶠ_, _*ᶠ_, _/ᶠ_, zero64}
-use Rattle.solver.specs.Each.{each}
+use Rattle.solver.specs.Repeat.{repeat}
 use Rattle.solver.specs.Rows.{setEntry}
 use Rattle.zone.specs.declared.record.building_element.Element.{Element}
 use Rattle.zone.specs.declared.record.building_element.ElementHour.{ElementHour}
@@ -56,11 +56,11 @@ couple share «h_ri» i k m = setEntry i k (zero64 -ᶠ share k *ᶠ «h_ri») m
 unfoldable pub coupleRow : ℕ → (area «h_ri» «h_ci» share : ℕ → Float) → ℕ → List Float → List Float
 coupleRow n area «h_ri» «h_ci» share i m =
     setEntry n i (neg (area i) *ᶠ «h_ci» i)
-    (setEntry i n (neg («h_ci» i)) (each 0 n (couple share («h_ri» i) i) m))
+    (setEntry i n (neg («h_ci» i)) (repeat 0 n (couple share («h_ri» i) i) m))
 
 -- the gains of each m2 of inner surface, added to the right side of (39)
 abbrev pub addGains : Float → ℕ → List Float → List Float
 addGains x e b = set b (5 * e + 4) (innerSurface b e +ᶠ x)
 
 unfoldable pub withGains : ℕ → Float → List Float → List Float
-withGains n x b = each 0 n (addGains x) b
+withGains n x b = repeat 0 n (addGains x) b

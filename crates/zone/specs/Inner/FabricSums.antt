@@ -1,4 +1,4 @@
--- The heat balance's nine sums as the code has them: all in one pass over the elements. `each 0 n (addElementAt ..) noFabric` holds the nine sums of
+-- The heat balance's nine sums as the code has them: all in one pass over the elements. `repeat 0 n (addElementAt ..) noFabric` holds the nine sums of
 -- HeatBalance's `externalBoundary`.
 use Prim.Native.Nat.{ℕ, _+_, _*_}
 use mathlib.Core.Bool.{Bool, cond}

@@ -11,12 +11,9 @@ use Rattle.zone.specs.Format.ElementLayout.{kindOf, treatmentsValid}
 use Rattle.zone.specs.Check.ZoneTest.{countValid}
 use Rattle.zone.specs.Format.Head.{elementsEnd}
 use Rattle.zone.specs.Format.Conditions.{rateCodeValid, openBitsValid, conditionsTest, conditionsAt}
-use Rattle.zone.specs.declared.record.building_element.Element.{Element}
 use Rattle.zone.specs.declared.format.conditions.Conditions.{Conditions}
-use Rattle.zone.specs.declared.format.conditions.HourConditions.{HourConditions}
-use Rattle.zone.specs.declared.record.zone_record.Verdict.the-variants.{Accepted, Refused}
-use Rattle.zone.specs.declared.format.head.Structure.{Structure}
-use Rattle.zone.specs.declared.format.head.Structure.the-variants.{End, Wrong}
+use Rattle.zone.specs.declared.format.head.Extent.{Extent}
+use Rattle.zone.specs.declared.format.head.Extent.the-variants.{End, Refused}
 
 -- a kind's number and its treatments
 abbrev pub kindValid : (number treatments : ℕ) → Bool
@@ -32,9 +29,9 @@ structureWithin bs end =
     ok end
 
 -- the code's answer to `structureOf` and `elementsEnd`
-abbrev pub structureAnswer : Result ℕ → Structure
-structureAnswer (ok n) = End n
-structureAnswer (refused number index) = Wrong number index
+abbrev pub extentAnswer : Result ℕ → Extent
+extentAnswer (ok n) = End n
+extentAnswer (refused number index) = Refused number index
 
 -- the conditions, once size, code and open bits are right
 unfoldable pub testedAt : List ℕ → (n : ℕ) → Result Conditions
@@ -52,10 +49,3 @@ conditionsFor n ts bs =
 -- what stands beside a refusal: what no bytes are read as
 unfoldable pub noConditions : Conditions
 noConditions = conditionsAt [] 0
-
-abbrev pub conditionsAnswer : Result Conditions → HourConditions
-conditionsAnswer (ok c) = record { verdict = Accepted; conditions = c }
-conditionsAnswer (refused number index) = record { verdict = Refused number index; conditions = noConditions }
-
-abbrev pub treatmentsOf : Element → ℕ
-treatmentsOf e = e .treatments

@@ -1,20 +1,26 @@
--- An hour's calculations, as the code has them: the demand, then the last calculation where it is met (demand-solved and hour-solved of proofs/Laws/Hour.antt, pass-solved of StartUp.antt).
+-- An hour's calculations, as the code has them: a given load, or the demand and the last calculation where it is met. answer-solved (proofs/Laws/PreparedDemand.antt)
+-- ties `answerIn` to `hourSolved`, and Laws/Hour.antt and StartUp.antt tie that to the calls.
 use mathlib.Core.List.{List}
 use lib.Ieee.{Float}
-use Rattle.solver.specs.F64.{_+ᶠ_}
-use Rattle.solver.specs.Result.{Result, ok, refused, bind}
+use Rattle.solver.specs.F64.{_+ᶠ_, zero64}
+use Rattle.solver.specs.Result.{Result, ok, bind}
+use Rattle.solver.specs.Inner.Factored.{solvedRes}
 use Rattle.zone.specs.declared.record.zone_record.Zone.{Zone}
 use Rattle.zone.specs.declared.format.conditions.Conditions.{Conditions}
 use Rattle.zone.specs.declared.calls.state.Demand.{Demand}
-use Rattle.zone.specs.declared.calls.state.DemandAnswer.{DemandAnswer}
-use Rattle.zone.specs.declared.calls.state.DemandAnswer.the-variants.{Accepted, Refused}
+use Rattle.zone.specs.declared.calls.state.AchToTriggerHeating.the-variants.{Absent}
 use Rattle.zone.specs.declared.hour.hour.Meeting.{Meeting}
 use Rattle.zone.specs.declared.hour.hour.Meeting.the-variants.{NotMet, WithGains, Alone}
+use Rattle.zone.specs.declared.hour.hour.Asked.{Asked}
+use Rattle.zone.specs.declared.hour.hour.Asked.the-variants as Asked
 use Rattle.zone.specs.declared.hour.hour.MetLoad.{MetLoad}
 use Rattle.zone.specs.declared.hour.hour.MetLoad.the-variants.{NoLoad, Load}
 use Rattle.zone.specs.Record.BuildingElement.{standardCoefficients}
-use Rattle.zone.specs.Hour.Demand.{gainsHeatCool, temperaturesWith, spaceHeatCoolDemand}
+use Rattle.zone.specs.Physics.Ventilation.{calcVentHeatTransferCoeff}
+use Rattle.zone.specs.Hour.Demand.{gainsHeatCool, temperaturesWith, spaceHeatCoolDemand, ventilated, demandRecord}
 use Rattle.zone.specs.Calls.Hour.{delivered, convectiveShare}
+use Rattle.zone.specs.Inner.Prepared.{Prepared, loadIn, solvedIn}
+use Rattle.zone.specs.Inner.Demand.{demandIn}
 
 abbrev pub metLoad : Conditions → Demand → Meeting → MetLoad
 metLoad h d NotMet = NoLoad
@@ -24,19 +30,49 @@ metLoad h d WithGains =
     Load g (convectiveShare h w g)
 metLoad h d Alone = Load (delivered h d) (h .«frac_convective_heat»)
 
--- an answer with the temperatures beside it, which count where it accepts
-abbrev pub answerWith : DemandAnswer → List Float → Result (Demand × List Float)
-answerWith (Accepted d) after = ok (d, after)
-answerWith (Refused number index) after = refused number index
+-- what stands beside an update, which asks for no demand
+unfoldable pub noDemand : (ach : Float) → Demand
+noDemand ach = demandRecord zero64 (ventilated zero64 ach Absent)
+
+-- of an hour that is prepared
+module _ (p : Prepared) (volume : Float) where
+  unfoldable pub updateIn : («gains_heat_cool» «f_hc_c» ach : Float) → Result (Demand × List Float)
+  updateIn «gains_heat_cool» «f_hc_c» ach =
+      bind (solvedIn p volume «gains_heat_cool» «f_hc_c» ach) λ x.
+      ok (noDemand ach, x .0)
+
+  -- the temperatures after the last calculation, or those before it where there is none
+  abbrev pub metIn : Demand → (last : List Float) → MetLoad → (before : List Float) → Result (List Float)
+  metIn d last NoLoad before = ok before
+  metIn d last (Load gains fraction) before = solvedRes (loadIn p last (calcVentHeatTransferCoeff volume (d .«ach_cooling»)) gains fraction)
+
+  module _ (control : List Float → Float) (h : Conditions) (usefulArea : Float) where
+    unfoldable pub demandMetIn : Meeting → (before : List Float) → Result (Demand × List Float)
+    demandMetIn meeting before =
+        bind (demandIn p volume control h usefulArea) λ x.
+        bind (metIn (x .0) (x .1) (metLoad h (x .0) meeting) before) λ after.
+        ok (x .0, after)
+
+    abbrev pub answerIn : Asked → (before : List Float) → Result (Demand × List Float)
+    answerIn (Asked.Demand meeting) before = demandMetIn meeting before
+    answerIn (Asked.Update «gains_heat_cool» «f_hc_c» ach) before = updateIn «gains_heat_cool» «f_hc_c» ach
 
 module _ (z : Zone) (t : List Float) (h : Conditions) where
-  -- the temperatures after the last calculation, or those before it where there is none
   abbrev pub metWith : Demand → MetLoad → (before : List Float) → Result (List Float)
   metWith d NoLoad before = ok before
   metWith d (Load gains fraction) before = temperaturesWith standardCoefficients z t h gains fraction (d .«ach_cooling»)
 
-  unfoldable pub hourSolved : Meeting → (before : List Float) → Result (Demand × List Float)
-  hourSolved meeting before =
+  unfoldable pub demandSolved : Meeting → (before : List Float) → Result (Demand × List Float)
+  demandSolved meeting before =
       bind (spaceHeatCoolDemand standardCoefficients z t h) λ d.
       bind (metWith d (metLoad h d meeting) before) λ after.
       ok (d, after)
+
+  unfoldable pub updateSolved : («gains_heat_cool» «f_hc_c» ach : Float) → Result (Demand × List Float)
+  updateSolved «gains_heat_cool» «f_hc_c» ach =
+      bind (temperaturesWith standardCoefficients z t h «gains_heat_cool» «f_hc_c» ach) λ after.
+      ok (noDemand ach, after)
+
+  abbrev pub hourSolved : Asked → (before : List Float) → Result (Demand × List Float)
+  hourSolved (Asked.Demand meeting) before = demandSolved meeting before
+  hourSolved (Asked.Update «gains_heat_cool» «f_hc_c» ach) before = updateSolved «gains_heat_cool» «f_hc_c» ach

@@ -10,6 +10,9 @@ use Rattle.zone.specs.declared.record.zone_record.Zone.{Zone}
 use Rattle.zone.specs.Physics.Slots.{air, innerSurface, withTerms}
 use Rattle.zone.specs.Physics.System.{areaOf}
 use Rattle.zone.specs.Physics.TempOperative.{meanOf}
+use Rattle.zone.specs.Inner.Assembly.{at}
+use Rattle.zone.specs.declared.record.zone_record.ZoneTemperatureControlBasis.{ZoneTemperatureControlBasis}
+use Rattle.zone.specs.declared.record.zone_record.ZoneTemperatureControlBasis.the-variants.{Air, Operative}
 
 -- element e's term of the mean radiant temperature
 abbrev pub radiantAt : (area : ℕ → Float) → List Float → ℕ → Float
@@ -21,3 +24,8 @@ tempOperativeOf n area «area_el_total» t = meanOf (air t) (sum2 (terms 0 n (ra
 -- the areas of a zone's elements, 0.0 in the places behind them
 unfoldable pub areasOf : Zone → List Float
 areasOf z = withTerms (atMost24 (z .count)) (areaOf (z .«building_elements»)) (replicate 24 zero64)
+
+-- `controlTemperature` from the areas and their total
+abbrev pub controlBy : ZoneTemperatureControlBasis → (count : ℕ) (areas : List Float) («area_el_total» : Float) → List Float → Float
+controlBy Air count areas «area_el_total» t = air t
+controlBy Operative count areas «area_el_total» t = tempOperativeOf (atMost24 count) (at areas) «area_el_total» t

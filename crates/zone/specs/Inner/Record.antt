@@ -1,4 +1,5 @@
--- Words of the contracts of functions that are not exported: the direction of heat flow, by which the code finds h_ci.
+-- Words of the contracts of functions that are not exported: the direction of heat flow, by which the code finds h_ci, and its code.
+use Prim.Native.Nat.{ℕ, zero, suc}
 use mathlib.Core.Bool.{cond, not, _&&_, _||_}
 use lib.Ieee.{Float, lt, le}
 use Rattle.zone.specs.declared.record.building_element.Coefficients.{Coefficients}
@@ -17,3 +18,13 @@ abbrev pub hCiOf : Coefficients → HeatFlowDirection → Float
 hCiOf c Horizontal = c .«h_ci_horizontal»
 hCiOf c Upwards = c .«h_ci_upwards»
 hCiOf c Downwards = c .«h_ci_downwards»
+
+abbrev pub directionCode : HeatFlowDirection → ℕ
+directionCode Horizontal = 0
+directionCode Upwards = 1
+directionCode Downwards = 2
+
+abbrev pub hCiByCode : Coefficients → ℕ → Float
+hCiByCode c zero = c .«h_ci_horizontal»
+hCiByCode c (suc zero) = c .«h_ci_upwards»
+hCiByCode c (suc (suc k)) = c .«h_ci_downwards»

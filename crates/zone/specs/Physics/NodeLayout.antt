@@ -5,7 +5,7 @@ use mathlib.Core.List.{List}
 use lib.ListN.{getD, set, replicate}
 use lib.Ieee.{Float, nan}
 use Rattle.solver.specs.F64.{zero64}
-use Rattle.solver.specs.Each.{each}
+use Rattle.solver.specs.Repeat.{repeat}
 use Rattle.solver.specs.Chain.{outerSlot}
 use Rattle.solver.specs.FastSolver.{atMost24}
 
@@ -24,7 +24,7 @@ move from to a j b = set b (to + j) (getD a (from + j) nan)
 
 -- k numbers of a, from place `from` on, go to b, from place `to` on
 unfoldable pub copyNodes : (k from to : ℕ) → List Float → List Float → List Float
-copyNodes k from to a b = each 0 k (move from to a) b
+copyNodes k from to a b = repeat 0 k (move from to a) b
 
 -- the nodes of element e go to its slots, and back
 abbrev pub toSlotsAt : List Bool → List Float → ℕ → List Float → List Float
@@ -37,10 +37,10 @@ toNodesAt twoNodes slots e t = copyNodes (nodesAt twoNodes e) (outerSlot twoNode
 unfoldable pub toSlots : (count : ℕ) → List Bool → (temps : List Float) → List Float
 toSlots count twoNodes t =
     let n = atMost24 count in
-    set (each 0 n (toSlotsAt twoNodes t) (replicate 121 zero64)) 120 (getD t (firstNode twoNodes n) nan)
+    set (repeat 0 n (toSlotsAt twoNodes t) (replicate 121 zero64)) 120 (getD t (firstNode twoNodes n) nan)
 
 -- Places behind the internal air hold 0.0.
 unfoldable pub toNodes : (count : ℕ) → List Bool → (slots : List Float) → List Float
 toNodes count twoNodes slots =
     let n = atMost24 count in
-    set (each 0 n (toNodesAt twoNodes slots) (replicate 121 zero64)) (firstNode twoNodes n) (getD slots 120 nan)
+    set (repeat 0 n (toNodesAt twoNodes slots) (replicate 121 zero64)) (firstNode twoNodes n) (getD slots 120 nan)

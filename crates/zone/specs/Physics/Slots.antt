@@ -4,7 +4,7 @@ use mathlib.Core.Bool.{Bool}
 use mathlib.Core.List.{List, [], _∷_}
 use lib.ListN.{getD, set}
 use lib.Ieee.{Float, nan}
-use Rattle.solver.specs.Each.{each}
+use Rattle.solver.specs.Repeat.{repeat}
 use Rattle.solver.specs.Chain.{outerSlot}
 use Rattle.zone.specs.declared.record.building_element.Element.{Element}
 use Rattle.zone.specs.declared.record.building_element.ElementHour.{ElementHour}
@@ -30,11 +30,11 @@ setSlot e r j d = set d (5 * e + j) (getD r j nan)
 
 -- all five
 unfoldable pub setSlots : ℕ → List Float → List Float → List Float
-setSlots e r d = each 0 5 (setSlot e r) d
+setSlots e r d = repeat 0 5 (setSlot e r) d
 
 -- and of each of the first n elements
 unfoldable pub inSlots : ℕ → (ℕ → List Float) → List Float → List Float
-inSlots n r d = each 0 n (λ e. setSlots e (r e)) d
+inSlots n r d = repeat 0 n (λ e. setSlots e (r e)) d
 
 -- of the zone's elements and of the hour's
 abbrev pub element : List Element → ℕ → Element
@@ -49,4 +49,4 @@ module _ {A : Type 0} where
 
   -- a list whose first n places hold f 0, f 1, .. f (n - 1)
   unfoldable pub withTerms : ℕ → (ℕ → A) → List A → List A
-  withTerms n f a = each 0 n (setTerm f) a
+  withTerms n f a = repeat 0 n (setTerm f) a

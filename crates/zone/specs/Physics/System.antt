@@ -6,7 +6,7 @@ use mathlib.Core.List.{List}
 use lib.ListN.{getD, set, replicate}
 use lib.Ieee.{Float, nan, neg}
 use Rattle.solver.specs.F64.{_+ᶠ_, _-ᶠ_, _*ᶠ_, _/ᶠ_, zero64, one64}
-use Rattle.solver.specs.Each.{each}
+use Rattle.solver.specs.Repeat.{repeat}
 use Rattle.solver.specs.Rows.{setEntry}
 use Rattle.solver.specs.Sums.{sum2, terms}
 use Rattle.solver.specs.FastSolver.{atMost24}
@@ -65,7 +65,7 @@ module _ (c : Coefficients) (z : Zone) («temp_prev» : List Float) (hour : Cond
       let es = z .«building_elements» in
       let «h_ci» = hCiAt c es «temp_prev» i in
       setEntry n i (neg (areaOf es i) *ᶠ «h_ci»)
-      (setEntry i n (neg «h_ci») (each 0 n (λ k. setEntry i k (zero64 -ᶠ shareOf n es k *ᶠ element es i .«h_ri»)) m))
+      (setEntry i n (neg «h_ci») (repeat 0 n (λ k. setEntry i k (zero64 -ᶠ shareOf n es k *ᶠ element es i .«h_ri»)) m))
 
   -- (38): the zone's own coefficient, at a ventilation coefficient
   abbrev pub zoneDiagonal : («h_ve» : Float) → Float
@@ -85,7 +85,7 @@ module _ (c : Coefficients) (z : Zone) («temp_prev» : List Float) (hour : Cond
         diag = inSlots n (λ e. rowsAt e .diag) (replicate 120 zero64);
         next = inSlots n (λ e. rowsAt e .next) (replicate 120 zero64);
         prev = inSlots n (λ e. rowsAt e .prev) (replicate 120 zero64);
-        dense = setEntry n n (zoneDiagonal «h_ve») (each 0 n couplings (replicate 625 zero64));
+        dense = setEntry n n (zoneDiagonal «h_ve») (repeat 0 n couplings (replicate 625 zero64));
       }
 
   module _ («gains_heat_cool» «f_hc_c» : Float) where

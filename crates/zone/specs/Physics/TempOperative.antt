@@ -1,7 +1,7 @@
 -- The operative temperature, BS EN ISO 52016-1, 6.5.5.3, from temperatures in their slots.
 use mathlib.Core.List.{List}
 use lib.Ieee.{Float}
-use Rattle.solver.specs.F64.{_+ᶠ_, _*ᶠ_, _/ᶠ_, dec}
+use Rattle.solver.specs.F64.{_+ᶠ_, _*ᶠ_, _/ᶠ_, decimal}
 use Rattle.solver.specs.Sums.{sum2, terms}
 use Rattle.solver.specs.FastSolver.{atMost24}
 use Rattle.zone.specs.declared.record.zone_record.Zone.{Zone}
@@ -9,7 +9,7 @@ use Rattle.zone.specs.Physics.Slots.{air, innerSurface}
 use Rattle.zone.specs.Physics.System.{areaOf, areaElTotal}
 
 unfoldable pub meanOf : (x y : Float) → Float
-meanOf x y = (x +ᶠ y) /ᶠ dec 2 0
+meanOf x y = (x +ᶠ y) /ᶠ decimal 2 0
 
 -- the mean of the air's and of the mean radiant temperature
 unfoldable pub tempOperative : Zone → List Float → Float

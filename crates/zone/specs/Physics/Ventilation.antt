@@ -1,20 +1,20 @@
 -- Ventilation: its heat transfer coefficient, and the air change rate that reaches a temperature, in the Rust's written order.
 use mathlib.Core.Bool.{cond, _||_}
 use lib.Ieee.{Float, lt, le, ne}
-use Rattle.solver.specs.F64.{_+ᶠ_, _-ᶠ_, _*ᶠ_, _/ᶠ_, one64, dec}
+use Rattle.solver.specs.F64.{_+ᶠ_, _-ᶠ_, _*ᶠ_, _/ᶠ_, one64, decimal}
 use Rattle.zone.specs.declared.record.material_properties.MaterialProperties.{MaterialProperties}
 
 -- kg / litre and J / (kg.K)
 unfoldable pub airProperties : MaterialProperties
-airProperties = record { density = dec 1204 6; «specific_heat_capacity» = dec 1006 0 }
+airProperties = record { density = decimal 1204 6; «specific_heat_capacity» = decimal 1006 0 }
 
 unfoldable pub densityKgPerM3 : MaterialProperties → Float
-densityKgPerM3 m = m .density *ᶠ dec 1000 0
+densityKgPerM3 m = m .density *ᶠ decimal 1000 0
 
 -- H_ve, in W / K
 unfoldable pub calcVentHeatTransferCoeff : (volume ach : Float) → Float
 calcVentHeatTransferCoeff volume ach =
-    let qVe = ach *ᶠ volume /ᶠ dec 3600 0 in
+    let qVe = ach *ᶠ volume /ᶠ decimal 3600 0 in
     densityKgPerM3 airProperties *ᶠ airProperties .«specific_heat_capacity» *ᶠ qVe
 
 -- a NaN becomes the minimum

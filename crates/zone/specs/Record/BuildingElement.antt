@@ -5,7 +5,7 @@ use mathlib.Core.List.{List, [], _∷_}
 use lib.ListN.{take}
 use lib.Dec.{eqb}
 use lib.Ieee.{Float, lt, le}
-use Rattle.solver.specs.F64.{_+ᶠ_, _/ᶠ_, one64, dec}
+use Rattle.solver.specs.F64.{_+ᶠ_, _/ᶠ_, one64, decimal}
 use Rattle.zone.specs.declared.record.building_element.Kind.{Kind}
 use Rattle.zone.specs.declared.record.building_element.Kind.the-variants.{Opaque, AdjacentConditionedSpace, AdjacentUnconditionedSpaceSimple, Ground, Transparent, PartyWall}
 use Rattle.zone.specs.declared.record.building_element.Element.{Element}
@@ -17,14 +17,14 @@ use Rattle.zone.specs.declared.record.zone_record.Zone.{Zone}
 unfoldable pub standardCoefficients : Coefficients
 standardCoefficients =
     record {
-      «f_int_c» = dec 4 1;
-      «f_sol_c» = dec 1 1;
-      «k_m_int» = dec 10000 0;
-      «h_ci_horizontal» = dec 25 1;
-      «h_ci_upwards» = dec 50 1;
-      «h_ci_downwards» = dec 7 1;
-      «pitch_limit_horiz_ceiling» = dec 60 0;
-      «pitch_limit_horiz_floor» = dec 120 0;
+      «f_int_c» = decimal 4 1;
+      «f_sol_c» = decimal 1 1;
+      «k_m_int» = decimal 10000 0;
+      «h_ci_horizontal» = decimal 25 1;
+      «h_ci_upwards» = decimal 50 1;
+      «h_ci_downwards» = decimal 7 1;
+      «pitch_limit_horiz_ceiling» = decimal 60 0;
+      «pitch_limit_horiz_floor» = decimal 120 0;
     }
 
 -- h_ci, in W / (m2.K); air and surface are those from before the step. Horizontal between the two pitches, both included; a ceiling (below the

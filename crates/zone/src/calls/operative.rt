@@ -5,21 +5,27 @@ use crate::calls::state::slots_of;
 use crate::check::arguments::zone_and_state_test;
 use crate::physics::operative::temp_operative;
 use crate::record::zone_record::Verdict;
-use crate::record::zone_record::Zone;
+use crate::record::zone_record::ZoneFront;
 ghost use mathlib.Core.Path.{_≡_};
+ghost use Rattle.zone.specs.Inner.Lent.{zoneIn};
 ghost use Rattle.zone.specs.Calls.State.{operative};
 ghost use Rattle.zone.specs.Calls.Answers.{operativeReply};
 
 impl State {
-    pub fn temp_operative(self, z: Zone) -> OperativeReply
-        ensures { λ r. ⌜ r ≡ operativeReply (operative z self) ⌝ }
+    pub fn temp_operative(
+        self,
+        z: ZoneFront,
+        codes: &[u8; 72],
+        values: &[f64; 600],
+    ) -> OperativeReply
+        ensures { λ r. ⌜ r ≡ operativeReply (operative (zoneIn z (now (codes .entry)) (now (values .entry))) self) ⌝ }
     {
-        let verdict = zone_and_state_test(z, self);
+        let verdict = zone_and_state_test(z, codes, values, self);
         match verdict {
             Verdict::Refused { number, index } => OperativeReply::Refused { number, index },
             Verdict::Accepted => {
-                let t = slots_of(z, self);
-                OperativeReply::Accepted(temp_operative(z, &t))
+                let t = slots_of(z, codes, values, self);
+                OperativeReply::Accepted(temp_operative(z, codes, values, &t))
             }
         }
     }

@@ -4,9 +4,10 @@ use crate::physics::node_layout::to_nodes;
 use crate::physics::node_layout::to_slots;
 use crate::physics::node_layout::two_nodes_of;
 use crate::record::zone_record::Verdict;
-use crate::record::zone_record::Zone;
+use crate::record::zone_record::ZoneFront;
 use crate::record::zone_record::node_count;
 ghost use mathlib.Core.Path.{_≡_};
+ghost use Rattle.zone.specs.Inner.Lent.{zoneIn};
 ghost use Rattle.zone.specs.Calls.State.{slotsOf, stateOf};
 
 // Node temperatures: element by element from the outer to the inner surface, then the air. The first `nodes` of `temps` count.
@@ -73,20 +74,20 @@ pub struct StartUp {
 }
 
 // The temperatures in the solver's slots.
-pub fn slots_of(z: Zone, s: State) -> [f64; 121]
-    ensures { λ r. ⌜ r ≡ slotsOf z s ⌝ }
+pub fn slots_of(z: ZoneFront, codes: &[u8; 72], values: &[f64; 600], s: State) -> [f64; 121]
+    ensures { λ r. ⌜ r ≡ slotsOf (zoneIn z (now (codes .entry)) (now (values .entry))) s ⌝ }
 {
-    let two_nodes = two_nodes_of(z);
+    let two_nodes = two_nodes_of(z, codes, values);
     let temps = s.temps;
     to_slots(z.count, &two_nodes, &temps)
 }
 
 // The state of temperatures that stand in slots.
-pub fn state_of(z: Zone, t: &[f64; 121]) -> State
-    ensures { λ r. ⌜ r ≡ stateOf z (now (t .entry)) ⌝ }
+pub fn state_of(z: ZoneFront, codes: &[u8; 72], values: &[f64; 600], t: &[f64; 121]) -> State
+    ensures { λ r. ⌜ r ≡ stateOf (zoneIn z (now (codes .entry)) (now (values .entry))) (now (t .entry)) ⌝ }
 {
-    let two_nodes = two_nodes_of(z);
-    let nodes = node_count(z);
+    let two_nodes = two_nodes_of(z, codes, values);
+    let nodes = node_count(z, codes, values);
     let temps = to_nodes(z.count, &two_nodes, t);
     State { nodes, temps }
 }

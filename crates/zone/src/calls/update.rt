@@ -1,4 +1,5 @@
 // The update of the temperatures by given gains of heating or cooling.
+use crate::calls::state::DemandAnswer;
 use crate::calls::state::State;
 use crate::calls::state::UpdateAnswer;
 use crate::calls::state::UpdateReply;
@@ -8,17 +9,19 @@ use crate::check::arguments::tested;
 use crate::check::ranges::fraction_in_range;
 use crate::check::ranges::gains_in_range;
 use crate::check::ranges::rate_in_range;
-use crate::format::conditions::Conditions;
+use crate::format::conditions::HourFront;
+use crate::hour::hour::Asked;
+use crate::hour::hour_kept::hour_in;
 use crate::hour::simulation_time::delta_t_of;
-use crate::hour::time_step::calc_temperatures;
 use crate::physics::balance::heat_balance;
 use crate::record::building_element::standard_coefficients;
 use crate::record::numbers::CONDITIONS_VALUE;
 use crate::record::zone_record::Verdict;
-use crate::record::zone_record::Zone;
+use crate::record::zone_record::ZoneFront;
 ghost use mathlib.Core.Path.{_≡_};
 ghost use mathlib.Core.Bool.{_&&_};
 ghost use Rattle.solver.specs.Result.{refused};
+ghost use Rattle.zone.specs.Inner.Lent.{zoneIn, conditionsIn};
 ghost use Rattle.zone.specs.Record.BuildingElement.{standardCoefficients};
 ghost use Rattle.zone.specs.Check.Ranges.{gainsRange, fractionRange, rateRange};
 ghost use Rattle.zone.specs.Calls.Hour.{step, updateTemperatures};
@@ -46,69 +49,99 @@ fn load_in_range(gains_heat_cool: f64, frac_convective: f64, ach: f64) -> bool
 impl State {
     fn step(
         self,
-        z: Zone,
-        h: Conditions,
+        z: ZoneFront,
+        codes: &[u8; 72],
+        values: &[f64; 600],
+        h: HourFront,
+        parts: &[f64; 120],
+        opens: &[u8; 24],
         gains_heat_cool: f64,
         frac_convective: f64,
         ach: f64,
     ) -> UpdateReply
-        ensures { λ r. ⌜ r ≡ updateReply self (step standardCoefficients z self h «gains_heat_cool» «frac_convective» ach) ⌝ }
+        ensures { λ r. ⌜ r ≡ updateReply self (step standardCoefficients (zoneIn z (now (codes .entry)) (now (values .entry))) self (conditionsIn h (now (parts .entry)) (now (opens .entry))) «gains_heat_cool» «frac_convective» ach) ⌝ }
     {
-        let c = standard_coefficients();
-        let before = slots_of(z, self);
-        let delta_t = delta_t_of(h);
-        let after = calc_temperatures(
-            c,
-            z,
-            before,
-            h,
-            delta_t,
+        let before = slots_of(z, codes, values, self);
+        let asked = Asked::Update {
             gains_heat_cool,
-            frac_convective,
+            f_hc_c: frac_convective,
             ach,
-        );
-        if after.number != 0 {
-            return refuse(self, after.number, 0);
-        }
-        let temps = after.temps;
-        let balance = heat_balance(
-            c,
+        };
+        let mut after = [0.0; 121];
+        let solved = hour_in(
             z,
+            codes,
+            values,
             &before,
             h,
-            delta_t,
-            gains_heat_cool,
-            frac_convective,
-            ach,
-            &temps,
+            parts,
+            opens,
+            asked,
+            &mut after,
         );
-        let state = state_of(z, &temps);
-        let answer = UpdateAnswer::Accepted(balance);
-        UpdateReply {
-            answer: answer,
-            state: state,
+        match solved {
+            DemandAnswer::Refused { number, index } => refuse(self, number, index),
+            DemandAnswer::Accepted(_) => {
+                let c = standard_coefficients();
+                let delta_t = delta_t_of(h);
+                let balance = heat_balance(
+                    c,
+                    z,
+                    codes,
+                    values,
+                    &before,
+                    h,
+                    parts,
+                    opens,
+                    delta_t,
+                    gains_heat_cool,
+                    frac_convective,
+                    ach,
+                    &after,
+                );
+                let state = state_of(z, codes, values, &after);
+                let answer = UpdateAnswer::Accepted(balance);
+                UpdateReply {
+                    answer: answer,
+                    state: state,
+                }
+            }
         }
     }
 
     // One hour with these gains, of which a fraction is convective, and this air change rate.
     pub fn update_temperatures(
         self,
-        z: Zone,
+        z: ZoneFront,
+        codes: &[u8; 72],
+        values: &[f64; 600],
         conditions: &[u8],
         gains_heat_cool: f64,
         frac_convective: f64,
         ach: f64,
     ) -> UpdateReply
-        ensures { λ r. ⌜ r ≡ updateReply self (updateTemperatures standardCoefficients z self (now (conditions .entry)) «gains_heat_cool» «frac_convective» ach) ⌝ }
+        ensures { λ r. ⌜ r ≡ updateReply self (updateTemperatures standardCoefficients (zoneIn z (now (codes .entry)) (now (values .entry))) self (now (conditions .entry)) «gains_heat_cool» «frac_convective» ach) ⌝ }
     {
-        let read = tested(z, self, conditions);
+        let mut parts = [0.0; 120];
+        let mut opens = [0; 24];
+        let read = tested(z, codes, values, self, conditions, &mut parts, &mut opens);
         let verdict = read.verdict;
         match verdict {
             Verdict::Refused { number, index } => refuse(self, number, index),
             Verdict::Accepted => {
                 if load_in_range(gains_heat_cool, frac_convective, ach) {
-                    let h = read.conditions;
-                    return self.step(z, h, gains_heat_cool, frac_convective, ach);
+                    let h = read.front;
+                    return self.step(
+                        z,
+                        codes,
+                        values,
+                        h,
+                        &parts,
+                        &opens,
+                        gains_heat_cool,
+                        frac_convective,
+                        ach,
+                    );
                 }
                 refuse(self, CONDITIONS_VALUE, 0)
             }

@@ -2,10 +2,11 @@
 use crate::calls::state::State;
 use crate::check::zone_tests::zone_test;
 use crate::format::conditions::HourConditions;
-use crate::format::read_conditions::conditions_of;
+use crate::format::decode_conditions::no_hour_front;
+use crate::format::read_conditions::read_conditions;
 use crate::record::numbers::STATE_INVALID;
 use crate::record::zone_record::Verdict;
-use crate::record::zone_record::Zone;
+use crate::record::zone_record::ZoneFront;
 use crate::record::zone_record::node_count;
 use solver::within_state_bound;
 ghost use mathlib.Core.Path.{_≡_};
@@ -16,8 +17,10 @@ ghost use lib.Dec.{eqb};
 ghost use Rattle.zone.specs.Record.BuildingElement.{nodeCount};
 ghost use Rattle.zone.specs.Check.ZoneTest.{verdictOf};
 ghost use Rattle.zone.specs.Calls.State.{allWithinStateBound, zoneAndStateTest};
-ghost use Rattle.zone.specs.Calls.Hour.{tested};
-ghost use Rattle.zone.specs.Inner.Solves.{verdictRes};
+ghost use Rattle.zone.specs.Calls.Hour.{testedHour, tested};
+ghost use Rattle.zone.specs.Inner.Verdict.{verdictRes};
+ghost use Rattle.zone.specs.Inner.Lent.{zoneIn, conditionsIn};
+ghost use Rattle.zone.specs.Inner.Arrays.{NoParts};
 
 fn first_within_state_bound(t: &[f64], n: usize) -> bool
     requires { ⌜ n ≤ length (now t) ⌝ }
@@ -45,24 +48,25 @@ fn all_within_state_bound(t: &[f64], n: usize) -> bool
     }
 }
 
-fn state_valid(z: Zone, s: State) -> bool
-    ensures { λ r. ⌜ r ≡ (eqb (s .nodes) (nodeCount z) && allWithinStateBound (take (s .nodes) (s .temps))) ⌝ }
+fn state_valid(z: ZoneFront, codes: &[u8; 72], values: &[f64; 600], s: State) -> bool
+    ensures { λ r. ⌜ r ≡ (eqb (s .nodes) (nodeCount (zoneIn z (now (codes .entry)) (now (values .entry)))) && allWithinStateBound (take (s .nodes) (s .temps))) ⌝ }
 {
     let nodes = s.nodes;
     let temps = s.temps;
-    let count = nodes == node_count(z);
+    let count = nodes == node_count(z, codes, values);
     let within = all_within_state_bound(&temps, nodes);
     count & within
 }
 
-pub fn zone_and_state_test(z: Zone, s: State) -> Verdict
-    ensures { λ r. ⌜ r ≡ verdictOf (zoneAndStateTest z s) ⌝ }
+// 4, 5, then 6.
+pub fn zone_and_state_test(z: ZoneFront, codes: &[u8; 72], values: &[f64; 600], s: State) -> Verdict
+    ensures { λ r. ⌜ r ≡ verdictOf (zoneAndStateTest (zoneIn z (now (codes .entry)) (now (values .entry))) s) ⌝ }
 {
-    let zone = zone_test(z);
+    let zone = zone_test(z, codes, values);
     match zone {
         Verdict::Refused { number, index } => Verdict::Refused { number, index },
         Verdict::Accepted => {
-            if state_valid(z, s) {
+            if state_valid(z, codes, values, s) {
                 Verdict::Accepted
             } else {
                 Verdict::Refused {
@@ -74,21 +78,52 @@ pub fn zone_and_state_test(z: Zone, s: State) -> Verdict
     }
 }
 
-// The conditions count where the verdict accepts.
-pub fn tested(z: Zone, s: State, conditions: &[u8]) -> HourConditions
-    ensures { λ r. ⌜ verdictRes (r .verdict) (r .conditions) ≡ tested z s (now (conditions .entry)) ⌝ }
+fn refuse(number: u32, index: usize) -> HourConditions
+    ensures { λ r. ⌜ r .verdict ≡ Verdict.Refused number index ⌝ }
 {
-    let before = zone_and_state_test(z, s);
-    let read = conditions_of(z, conditions);
-    match before {
-        Verdict::Refused { number, index } => {
-            let verdict = Verdict::Refused { number, index };
-            let none = read.conditions;
-            HourConditions {
-                verdict: verdict,
-                conditions: none,
-            }
-        }
-        Verdict::Accepted => read,
+    let verdict = Verdict::Refused { number, index };
+    let front = no_hour_front();
+    HourConditions {
+        verdict: verdict,
+        front: front,
+    }
+}
+
+// Of a zone that is tested: 6, then 7, 8, 9. The conditions count where the verdict accepts.
+pub fn tested_hour(
+    z: ZoneFront,
+    codes: &[u8; 72],
+    values: &[f64; 600],
+    s: State,
+    conditions: &[u8],
+    parts: &mut [f64; 120],
+    opens: &mut [u8; 24],
+) -> HourConditions
+    requires { ⌜ NoParts (now parts) (now opens) ⌝ }
+    ensures { λ r. ⌜ verdictRes (r .verdict) (conditionsIn (r .front) (now (parts .exit)) (now (opens .exit))) ≡ testedHour (zoneIn z (now (codes .entry)) (now (values .entry))) s (now (conditions .entry)) ⌝ }
+{
+    if state_valid(z, codes, values, s) {
+        return read_conditions(z.count, codes, conditions, parts, opens);
+    }
+    refuse(STATE_INVALID, 0)
+}
+
+// The zone first: 4, 5.
+pub fn tested(
+    z: ZoneFront,
+    codes: &[u8; 72],
+    values: &[f64; 600],
+    s: State,
+    conditions: &[u8],
+    parts: &mut [f64; 120],
+    opens: &mut [u8; 24],
+) -> HourConditions
+    requires { ⌜ NoParts (now parts) (now opens) ⌝ }
+    ensures { λ r. ⌜ verdictRes (r .verdict) (conditionsIn (r .front) (now (parts .exit)) (now (opens .exit))) ≡ tested (zoneIn z (now (codes .entry)) (now (values .entry))) s (now (conditions .entry)) ⌝ }
+{
+    let zone = zone_test(z, codes, values);
+    match zone {
+        Verdict::Refused { number, index } => refuse(number, index),
+        Verdict::Accepted => tested_hour(z, codes, values, s, conditions, parts, opens),
     }
 }

@@ -8,22 +8,28 @@ use crate::check::ranges::rate_in_range;
 use crate::check::ranges::setpoint_in_range;
 use crate::check::ranges::temperature_in_range;
 use crate::check::zone_tests::element_hour_in_range;
+use crate::format::bytes::count_of;
 use crate::format::bytes::read_u64_be;
 use crate::format::conditions::AirChangesPerHourArgument;
-use crate::format::conditions::Conditions;
+use crate::format::conditions::HourFront;
 use crate::format::layout::ELEMENT_HOUR_SIZE;
 use crate::format::layout::FIRST_ELEMENT_HOUR;
 use crate::format::layout::OPEN_BYTE;
 use crate::format::layout::RATE_CODE;
 use crate::format::layout::SECOND_RATE;
+use crate::record::arrays::CODES;
+use crate::record::arrays::element_hour_of;
 use crate::record::numbers::CONDITIONS_VALUE;
 use crate::record::zone_record::Verdict;
 ghost use mathlib.Core.Path.{_≡_};
 ghost use mathlib.Core.Bool.{_&&_};
+ghost use mathlib.Core.List.{[]};
 ghost use Prim.Native.Nat.{_≤_};
 ghost use Rattle.zone.specs.Format.Layout.{firstElementHour, conditionsLength};
 ghost use lib.ListN.{length, take};
 ghost use Rattle.zone.specs.Check.ZoneTest.{verdictOf};
+ghost use Rattle.zone.specs.Inner.Lent.{hourOf, conditionsIn};
+ghost use Rattle.zone.specs.Inner.Arrays.{treatmentsIn};
 ghost use Rattle.zone.specs.Format.Conditions.{rateCodeValid, openBitsValid, hourAndGainsInRange, setpointsInRange, achArgsInRange, conditionsTest};
 
 // Code 0 with a second float of all zero bits, or code 1.
@@ -39,14 +45,15 @@ pub fn rate_code_valid(s: &[u8]) -> bool
 }
 
 // No open bit past the treatments, of any element.
-pub fn open_bits_valid(s: &[u8], treatments: [usize; 24], n: usize) -> bool
+pub fn open_bits_valid(s: &[u8], codes: &[u8; 72], n: usize) -> bool
     requires { ⌜ (n ≤ 24) × (conditionsLength n ≤ length (now s)) ⌝ }
-    ensures { λ r. ⌜ r ≡ openBitsValid (now (s .entry)) (take n treatments) firstElementHour ⌝ }
+    ensures { λ r. ⌜ r ≡ openBitsValid (now (s .entry)) (take n (treatmentsIn (now (codes .entry)))) firstElementHour ⌝ }
 {
     let mut i: usize = 0;
     let mut p: usize = FIRST_ELEMENT_HOUR;
     while i < n {
-        if open_within(treatments[i], s[p + OPEN_BYTE]) {
+        let treatments = count_of(codes[CODES * i + 1]);
+        if open_within(treatments, s[p + OPEN_BYTE]) {
             p = p + ELEMENT_HOUR_SIZE;
             i = i + 1;
         } else {
@@ -56,8 +63,8 @@ pub fn open_bits_valid(s: &[u8], treatments: [usize; 24], n: usize) -> bool
     true
 }
 
-fn hour_and_gains_in_range(c: Conditions) -> bool
-    ensures { λ r. ⌜ r ≡ hourAndGainsInRange c ⌝ }
+fn hour_and_gains_in_range(c: HourFront) -> bool
+    ensures { λ r. ⌜ r ≡ hourAndGainsInRange (hourOf c []) ⌝ }
 {
     let length = hour_length_in_range(c.delta_t_h);
     let external = temperature_in_range(c.temp_ext_air);
@@ -68,8 +75,8 @@ fn hour_and_gains_in_range(c: Conditions) -> bool
     length & external & internal & solar & heating & cooling
 }
 
-fn setpoints_in_range(c: Conditions) -> bool
-    ensures { λ r. ⌜ r ≡ setpointsInRange c ⌝ }
+fn setpoints_in_range(c: HourFront) -> bool
+    ensures { λ r. ⌜ r ≡ setpointsInRange (hourOf c []) ⌝ }
 {
     let heating = heating_setpoint_in_range(c.temp_setpnt_heat);
     let cooling = setpoint_in_range(c.temp_setpnt_cool);
@@ -93,8 +100,8 @@ fn ach_args_in_range(a: AirChangesPerHourArgument) -> bool
     }
 }
 
-fn front_in_range(c: Conditions) -> bool
-    ensures { λ r. ⌜ r ≡ (hourAndGainsInRange c && setpointsInRange c && achArgsInRange (c .«ach_args»)) ⌝ }
+fn front_in_range(c: HourFront) -> bool
+    ensures { λ r. ⌜ r ≡ (hourAndGainsInRange (hourOf c []) && setpointsInRange (hourOf c []) && achArgsInRange (c .«ach_args»)) ⌝ }
 {
     let ach_args = c.ach_args;
     let hour = hour_and_gains_in_range(c);
@@ -104,15 +111,14 @@ fn front_in_range(c: Conditions) -> bool
 }
 
 // The first value out of range.
-pub fn conditions_test(n: usize, c: Conditions) -> Verdict
+pub fn conditions_test(n: usize, c: HourFront, parts: &[f64; 120], opens: &[u8; 24]) -> Verdict
     requires { ⌜ n ≤ 24 ⌝ }
-    ensures { λ r. ⌜ r ≡ verdictOf (conditionsTest n c) ⌝ }
+    ensures { λ r. ⌜ r ≡ verdictOf (conditionsTest n (conditionsIn c (now (parts .entry)) (now (opens .entry)))) ⌝ }
 {
     if front_in_range(c) {
-        let elements = c.elements;
         let mut i: usize = 0;
         while i < n {
-            let h = elements[i];
+            let h = element_hour_of(parts, opens, i);
             if element_hour_in_range(h) {
                 i = i + 1;
             } else {

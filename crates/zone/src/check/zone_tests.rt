@@ -15,15 +15,18 @@ use crate::check::ranges::sky_in_range;
 use crate::check::ranges::temperature_in_range;
 use crate::format::element_layout::h_count;
 use crate::format::element_layout::max_treatments;
+use crate::record::arrays::element_of;
 use crate::record::building_element::Element;
 use crate::record::building_element::ElementHour;
 use crate::record::building_element::number_of_nodes;
 use crate::record::numbers::STRUCTURE;
 use crate::record::numbers::ZONE_VALUE;
 use crate::record::zone_record::Verdict;
-use crate::record::zone_record::Zone;
+use crate::record::zone_record::ZoneFront;
 ghost use mathlib.Core.Path.{_≡_};
+ghost use mathlib.Core.List.{[]};
 ghost use Prim.Native.Nat.{_≤_};
+ghost use Rattle.zone.specs.Inner.Lent.{zoneOf, zoneIn};
 ghost use Rattle.zone.specs.Inner.Check.{arraysInRange, tailInRange};
 ghost use Rattle.zone.specs.Check.ZoneTest.{
   countValid,
@@ -101,8 +104,8 @@ fn element_in_range(e: Element) -> bool
 }
 
 // The limit and the six floats.
-fn front_in_range(z: Zone) -> bool
-    ensures { λ r. ⌜ r ≡ frontInRange z ⌝ }
+fn front_in_range(z: ZoneFront) -> bool
+    ensures { λ r. ⌜ r ≡ frontInRange (zoneOf z []) ⌝ }
 {
     let limit = limit_in_range(z.start_up_limit);
     let useful_area = area_in_range(z.useful_area);
@@ -115,16 +118,15 @@ fn front_in_range(z: Zone) -> bool
 }
 
 // The first value out of range.
-pub fn values_test(z: Zone) -> Verdict
+fn values_test(z: ZoneFront, codes: &[u8; 72], values: &[f64; 600]) -> Verdict
     requires { ⌜ z .count ≤ 24 ⌝ }
-    ensures { λ r. ⌜ r ≡ verdictOf (valuesTest z) ⌝ }
+    ensures { λ r. ⌜ r ≡ verdictOf (valuesTest (zoneIn z (now (codes .entry)) (now (values .entry)))) ⌝ }
 {
     if front_in_range(z) {
         let n = z.count;
-        let elements = z.building_elements;
         let mut i: usize = 0;
         while i < n {
-            let e = elements[i];
+            let e = element_of(codes, values, i);
             if element_in_range(e) {
                 i = i + 1;
             } else {
@@ -149,11 +151,10 @@ pub fn count_valid(n: usize) -> bool
 }
 
 // The count, and the first element with more treatments than its kind has.
-fn counts_test(z: Zone) -> Verdict
-    ensures { λ r. ⌜ r ≡ verdictOf (countsTest z) ⌝ }
+fn counts_test(z: ZoneFront, codes: &[u8; 72], values: &[f64; 600]) -> Verdict
+    ensures { λ r. ⌜ r ≡ verdictOf (countsTest (zoneIn z (now (codes .entry)) (now (values .entry)))) ⌝ }
 {
     let n = z.count;
-    let elements = z.building_elements;
     if !count_valid(n) {
         return Verdict::Refused {
             number: STRUCTURE,
@@ -162,7 +163,7 @@ fn counts_test(z: Zone) -> Verdict
     }
     let mut i: usize = 0;
     while i < n {
-        let e = elements[i];
+        let e = element_of(codes, values, i);
         let kind = e.kind;
         let most = max_treatments(kind);
         if most < e.treatments {
@@ -177,12 +178,12 @@ fn counts_test(z: Zone) -> Verdict
 }
 
 // 4, then 5.
-pub fn zone_test(z: Zone) -> Verdict
-    ensures { λ r. ⌜ r ≡ verdictOf (zoneTest z) ⌝ }
+pub fn zone_test(z: ZoneFront, codes: &[u8; 72], values: &[f64; 600]) -> Verdict
+    ensures { λ r. ⌜ r ≡ verdictOf (zoneTest (zoneIn z (now (codes .entry)) (now (values .entry)))) ⌝ }
 {
-    let counts = counts_test(z);
+    let counts = counts_test(z, codes, values);
     match counts {
         Verdict::Refused { number, index } => Verdict::Refused { number, index },
-        Verdict::Accepted => values_test(z),
+        Verdict::Accepted => values_test(z, codes, values),
     }
 }

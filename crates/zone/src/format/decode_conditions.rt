@@ -2,13 +2,13 @@
 use crate::format::bytes::read_f64_be;
 use crate::format::bytes::read_f64s_be;
 use crate::format::conditions::AirChangesPerHourArgument;
-use crate::format::conditions::Conditions;
-use crate::format::decode::element_hour_at;
-use crate::format::decode::no_element_hour;
+use crate::format::conditions::HourFront;
+use crate::format::decode::floats_to;
 use crate::format::layout::ELEMENT_HOUR_SIZE;
 use crate::format::layout::FIRST_ELEMENT_HOUR;
+use crate::format::layout::OPEN_BYTE;
 use crate::format::layout::RATE_CODE;
-use crate::record::building_element::ElementHour;
+use crate::record::arrays::PARTS;
 ghost use mathlib.Core.Path.{_≡_};
 ghost use mathlib.Core.List.{_++_};
 ghost use Prim.Native.Nat.{_+_, _-_, _≤_};
@@ -16,6 +16,8 @@ ghost use lib.ListN.{length, replicate};
 ghost use Rattle.zone.specs.Format.Layout.{firstElementHour, conditionsLength};
 ghost use Rattle.zone.specs.Format.Decode.{noElementHour};
 ghost use Rattle.zone.specs.Format.Conditions.{achArgsAt, elementHoursAt, conditionsAt};
+ghost use Rattle.zone.specs.Inner.Lent.{elementHoursIn};
+ghost use Rattle.zone.specs.Inner.Arrays.{hourFrontOf, NoParts};
 ghost use Rattle.zone.specs.Inner.Format.{noConditions};
 
 // The rates in the 17 bytes from `at` on.
@@ -32,34 +34,30 @@ fn ach_args_at(s: &[u8], at: usize) -> AirChangesPerHourArgument
     }
 }
 
-// The parts of `n` elements.
-fn element_hours_at(s: &[u8], n: usize) -> [ElementHour; 24]
-    requires { ⌜ (n ≤ 24) × (conditionsLength n ≤ length (now s)) ⌝ }
-    ensures { λ r. ⌜ r ≡ elementHoursAt (now (s .entry)) firstElementHour n ++ replicate (24 - n) noElementHour ⌝ }
+// The parts of `n` elements, into arrays of zeros.
+pub fn parts_to(s: &[u8], n: usize, parts: &mut [f64; 120], opens: &mut [u8; 24])
+    requires { ⌜ (n ≤ 24) × (conditionsLength n ≤ length (now s)) × NoParts (now parts) (now opens) ⌝ }
+    ensures { λ _. ⌜ elementHoursIn (now (parts .exit)) (now (opens .exit)) ≡ elementHoursAt (now (s .entry)) firstElementHour n ++ replicate (24 - n) noElementHour ⌝ }
 {
-    let none = no_element_hour();
-    let mut out = [none; 24];
     let mut i: usize = 0;
     let mut p: usize = FIRST_ELEMENT_HOUR;
     while i < n {
-        let h = element_hour_at(s, p);
-        out[i] = h;
+        floats_to(parts, PARTS * i, s, p, 5);
+        opens[i] = s[p + OPEN_BYTE];
         p = p + ELEMENT_HOUR_SIZE;
         i = i + 1;
     }
-    out
 }
 
-// The conditions of `n` elements.
-pub fn conditions_at(s: &[u8], n: usize) -> Conditions
-    requires { ⌜ (n ≤ 24) × (conditionsLength n ≤ length (now s)) ⌝ }
-    ensures { λ r. ⌜ r ≡ conditionsAt (now (s .entry)) n ⌝ }
+// The conditions beside the elements' parts.
+pub fn hour_front_at(s: &[u8]) -> HourFront
+    requires { ⌜ firstElementHour ≤ length (now s) ⌝ }
+    ensures { λ r. ⌜ r ≡ hourFrontOf (conditionsAt (now (s .entry)) 0) ⌝ }
 {
     let mut row = [0.0f64; 12];
     read_f64s_be(&mut row, s, 0, 12);
     let ach_args = ach_args_at(s, RATE_CODE);
-    let elements = element_hours_at(s, n);
-    Conditions {
+    HourFront {
         delta_t_h: row[0],
         temp_ext_air: row[1],
         gains_internal: row[2],
@@ -73,17 +71,15 @@ pub fn conditions_at(s: &[u8], n: usize) -> Conditions
         gains_heat_cool_convective: row[10],
         gains_heat_cool_radiative: row[11],
         ach_args: ach_args,
-        elements: elements,
     }
 }
 
 // What stands beside a refusal.
-pub fn no_conditions() -> Conditions
-    ensures { λ r. ⌜ r ≡ noConditions ⌝ }
+pub fn no_hour_front() -> HourFront
+    ensures { λ r. ⌜ r ≡ hourFrontOf noConditions ⌝ }
 {
-    let none = no_element_hour();
     let ach_args = AirChangesPerHourArgument::Cooling(0.0);
-    Conditions {
+    HourFront {
         delta_t_h: 0.0,
         temp_ext_air: 0.0,
         gains_internal: 0.0,
@@ -97,6 +93,5 @@ pub fn no_conditions() -> Conditions
         gains_heat_cool_convective: 0.0,
         gains_heat_cool_radiative: 0.0,
         ach_args: ach_args,
-        elements: [none; 24],
     }
 }

@@ -1,10 +1,10 @@
 // The head of a book: a zone in bytes.
 use crate::check::zone_tests::count_valid;
-use crate::check::zone_tests::values_test;
 use crate::format::bytes::count_of;
 use crate::format::bytes::read_u32_be;
-use crate::format::decode::no_zone;
-use crate::format::decode::zone_at;
+use crate::format::decode::elements_to;
+use crate::format::decode::front_at;
+use crate::format::decode::no_front;
 use crate::format::element_layout::element_size;
 use crate::format::element_layout::kind_of;
 use crate::format::element_layout::max_treatments;
@@ -23,26 +23,30 @@ use crate::record::numbers::HEAD_SHORT;
 use crate::record::numbers::HEAD_VERSION;
 use crate::record::numbers::STRUCTURE;
 use crate::record::zone_record::Verdict;
-use crate::record::zone_record::Zone;
+use crate::record::zone_record::ZoneFront;
 ghost use mathlib.Core.Path.{_≡_};
 ghost use Prim.Native.Nat.{_+_, _-_, _≤_, _<_};
 ghost use lib.ListN.{length};
 ghost use Rattle.solver.specs.Result.{ok, refused};
 ghost use Rattle.zone.specs.Format.Layout.{lengthSize, shortestLength, firstElement};
-ghost use Rattle.zone.specs.Inner.Format.{kindValid, structureWithin, structureAnswer};
-ghost use Rattle.zone.specs.Format.Head.{elementsEnd, structureOf, headOf, headAnswer};
+ghost use Rattle.zone.specs.Inner.Format.{kindValid, structureWithin, extentAnswer};
+ghost use Rattle.zone.specs.Inner.Arrays.{noZone};
+ghost use Rattle.zone.specs.Format.Head.{elementsEnd, structureOf};
+ghost use Rattle.zone.specs.Inner.Head.{structuredHead, headIn};
+ghost use Rattle.zone.specs.Inner.Arrays.{frontOf};
+ghost use Rattle.zone.specs.declared.record.zone_record.Verdict as Verdict;
 
-// What a byte string is as a head: when refused, the zone is a fixed one and the length 0.
+// What a byte string is as a head, beside the arrays with its elements: when refused, the front is a fixed one and the length 0.
 pub struct Head {
     pub verdict: Verdict,
-    pub zone: Zone,
+    pub zone: ZoneFront,
     pub length: usize,
 }
 
 // Where a head, or its elements, end.
-pub enum Structure {
+pub enum Extent {
     End(usize),
-    Wrong { number: u32, index: usize },
+    Refused { number: u32, index: usize },
 }
 
 fn kind_valid(number: u8, treatments: usize) -> bool
@@ -54,22 +58,22 @@ fn kind_valid(number: u8, treatments: usize) -> bool
 }
 
 // A refusal with no index.
-fn wrong(number: u32) -> Structure
-    ensures { λ r. ⌜ r ≡ structureAnswer (refused number 0) ⌝ }
+fn refuse_extent(number: u32) -> Extent
+    ensures { λ r. ⌜ r ≡ extentAnswer (refused number 0) ⌝ }
 {
-    Structure::Wrong { number, index: 0 }
+    Extent::Refused { number, index: 0 }
 }
 
 // The structure of the elements, from the first element to `end`.
-fn elements_end(s: &[u8], end: usize, n: usize) -> Structure
+fn elements_end(s: &[u8], end: usize, n: usize) -> Extent
     requires { ⌜ (firstElement ≤ end) × (end ≤ length (now s)) ⌝ }
-    ensures { λ r. ⌜ r ≡ structureAnswer (elementsEnd (now (s .entry)) end n 0 firstElement) ⌝ }
+    ensures { λ r. ⌜ r ≡ extentAnswer (elementsEnd (now (s .entry)) end n 0 firstElement) ⌝ }
 {
     let mut i: usize = 0;
     let mut p: usize = FIRST_ELEMENT;
     while i < n {
         if end - p < AREA {
-            return wrong(HEAD_LENGTH);
+            return refuse_extent(HEAD_LENGTH);
         }
         let number = s[p];
         let t = count_of(s[p + TREATMENTS]);
@@ -77,24 +81,24 @@ fn elements_end(s: &[u8], end: usize, n: usize) -> Structure
             let kind = kind_of(number);
             let size = element_size(kind, t);
             if end - p < size {
-                return wrong(HEAD_LENGTH);
+                return refuse_extent(HEAD_LENGTH);
             }
             p = p + size;
             i = i + 1;
         } else {
-            return Structure::Wrong {
+            return Extent::Refused {
                 number: STRUCTURE,
                 index: i + 1,
             };
         }
     }
-    Structure::End(p)
+    Extent::End(p)
 }
 
 // The structure, once the head's own bytes are known to be there.
-fn structure_within(s: &[u8], end: usize) -> Structure
+fn structure_within(s: &[u8], end: usize) -> Extent
     requires { ⌜ (lengthSize + shortestLength ≤ end) × (end ≤ length (now s)) ⌝ }
-    ensures { λ r. ⌜ r ≡ structureAnswer (structureWithin (now (s .entry)) end) ⌝ }
+    ensures { λ r. ⌜ r ≡ extentAnswer (structureWithin (now (s .entry)) end) ⌝ }
 {
     let version = s[VERSION_AT] == VERSION;
     let basis = s[BASIS_AT] <= 1;
@@ -102,47 +106,47 @@ fn structure_within(s: &[u8], end: usize) -> Structure
     let count = count_valid(n);
     let front = basis & count;
     if !version {
-        return wrong(HEAD_VERSION);
+        return refuse_extent(HEAD_VERSION);
     }
     if !front {
-        return wrong(STRUCTURE);
+        return refuse_extent(STRUCTURE);
     }
     let elements = elements_end(s, end, n);
     match elements {
-        Structure::Wrong { number, index } => Structure::Wrong { number, index },
-        Structure::End(p) => {
+        Extent::Refused { number, index } => Extent::Refused { number, index },
+        Extent::End(p) => {
             if p == end {
-                Structure::End(p)
+                Extent::End(p)
             } else {
-                wrong(HEAD_LENGTH)
+                refuse_extent(HEAD_LENGTH)
             }
         }
     }
 }
 
 // The structure of a head, before any value is judged.
-fn structure_of(s: &[u8]) -> Structure
-    ensures { λ r. ⌜ r ≡ structureAnswer (structureOf (now (s .entry))) ⌝ }
+fn structure_of(s: &[u8]) -> Extent
+    ensures { λ r. ⌜ r ≡ extentAnswer (structureOf (now (s .entry))) ⌝ }
 {
     if s.len() < LENGTH_SIZE {
-        return wrong(HEAD_SHORT);
+        return refuse_extent(HEAD_SHORT);
     }
     let length = read_u32_be(s, 0) as usize;
     let length_good = (SHORTEST_LENGTH <= length) & (length <= LONGEST_LENGTH);
     if !length_good {
-        return wrong(HEAD_LENGTH);
+        return refuse_extent(HEAD_LENGTH);
     }
     let end = LENGTH_SIZE + length;
     if s.len() < end {
-        return wrong(HEAD_SHORT);
+        return refuse_extent(HEAD_SHORT);
     }
     structure_within(s, end)
 }
 
 fn refuse(number: u32, index: usize) -> Head
-    ensures { λ r. ⌜ r ≡ headAnswer (refused number index) ⌝ }
+    ensures { λ r. ⌜ r ≡ record { verdict = Verdict.Refused number index; zone = frontOf noZone; length = 0 } ⌝ }
 {
-    let zone = no_zone();
+    let zone = no_front();
     let verdict = Verdict::Refused { number, index };
     Head {
         verdict: verdict,
@@ -151,15 +155,18 @@ fn refuse(number: u32, index: usize) -> Head
     }
 }
 
-// The values, once the structure is right.
-fn head_values(s: &[u8], end: usize) -> Head
-    requires { ⌜ structureOf (now s) ≡ ok end ⌝ }
-    ensures { λ r. ⌜ r ≡ headAnswer (headOf (now (s .entry))) ⌝ }
+// A byte string as a head, its elements into arrays that are lent: 1 to 4. Its values are judged by those who use them.
+pub fn read_head(bytes: &[u8], codes: &mut [u8; 72], values: &mut [f64; 600]) -> Head
+    ensures { λ r. ⌜ headIn r (now (codes .exit)) (now (values .exit)) ≡ structuredHead (now (bytes .entry)) ⌝ }
 {
-    let zone = zone_at(s, end);
-    let values = values_test(zone);
-    match values {
-        Verdict::Accepted => {
+    *codes = [0; 72];
+    *values = [0.0; 600];
+    let structure = structure_of(bytes);
+    match structure {
+        Extent::Refused { number, index } => refuse(number, index),
+        Extent::End(end) => {
+            let zone = front_at(bytes);
+            elements_to(bytes, end, zone.count, codes, values);
             let verdict = Verdict::Accepted;
             Head {
                 verdict: verdict,
@@ -167,17 +174,5 @@ fn head_values(s: &[u8], end: usize) -> Head
                 length: end,
             }
         }
-        Verdict::Refused { number, index } => refuse(number, index),
-    }
-}
-
-// A byte string as a head.
-pub fn zone_of_head(bytes: &[u8]) -> Head
-    ensures { λ r. ⌜ r ≡ headAnswer (headOf (now (bytes .entry))) ⌝ }
-{
-    let structure = structure_of(bytes);
-    match structure {
-        Structure::Wrong { number, index } => refuse(number, index),
-        Structure::End(end) => head_values(bytes, end),
     }
 }

@@ -1,7 +1,7 @@
 // Cooling by ventilation: the choice of an air change rate.
 use crate::calls::state::AchToTriggerHeating;
 use crate::format::conditions::AirChangesPerHourArgument;
-use crate::format::conditions::Conditions;
+use crate::format::conditions::HourFront;
 use crate::hour::solves::control_temperature;
 use crate::hour::solves::free_temperatures;
 use crate::hour::time_step::ZoneTerms;
@@ -11,70 +11,66 @@ use crate::hour::windows::above_cooling_setpoint;
 use crate::hour::windows::ach_to_reach;
 use crate::hour::windows::windows_cool;
 use crate::hour::windows::zone_temperatures;
-use crate::record::zone_record::Zone;
+use crate::record::zone_record::ZoneFront;
 ghost use mathlib.Core.Path.{_≡_};
-ghost use Rattle.solver.specs.Inner.Factored.{factored};
-ghost use Rattle.zone.specs.Record.BuildingElement.{standardCoefficients};
-ghost use Rattle.zone.specs.Inner.Assembled.{assembled};
-ghost use Rattle.zone.specs.Inner.Operative.{areasOf};
-ghost use Rattle.zone.specs.Hour.Demand.{achTarget};
-ghost use Rattle.zone.specs.Inner.Demand.{coolByWindows, withChoice, chooseRate, coolingPotential};
-ghost use Rattle.zone.specs.Inner.Solves.{hourSystem, factorsAt, VentilationAt};
+ghost use mathlib.Core.List.{[]};
+ghost use Rattle.zone.specs.Inner.Lent.{hourOf};
+ghost use Rattle.zone.specs.Inner.Operative.{controlBy};
+ghost use Rattle.zone.specs.Inner.Prepared.{prepared};
+ghost use Rattle.zone.specs.Inner.Demand.{ventilationWith, coolByWindows, withChoice, chooseRate, coolingPotential};
 
 pub enum VentilationAnswer {
     Accepted(VentilationChoice),
     Refused { number: u32, index: usize },
 }
 
-// With the rate that windows need: it is chosen, or the cooling system is used at the target rate.
+// With the rate that windows need: it is chosen and its last column left, or the cooling system is used at the target rate.
 fn cool_by_windows(
-    z: Zone,
-    t: &[f64; 121],
-    h: Conditions,
+    z: ZoneFront,
+    h: HourFront,
     target: f64,
     temp_free: f64,
     ach: f64,
     trigger: AchToTriggerHeating,
     terms: ZoneTerms,
+    valid: bool,
     two_nodes: &[bool; 24],
     diag: &[f64; 120],
     next: &[f64; 120],
-    prev: &[f64; 120],
     dense: &[f64; 625],
+    interchanges: &[usize; 25],
+    column: &[f64; 25],
     b: &[f64; 121],
+    inner: &[f64; 24],
     area: &[f64; 24],
-    factor_diag: &mut [f64; 120],
-    factor_dense: &mut [f64; 625],
-    interchanges: &mut [usize; 25],
+    last: &mut [f64; 25],
 ) -> VentilationAnswer
-    requires { ⌜ (assembled terms (now «two_nodes») (now diag) (now next) (now prev) (now dense) (now b) ≡ hourSystem z (now t) h) × (factored 0 (now «factor_diag») (now «factor_dense») (now interchanges) ≡ factorsAt z (now t) h target) × (now area ≡ areasOf z) ⌝ }
-    ensures { λ r. ⌜ VentilationAt z (now (t .entry)) h (coolByWindows standardCoefficients z (now (t .entry)) h target «temp_free» ach trigger) r (now («factor_diag» .exit)) (now («factor_dense» .exit)) (now (interchanges .exit)) ⌝ }
+    ensures { λ r. ⌜ ventilationWith r (now (last .exit)) ≡ coolByWindows (prepared terms valid (now («two_nodes» .entry)) (now (diag .entry)) (now (next .entry)) (now (dense .entry)) (now (interchanges .entry)) (now (column .entry)) (now (b .entry)) (now (inner .entry))) (z .volume) (controlBy (z .«temp_setpnt_basis») (z .count) (now (area .entry)) (terms .«area_el_total»)) (hourOf h []) target «temp_free» ach trigger (now (last .entry)) ⌝ }
 {
-    let mut extra_diag = [0.0; 120];
-    let mut extra_dense = [0.0; 625];
-    let mut extra_interchanges = [0; 25];
+    let mut extra = [0.0; 25];
     let mut temps = [0.0; 121];
     let number = free_temperatures(
-        z,
-        t,
+        z.volume,
         h,
         ach,
         terms,
+        valid,
         two_nodes,
         diag,
         next,
-        prev,
         dense,
+        interchanges,
+        column,
         b,
-        &mut extra_diag,
-        &mut extra_dense,
-        &mut extra_interchanges,
+        inner,
+        &mut extra,
         &mut temps,
     );
     if number != 0 {
         return VentilationAnswer::Refused { number, index: 0 };
     }
-    let temp_extra = control_temperature(z, area, terms.area_el_total, &temps);
+    let basis = z.temp_setpnt_basis;
+    let temp_extra = control_temperature(basis, z.count, area, terms.area_el_total, &temps);
     if above_cooling_setpoint(temp_extra, h.temp_setpnt_cool) {
         return VentilationAnswer::Accepted(VentilationChoice {
             temp_free,
@@ -82,9 +78,7 @@ fn cool_by_windows(
             ach_to_trigger_heating: trigger,
         });
     }
-    *factor_diag = extra_diag;
-    *factor_dense = extra_dense;
-    *interchanges = extra_interchanges;
+    *last = extra;
     VentilationAnswer::Accepted(VentilationChoice {
         temp_free: temp_extra,
         ach_cooling: ach,
@@ -93,27 +87,26 @@ fn cool_by_windows(
 }
 
 fn with_choice(
-    z: Zone,
-    t: &[f64; 121],
-    h: Conditions,
+    z: ZoneFront,
+    h: HourFront,
     target: f64,
     windows: f64,
     free: ZoneTemperatures,
     vent_max: ZoneTemperatures,
     terms: ZoneTerms,
+    valid: bool,
     two_nodes: &[bool; 24],
     diag: &[f64; 120],
     next: &[f64; 120],
-    prev: &[f64; 120],
     dense: &[f64; 625],
+    interchanges: &[usize; 25],
+    column: &[f64; 25],
     b: &[f64; 121],
+    inner: &[f64; 24],
     area: &[f64; 24],
-    factor_diag: &mut [f64; 120],
-    factor_dense: &mut [f64; 625],
-    interchanges: &mut [usize; 25],
+    last: &mut [f64; 25],
 ) -> VentilationAnswer
-    requires { ⌜ (assembled terms (now «two_nodes») (now diag) (now next) (now prev) (now dense) (now b) ≡ hourSystem z (now t) h) × (factored 0 (now «factor_diag») (now «factor_dense») (now interchanges) ≡ factorsAt z (now t) h target) × (now area ≡ areasOf z) ⌝ }
-    ensures { λ r. ⌜ VentilationAt z (now (t .entry)) h (withChoice standardCoefficients z (now (t .entry)) h target windows free «vent_max») r (now («factor_diag» .exit)) (now («factor_dense» .exit)) (now (interchanges .exit)) ⌝ }
+    ensures { λ r. ⌜ ventilationWith r (now (last .exit)) ≡ withChoice (prepared terms valid (now («two_nodes» .entry)) (now (diag .entry)) (now (next .entry)) (now (dense .entry)) (now (interchanges .entry)) (now (column .entry)) (now (b .entry)) (now (inner .entry))) (z .volume) (controlBy (z .«temp_setpnt_basis») (z .count) (now (area .entry)) (terms .«area_el_total»)) (hourOf h []) target windows free «vent_max» (now (last .entry)) ⌝ }
 {
     let trigger = AchToTriggerHeating::At(ach_to_reach(
         h,
@@ -127,23 +120,23 @@ fn with_choice(
         let ach = ach_to_reach(h, target, windows, free, vent_max, h.temp_setpnt_cool_vent);
         return cool_by_windows(
             z,
-            t,
             h,
             target,
             free.temp_control,
             ach,
             trigger,
             terms,
+            valid,
             two_nodes,
             diag,
             next,
-            prev,
             dense,
-            b,
-            area,
-            factor_diag,
-            factor_dense,
             interchanges,
+            column,
+            b,
+            inner,
+            area,
+            last,
         );
     }
     VentilationAnswer::Accepted(VentilationChoice {
@@ -154,94 +147,91 @@ fn with_choice(
 }
 
 fn choose_rate(
-    z: Zone,
-    t: &[f64; 121],
-    h: Conditions,
+    z: ZoneFront,
+    h: HourFront,
     target: f64,
     windows: f64,
     free: ZoneTemperatures,
     terms: ZoneTerms,
+    valid: bool,
     two_nodes: &[bool; 24],
     diag: &[f64; 120],
     next: &[f64; 120],
-    prev: &[f64; 120],
     dense: &[f64; 625],
+    interchanges: &[usize; 25],
+    column: &[f64; 25],
     b: &[f64; 121],
+    inner: &[f64; 24],
     area: &[f64; 24],
-    factor_diag: &mut [f64; 120],
-    factor_dense: &mut [f64; 625],
-    interchanges: &mut [usize; 25],
+    last: &mut [f64; 25],
 ) -> VentilationAnswer
-    requires { ⌜ (assembled terms (now «two_nodes») (now diag) (now next) (now prev) (now dense) (now b) ≡ hourSystem z (now t) h) × (factored 0 (now «factor_diag») (now «factor_dense») (now interchanges) ≡ factorsAt z (now t) h target) × (now area ≡ areasOf z) ⌝ }
-    ensures { λ r. ⌜ VentilationAt z (now (t .entry)) h (chooseRate standardCoefficients z (now (t .entry)) h target windows free) r (now («factor_diag» .exit)) (now («factor_dense» .exit)) (now (interchanges .exit)) ⌝ }
+    ensures { λ r. ⌜ ventilationWith r (now (last .exit)) ≡ chooseRate (prepared terms valid (now («two_nodes» .entry)) (now (diag .entry)) (now (next .entry)) (now (dense .entry)) (now (interchanges .entry)) (now (column .entry)) (now (b .entry)) (now (inner .entry))) (z .volume) (controlBy (z .«temp_setpnt_basis») (z .count) (now (area .entry)) (terms .«area_el_total»)) (hourOf h []) target windows free (now (last .entry)) ⌝ }
 {
-    let mut open_diag = [0.0; 120];
-    let mut open_dense = [0.0; 625];
-    let mut open_interchanges = [0; 25];
+    let mut open = [0.0; 25];
     let mut temps = [0.0; 121];
     let number = free_temperatures(
-        z,
-        t,
+        z.volume,
         h,
         windows,
         terms,
+        valid,
         two_nodes,
         diag,
         next,
-        prev,
         dense,
+        interchanges,
+        column,
         b,
-        &mut open_diag,
-        &mut open_dense,
-        &mut open_interchanges,
+        inner,
+        &mut open,
         &mut temps,
     );
     if number != 0 {
         return VentilationAnswer::Refused { number, index: 0 };
     }
-    let vent_max = zone_temperatures(z, area, terms.area_el_total, &temps);
+    let basis = z.temp_setpnt_basis;
+    let vent_max = zone_temperatures(basis, z.count, area, terms.area_el_total, &temps);
     with_choice(
         z,
-        t,
         h,
         target,
         windows,
         free,
         vent_max,
         terms,
+        valid,
         two_nodes,
         diag,
         next,
-        prev,
         dense,
-        b,
-        area,
-        factor_diag,
-        factor_dense,
         interchanges,
+        column,
+        b,
+        inner,
+        area,
+        last,
     )
 }
 
-// Given the factors of the rate without windows, and leaving those of the chosen rate.
+// Given the last column of the rate without windows, and leaving that of the chosen rate.
 pub fn calc_cooling_potential_from_ventilation(
-    z: Zone,
-    t: &[f64; 121],
-    h: Conditions,
+    z: ZoneFront,
+    h: HourFront,
     free: ZoneTemperatures,
     terms: ZoneTerms,
+    valid: bool,
     two_nodes: &[bool; 24],
     diag: &[f64; 120],
     next: &[f64; 120],
-    prev: &[f64; 120],
     dense: &[f64; 625],
+    interchanges: &[usize; 25],
+    column: &[f64; 25],
     b: &[f64; 121],
+    inner: &[f64; 24],
     area: &[f64; 24],
-    factor_diag: &mut [f64; 120],
-    factor_dense: &mut [f64; 625],
-    interchanges: &mut [usize; 25],
+    last: &mut [f64; 25],
 ) -> VentilationAnswer
-    requires { ⌜ (assembled terms (now «two_nodes») (now diag) (now next) (now prev) (now dense) (now b) ≡ hourSystem z (now t) h) × (factored 0 (now «factor_diag») (now «factor_dense») (now interchanges) ≡ factorsAt z (now t) h (achTarget (h .«ach_args»))) × (now area ≡ areasOf z) ⌝ }
-    ensures { λ r. ⌜ VentilationAt z (now (t .entry)) h (coolingPotential standardCoefficients z (now (t .entry)) h free (h .«ach_args»)) r (now («factor_diag» .exit)) (now («factor_dense» .exit)) (now (interchanges .exit)) ⌝ }
+    ensures { λ r. ⌜ ventilationWith r (now (last .exit)) ≡ coolingPotential (prepared terms valid (now («two_nodes» .entry)) (now (diag .entry)) (now (next .entry)) (now (dense .entry)) (now (interchanges .entry)) (now (column .entry)) (now (b .entry)) (now (inner .entry))) (z .volume) (controlBy (z .«temp_setpnt_basis») (z .count) (now (area .entry)) (terms .«area_el_total»)) (hourOf h []) free (h .«ach_args») (now (last .entry)) ⌝ }
 {
     let ach_args = h.ach_args;
     match ach_args {
@@ -254,22 +244,22 @@ pub fn calc_cooling_potential_from_ventilation(
             if windows != target {
                 return choose_rate(
                     z,
-                    t,
                     h,
                     target,
                     windows,
                     free,
                     terms,
+                    valid,
                     two_nodes,
                     diag,
                     next,
-                    prev,
                     dense,
-                    b,
-                    area,
-                    factor_diag,
-                    factor_dense,
                     interchanges,
+                    column,
+                    b,
+                    inner,
+                    area,
+                    last,
                 );
             }
             VentilationAnswer::Accepted(VentilationChoice {

@@ -1,7 +1,7 @@
 // Space heating and cooling demand.
 use crate::calls::state::DemandAnswer;
 use crate::format::conditions::AirChangesPerHourArgument;
-use crate::format::conditions::Conditions;
+use crate::format::conditions::HourFront;
 use crate::hour::cooling_potential::VentilationAnswer;
 use crate::hour::cooling_potential::calc_cooling_potential_from_ventilation;
 use crate::hour::load::HeatCoolLoad;
@@ -13,72 +13,71 @@ use crate::hour::load::wanted_of;
 use crate::hour::solves::control_temperature;
 use crate::hour::solves::free_temperatures;
 use crate::hour::solves::gains_heat_cool_of;
-use crate::hour::solves::solve_at;
 use crate::hour::time_step::ZoneTerms;
+use crate::hour::time_step::solve_load;
 use crate::hour::windows::VentilationChoice;
 use crate::hour::windows::ZoneTemperatures;
 use crate::hour::windows::zone_temperatures;
-use crate::physics::operative::areas_of;
 use crate::physics::ventilation::calc_vent_heat_transfer_coeff;
 use crate::record::numbers::COOLING_BELOW_HEATING;
 use crate::record::numbers::VENTILATION_BELOW_HEATING;
-use crate::record::zone_record::Zone;
+use crate::record::zone_record::ZoneFront;
 ghost use mathlib.Core.Path.{_≡_};
-ghost use Rattle.solver.specs.Inner.Factored.{factored};
-ghost use Rattle.zone.specs.Record.BuildingElement.{standardCoefficients};
-ghost use Rattle.zone.specs.Inner.Assembled.{assembled};
-ghost use Rattle.zone.specs.Inner.Operative.{areasOf};
+ghost use mathlib.Core.List.{[]};
+ghost use Rattle.zone.specs.Inner.Lent.{hourOf};
 ghost use Rattle.zone.specs.declared.hour.load.HeatCoolLoad.the-variants.{Toward};
-ghost use Rattle.zone.specs.Hour.Demand.{achTarget, demandForLoad, spaceHeatCoolDemand};
-ghost use Rattle.zone.specs.Inner.Demand.{demandFromFree};
-ghost use Rattle.zone.specs.Inner.Solves.{hourSystem, factorsAt, demandAnswer, DemandedAt};
+ghost use Rattle.zone.specs.Hour.Demand.{achTarget};
+ghost use Rattle.zone.specs.Inner.Operative.{controlBy};
+ghost use Rattle.zone.specs.Inner.Prepared.{prepared};
+ghost use Rattle.zone.specs.Inner.Demand.{answerWith, loadedDemand, demandFromFree, demandIn};
+ghost use Rattle.zone.specs.Inner.Solves.{demandAnswer};
 
-// diag and dense only say which system was factored.
 fn loaded_demand(
-    z: Zone,
-    t: &[f64; 121],
-    h: Conditions,
+    z: ZoneFront,
+    h: HourFront,
     v: VentilationChoice,
     setpoint: f64,
     load: f64,
     fraction: f64,
     terms: ZoneTerms,
+    valid: bool,
     two_nodes: &[bool; 24],
     diag: &[f64; 120],
     next: &[f64; 120],
-    prev: &[f64; 120],
     dense: &[f64; 625],
-    b: &[f64; 121],
-    area: &[f64; 24],
-    factor_diag: &[f64; 120],
-    factor_dense: &[f64; 625],
     interchanges: &[usize; 25],
+    column: &[f64; 25],
+    b: &[f64; 121],
+    inner: &[f64; 24],
+    area: &[f64; 24],
+    last: &[f64; 25],
 ) -> DemandAnswer
-    requires { ⌜ (assembled terms (now «two_nodes») (now diag) (now next) (now prev) (now dense) (now b) ≡ hourSystem z (now t) h) × (factored 0 (now «factor_diag») (now «factor_dense») (now interchanges) ≡ factorsAt z (now t) h (v .«ach_cooling»)) × (now area ≡ areasOf z) ⌝ }
-    ensures { λ r. ⌜ r ≡ demandAnswer (demandForLoad standardCoefficients z (now (t .entry)) h v (Toward setpoint load fraction)) ⌝ }
+    ensures { λ r. ⌜ r ≡ demandAnswer (loadedDemand (prepared terms valid (now («two_nodes» .entry)) (now (diag .entry)) (now (next .entry)) (now (dense .entry)) (now (interchanges .entry)) (now (column .entry)) (now (b .entry)) (now (inner .entry))) (z .volume) (controlBy (z .«temp_setpnt_basis») (z .count) (now (area .entry)) (terms .«area_el_total»)) (hourOf h []) v (Toward setpoint load fraction) (now (last .entry))) ⌝ }
 {
     let gains = gains_heat_cool_of(h) + load;
     let frac = frac_upper(h, load, fraction);
     let h_ve = calc_vent_heat_transfer_coeff(z.volume, v.ach_cooling);
     let mut temps = [0.0; 121];
-    let number = solve_at(
+    let number = solve_load(
         terms,
         h_ve,
         gains,
         frac,
         two_nodes,
+        diag,
         next,
-        prev,
-        b,
-        factor_diag,
-        factor_dense,
+        dense,
         interchanges,
+        b,
+        inner,
+        last,
         &mut temps,
     );
     if number != 0 {
         return DemandAnswer::Refused { number, index: 0 };
     }
-    let temp_upper = control_temperature(z, area, terms.area_el_total, &temps);
+    let basis = z.temp_setpnt_basis;
+    let temp_upper = control_temperature(basis, z.count, area, terms.area_el_total, &temps);
     let kwh = interp_heat_cool_demand(h.delta_t_h, setpoint, load, v.temp_free, temp_upper);
     match kwh {
         Interpolated::Refused { number, index } => DemandAnswer::Refused { number, index },
@@ -87,25 +86,24 @@ fn loaded_demand(
 }
 
 fn demand_for_load(
-    z: Zone,
-    t: &[f64; 121],
-    h: Conditions,
+    z: ZoneFront,
+    h: HourFront,
     v: VentilationChoice,
     w: HeatCoolLoad,
     terms: ZoneTerms,
+    valid: bool,
     two_nodes: &[bool; 24],
     diag: &[f64; 120],
     next: &[f64; 120],
-    prev: &[f64; 120],
     dense: &[f64; 625],
-    b: &[f64; 121],
-    area: &[f64; 24],
-    factor_diag: &[f64; 120],
-    factor_dense: &[f64; 625],
     interchanges: &[usize; 25],
+    column: &[f64; 25],
+    b: &[f64; 121],
+    inner: &[f64; 24],
+    area: &[f64; 24],
+    last: &[f64; 25],
 ) -> DemandAnswer
-    requires { ⌜ (assembled terms (now «two_nodes») (now diag) (now next) (now prev) (now dense) (now b) ≡ hourSystem z (now t) h) × (factored 0 (now «factor_diag») (now «factor_dense») (now interchanges) ≡ factorsAt z (now t) h (v .«ach_cooling»)) × (now area ≡ areasOf z) ⌝ }
-    ensures { λ r. ⌜ r ≡ demandAnswer (demandForLoad standardCoefficients z (now (t .entry)) h v w) ⌝ }
+    ensures { λ r. ⌜ r ≡ demandAnswer (loadedDemand (prepared terms valid (now («two_nodes» .entry)) (now (diag .entry)) (now (next .entry)) (now (dense .entry)) (now (interchanges .entry)) (now (column .entry)) (now (b .entry)) (now (inner .entry))) (z .volume) (controlBy (z .«temp_setpnt_basis») (z .count) (now (area .entry)) (terms .«area_el_total»)) (hourOf h []) v w (now (last .entry))) ⌝ }
 {
     match w {
         HeatCoolLoad::NoLoad => DemandAnswer::Accepted(demand_record(0.0, v)),
@@ -115,63 +113,62 @@ fn demand_for_load(
             fraction,
         } => loaded_demand(
             z,
-            t,
             h,
             v,
             setpoint,
             load,
             fraction,
             terms,
+            valid,
             two_nodes,
             diag,
             next,
-            prev,
             dense,
-            b,
-            area,
-            factor_diag,
-            factor_dense,
             interchanges,
+            column,
+            b,
+            inner,
+            area,
+            last,
         ),
     }
 }
 
 fn demand_from_free(
-    z: Zone,
-    t: &[f64; 121],
-    h: Conditions,
+    z: ZoneFront,
+    h: HourFront,
     free: ZoneTemperatures,
     terms: ZoneTerms,
+    valid: bool,
     two_nodes: &[bool; 24],
     diag: &[f64; 120],
     next: &[f64; 120],
-    prev: &[f64; 120],
     dense: &[f64; 625],
+    interchanges: &[usize; 25],
+    column: &[f64; 25],
     b: &[f64; 121],
+    inner: &[f64; 24],
     area: &[f64; 24],
-    factor_diag: &mut [f64; 120],
-    factor_dense: &mut [f64; 625],
-    interchanges: &mut [usize; 25],
+    last: &mut [f64; 25],
 ) -> DemandAnswer
-    requires { ⌜ (assembled terms (now «two_nodes») (now diag) (now next) (now prev) (now dense) (now b) ≡ hourSystem z (now t) h) × (factored 0 (now «factor_diag») (now «factor_dense») (now interchanges) ≡ factorsAt z (now t) h (achTarget (h .«ach_args»))) × (now area ≡ areasOf z) ⌝ }
-    ensures { λ r. ⌜ DemandedAt z (now (t .entry)) h (demandFromFree standardCoefficients z (now (t .entry)) h free) r (now («factor_diag» .exit)) (now («factor_dense» .exit)) (now (interchanges .exit)) ⌝ }
+    ensures { λ r. ⌜ answerWith r (now (last .exit)) ≡ demandFromFree (prepared terms valid (now («two_nodes» .entry)) (now (diag .entry)) (now (next .entry)) (now (dense .entry)) (now (interchanges .entry)) (now (column .entry)) (now (b .entry)) (now (inner .entry))) (z .volume) (controlBy (z .«temp_setpnt_basis») (z .count) (now (area .entry)) (terms .«area_el_total»)) (hourOf h []) (z .«useful_area») free (now (last .entry)) ⌝ }
 {
     let ventilated = calc_cooling_potential_from_ventilation(
         z,
-        t,
         h,
         free,
         terms,
+        valid,
         two_nodes,
         diag,
         next,
-        prev,
         dense,
-        b,
-        area,
-        factor_diag,
-        factor_dense,
         interchanges,
+        column,
+        b,
+        inner,
+        area,
+        last,
     );
     match ventilated {
         VentilationAnswer::Refused { number, index } => DemandAnswer::Refused { number, index },
@@ -179,21 +176,21 @@ fn demand_from_free(
             let w = wanted_of(z.useful_area, h, v.temp_free);
             demand_for_load(
                 z,
-                t,
                 h,
                 v,
                 w,
                 terms,
+                valid,
                 two_nodes,
                 diag,
                 next,
-                prev,
                 dense,
-                b,
-                area,
-                factor_diag,
-                factor_dense,
                 interchanges,
+                column,
+                b,
+                inner,
+                area,
+                last,
             )
         }
     }
@@ -208,26 +205,25 @@ fn ach_target(ach_args: AirChangesPerHourArgument) -> f64
     }
 }
 
-// The demand of an hour that is assembled; where it is accepted, the factors of the chosen rate are left for its last calculation.
+// The demand of an hour that is prepared; where it is accepted, the last column of the chosen rate is left for its last calculation.
 pub fn hour_demand(
-    z: Zone,
-    t: &[f64; 121],
-    h: Conditions,
+    z: ZoneFront,
+    h: HourFront,
     terms: ZoneTerms,
+    valid: bool,
     two_nodes: &[bool; 24],
     diag: &[f64; 120],
     next: &[f64; 120],
-    prev: &[f64; 120],
     dense: &[f64; 625],
+    interchanges: &[usize; 25],
+    column: &[f64; 25],
     b: &[f64; 121],
-    factor_diag: &mut [f64; 120],
-    factor_dense: &mut [f64; 625],
-    interchanges: &mut [usize; 25],
+    inner: &[f64; 24],
+    area: &[f64; 24],
+    last: &mut [f64; 25],
 ) -> DemandAnswer
-    requires { ⌜ (assembled terms (now «two_nodes») (now diag) (now next) (now prev) (now dense) (now b) ≡ hourSystem z (now t) h) ⌝ }
-    ensures { λ r. ⌜ DemandedAt z (now (t .entry)) h (spaceHeatCoolDemand standardCoefficients z (now (t .entry)) h) r (now («factor_diag» .exit)) (now («factor_dense» .exit)) (now (interchanges .exit)) ⌝ }
+    ensures { λ r. ⌜ answerWith r (now (last .exit)) ≡ demandIn (prepared terms valid (now («two_nodes» .entry)) (now (diag .entry)) (now (next .entry)) (now (dense .entry)) (now (interchanges .entry)) (now (column .entry)) (now (b .entry)) (now (inner .entry))) (z .volume) (controlBy (z .«temp_setpnt_basis») (z .count) (now (area .entry)) (terms .«area_el_total»)) (hourOf h []) (z .«useful_area») ⌝ }
 {
-    let area = areas_of(z);
     if h.temp_setpnt_cool < h.temp_setpnt_heat {
         return DemandAnswer::Refused {
             number: COOLING_BELOW_HEATING,
@@ -244,41 +240,42 @@ pub fn hour_demand(
     let target = ach_target(ach_args);
     let mut temps = [0.0; 121];
     let number = free_temperatures(
-        z,
-        t,
+        z.volume,
         h,
         target,
         terms,
+        valid,
         two_nodes,
         diag,
         next,
-        prev,
         dense,
-        b,
-        factor_diag,
-        factor_dense,
         interchanges,
+        column,
+        b,
+        inner,
+        last,
         &mut temps,
     );
     if number != 0 {
         return DemandAnswer::Refused { number, index: 0 };
     }
-    let indoor = zone_temperatures(z, &area, terms.area_el_total, &temps);
+    let basis = z.temp_setpnt_basis;
+    let indoor = zone_temperatures(basis, z.count, area, terms.area_el_total, &temps);
     demand_from_free(
         z,
-        t,
         h,
         indoor,
         terms,
+        valid,
         two_nodes,
         diag,
         next,
-        prev,
         dense,
-        b,
-        &area,
-        factor_diag,
-        factor_dense,
         interchanges,
+        column,
+        b,
+        inner,
+        area,
+        last,
     )
 }

@@ -1,28 +1,45 @@
-// An hour's calculations, from one set of arrays: the demand, and where it is met the temperatures after the hour.
+// An hour's calculations, from one set of arrays: a given load, or the demand and where it is met the temperatures after the hour.
+use crate::calls::state::AchToTriggerHeating;
 use crate::calls::state::Demand;
 use crate::calls::state::DemandAnswer;
-use crate::format::conditions::Conditions;
+use crate::format::conditions::HourFront;
 use crate::hour::demand::hour_demand;
-use crate::hour::simulation_time::delta_t_of;
+use crate::hour::load::demand_record;
+use crate::hour::solves::calc_temperatures;
 use crate::hour::solves::gains_heat_cool_of;
-use crate::hour::solves::solve_at;
-use crate::hour::time_step::assemble;
+use crate::hour::time_step::ZoneTerms;
+use crate::hour::time_step::solve_load;
+use crate::hour::windows::VentilationChoice;
 use crate::physics::ventilation::calc_vent_heat_transfer_coeff;
-use crate::record::building_element::standard_coefficients;
 use crate::record::units::WATTS_PER_KILOWATT;
-use crate::record::zone_record::Zone;
+use crate::record::zone_record::ZoneFront;
 use solver::close_in_demand;
 ghost use mathlib.Core.Path.{_≡_};
+ghost use mathlib.Core.List.{[]};
 ghost use Rattle.solver.specs.F64.{_+ᶠ_};
+ghost use Rattle.zone.specs.Inner.Lent.{hourOf};
 ghost use Rattle.zone.specs.Hour.Demand.{gainsHeatCool};
 ghost use Rattle.zone.specs.Calls.Hour.{delivered, convectiveShare};
-ghost use Rattle.zone.specs.Inner.Hour.{metLoad, answerWith, hourSolved};
+ghost use Rattle.zone.specs.Inner.Operative.{controlBy};
+ghost use Rattle.zone.specs.Inner.Prepared.{prepared};
+ghost use Rattle.zone.specs.Inner.Demand.{answerWith};
+ghost use Rattle.zone.specs.Inner.Hour.{metLoad, noDemand, updateIn, demandMetIn, answerIn};
 
 // Whether the demand is met, and how: with the total gains and their convective share, or alone with the fraction of heating.
 pub enum Meeting {
     NotMet,
     WithGains,
     Alone,
+}
+
+// What an hour is asked for: its demand, or the temperatures with a given load.
+pub enum Asked {
+    Demand(Meeting),
+    Update {
+        gains_heat_cool: f64,
+        f_hc_c: f64,
+        ach: f64,
+    },
 }
 
 // The load of the last calculation.
@@ -32,21 +49,21 @@ pub enum MetLoad {
 }
 
 // Delivered W.
-pub fn delivered_of(h: Conditions, d: Demand) -> f64
-    ensures { λ r. ⌜ r ≡ delivered h d ⌝ }
+pub fn delivered_of(h: HourFront, d: Demand) -> f64
+    ensures { λ r. ⌜ r ≡ delivered (hourOf h []) d ⌝ }
 {
     (d.space_heat_demand + d.space_cool_demand) * WATTS_PER_KILOWATT / h.delta_t_h
 }
 
-pub fn total_gains(h: Conditions, w: f64) -> f64
-    ensures { λ r. ⌜ r ≡ gainsHeatCool h +ᶠ w ⌝ }
+pub fn total_gains(h: HourFront, w: f64) -> f64
+    ensures { λ r. ⌜ r ≡ gainsHeatCool (hourOf h []) +ᶠ w ⌝ }
 {
     gains_heat_cool_of(h) + w
 }
 
 // The convective share of the total gains.
-pub fn convective_share(h: Conditions, w: f64, g: f64) -> f64
-    ensures { λ r. ⌜ r ≡ convectiveShare h w g ⌝ }
+pub fn convective_share(h: HourFront, w: f64, g: f64) -> f64
+    ensures { λ r. ⌜ r ≡ convectiveShare (hourOf h []) w g ⌝ }
 {
     if close_in_demand(g, 0.0) {
         0.0
@@ -55,8 +72,8 @@ pub fn convective_share(h: Conditions, w: f64, g: f64) -> f64
     }
 }
 
-fn met_load(h: Conditions, d: Demand, meeting: Meeting) -> MetLoad
-    ensures { λ r. ⌜ r ≡ metLoad h d meeting ⌝ }
+fn met_load(h: HourFront, d: Demand, meeting: Meeting) -> MetLoad
+    ensures { λ r. ⌜ r ≡ metLoad (hourOf h []) d meeting ⌝ }
 {
     let w = delivered_of(h, d);
     match meeting {
@@ -76,54 +93,42 @@ fn met_load(h: Conditions, d: Demand, meeting: Meeting) -> MetLoad
     }
 }
 
-// The last calculation goes by the factors that the demand left. Where the demand is not met, `after` stays as it is lent.
-pub fn hour_in(
-    z: Zone,
-    t: &[f64; 121],
-    h: Conditions,
+// The demand, and the last calculation by the last column that the demand left. Where the demand is not met, `after` stays as it is lent.
+fn demand_met(
+    z: ZoneFront,
+    h: HourFront,
     meeting: Meeting,
+    terms: ZoneTerms,
+    valid: bool,
+    two_nodes: &[bool; 24],
+    diag: &[f64; 120],
+    next: &[f64; 120],
+    dense: &[f64; 625],
+    interchanges: &[usize; 25],
+    column: &[f64; 25],
+    b: &[f64; 121],
+    inner: &[f64; 24],
+    area: &[f64; 24],
     after: &mut [f64; 121],
 ) -> DemandAnswer
-    ensures { λ r. ⌜ answerWith r (now (after .exit)) ≡ hourSolved z (now (t .entry)) h meeting (now (after .entry)) ⌝ }
+    ensures { λ r. ⌜ answerWith r (now (after .exit)) ≡ demandMetIn (prepared terms valid (now («two_nodes» .entry)) (now (diag .entry)) (now (next .entry)) (now (dense .entry)) (now (interchanges .entry)) (now (column .entry)) (now (b .entry)) (now (inner .entry))) (z .volume) (controlBy (z .«temp_setpnt_basis») (z .count) (now (area .entry)) (terms .«area_el_total»)) (hourOf h []) (z .«useful_area») meeting (now (after .entry)) ⌝ }
 {
-    let c = standard_coefficients();
-    let delta_t = delta_t_of(h);
-    let mut two_nodes = [false; 24];
-    let mut diag = [0.0; 120];
-    let mut next = [0.0; 120];
-    let mut prev = [0.0; 120];
-    let mut dense = [0.0; 625];
-    let mut b = [0.0; 121];
-    let terms = assemble(
-        c,
-        z,
-        h,
-        delta_t,
-        t,
-        &mut two_nodes,
-        &mut diag,
-        &mut next,
-        &mut prev,
-        &mut dense,
-        &mut b,
-    );
-    let mut factor_diag = [0.0; 120];
-    let mut factor_dense = [0.0; 625];
-    let mut interchanges = [0; 25];
+    let mut last = [0.0; 25];
     let demand = hour_demand(
         z,
-        t,
         h,
         terms,
-        &two_nodes,
-        &diag,
-        &next,
-        &prev,
-        &dense,
-        &b,
-        &mut factor_diag,
-        &mut factor_dense,
-        &mut interchanges,
+        valid,
+        two_nodes,
+        diag,
+        next,
+        dense,
+        interchanges,
+        column,
+        b,
+        inner,
+        area,
+        &mut last,
     );
     match demand {
         DemandAnswer::Refused { number, index } => DemandAnswer::Refused { number, index },
@@ -133,18 +138,19 @@ pub fn hour_in(
                 MetLoad::NoLoad => DemandAnswer::Accepted(d),
                 MetLoad::Load { gains, fraction } => {
                     let h_ve = calc_vent_heat_transfer_coeff(z.volume, d.ach_cooling);
-                    let number = solve_at(
+                    let number = solve_load(
                         terms,
                         h_ve,
                         gains,
                         fraction,
-                        &two_nodes,
-                        &next,
-                        &prev,
-                        &b,
-                        &factor_diag,
-                        &factor_dense,
-                        &interchanges,
+                        two_nodes,
+                        diag,
+                        next,
+                        dense,
+                        interchanges,
+                        b,
+                        inner,
+                        &last,
                         after,
                     );
                     if number != 0 {
@@ -154,5 +160,125 @@ pub fn hour_in(
                 }
             }
         }
+    }
+}
+
+// An update asks for no demand.
+fn no_demand(ach: f64) -> Demand
+    ensures { λ r. ⌜ r ≡ noDemand ach ⌝ }
+{
+    let absent = AchToTriggerHeating::Absent;
+    let v = VentilationChoice {
+        temp_free: 0.0,
+        ach_cooling: ach,
+        ach_to_trigger_heating: absent,
+    };
+    demand_record(0.0, v)
+}
+
+// The temperatures with a given load.
+fn update_in(
+    volume: f64,
+    gains_heat_cool: f64,
+    f_hc_c: f64,
+    ach: f64,
+    terms: ZoneTerms,
+    valid: bool,
+    two_nodes: &[bool; 24],
+    diag: &[f64; 120],
+    next: &[f64; 120],
+    dense: &[f64; 625],
+    interchanges: &[usize; 25],
+    column: &[f64; 25],
+    b: &[f64; 121],
+    inner: &[f64; 24],
+    after: &mut [f64; 121],
+) -> DemandAnswer
+    ensures { λ r. ⌜ answerWith r (now (after .exit)) ≡ updateIn (prepared terms valid (now («two_nodes» .entry)) (now (diag .entry)) (now (next .entry)) (now (dense .entry)) (now (interchanges .entry)) (now (column .entry)) (now (b .entry)) (now (inner .entry))) volume «gains_heat_cool» «f_hc_c» ach ⌝ }
+{
+    let mut last = [0.0; 25];
+    let number = calc_temperatures(
+        volume,
+        gains_heat_cool,
+        f_hc_c,
+        ach,
+        terms,
+        valid,
+        two_nodes,
+        diag,
+        next,
+        dense,
+        interchanges,
+        column,
+        b,
+        inner,
+        &mut last,
+        after,
+    );
+    if number != 0 {
+        return DemandAnswer::Refused { number, index: 0 };
+    }
+    DemandAnswer::Accepted(no_demand(ach))
+}
+
+// An hour that is prepared.
+pub fn answer_in(
+    z: ZoneFront,
+    h: HourFront,
+    asked: Asked,
+    terms: ZoneTerms,
+    valid: bool,
+    two_nodes: &[bool; 24],
+    diag: &[f64; 120],
+    next: &[f64; 120],
+    dense: &[f64; 625],
+    interchanges: &[usize; 25],
+    column: &[f64; 25],
+    b: &[f64; 121],
+    inner: &[f64; 24],
+    area: &[f64; 24],
+    after: &mut [f64; 121],
+) -> DemandAnswer
+    ensures { λ r. ⌜ answerWith r (now (after .exit)) ≡ answerIn (prepared terms valid (now («two_nodes» .entry)) (now (diag .entry)) (now (next .entry)) (now (dense .entry)) (now (interchanges .entry)) (now (column .entry)) (now (b .entry)) (now (inner .entry))) (z .volume) (controlBy (z .«temp_setpnt_basis») (z .count) (now (area .entry)) (terms .«area_el_total»)) (hourOf h []) (z .«useful_area») asked (now (after .entry)) ⌝ }
+{
+    match asked {
+        Asked::Demand(meeting) => demand_met(
+            z,
+            h,
+            meeting,
+            terms,
+            valid,
+            two_nodes,
+            diag,
+            next,
+            dense,
+            interchanges,
+            column,
+            b,
+            inner,
+            area,
+            after,
+        ),
+        Asked::Update {
+            gains_heat_cool,
+            f_hc_c,
+            ach,
+        } => update_in(
+            z.volume,
+            gains_heat_cool,
+            f_hc_c,
+            ach,
+            terms,
+            valid,
+            two_nodes,
+            diag,
+            next,
+            dense,
+            interchanges,
+            column,
+            b,
+            inner,
+            after,
+        ),
     }
 }

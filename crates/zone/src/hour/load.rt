@@ -1,6 +1,6 @@
 // The load that is wanted, and the demand by interpolation between the free and the loaded temperature.
 use crate::calls::state::Demand;
-use crate::format::conditions::Conditions;
+use crate::format::conditions::HourFront;
 use crate::hour::solves::frac_conv_gains_heat_cool_of;
 use crate::hour::solves::gains_heat_cool_of;
 use crate::hour::windows::VentilationChoice;
@@ -9,8 +9,10 @@ use crate::record::units::WATTS_PER_KILOWATT;
 use solver::close_in_demand;
 ghost use mathlib.Core.Path.{_≡_};
 ghost use mathlib.Core.Bool.{not, _&&_};
+ghost use mathlib.Core.List.{[]};
 ghost use lib.Ieee.{lt, neg};
-ghost use Rattle.solver.specs.F64.{_-ᶠ_, _*ᶠ_, _/ᶠ_, dec};
+ghost use Rattle.zone.specs.Inner.Lent.{hourOf};
+ghost use Rattle.solver.specs.F64.{_-ᶠ_, _*ᶠ_, _/ᶠ_, decimal};
 ghost use Rattle.solver.specs.Closeness.{closeInDemand};
 ghost use Rattle.zone.specs.Hour.Demand.{wanted, fracUpper, interpHeatCoolDemand, demandRecord};
 ghost use Rattle.zone.specs.Inner.Solves.{interpolated};
@@ -32,13 +34,13 @@ pub enum Interpolated {
 
 // Ten watts for each square metre.
 fn load_of(useful_area: f64) -> f64
-    ensures { λ r. ⌜ r ≡ dec 10 0 *ᶠ «useful_area» ⌝ }
+    ensures { λ r. ⌜ r ≡ decimal 10 0 *ᶠ «useful_area» ⌝ }
 {
     10.0 * useful_area
 }
 
 fn cooling_load_of(useful_area: f64) -> f64
-    ensures { λ r. ⌜ r ≡ neg (dec 10 0) *ᶠ «useful_area» ⌝ }
+    ensures { λ r. ⌜ r ≡ neg (decimal 10 0) *ᶠ «useful_area» ⌝ }
 {
     -10.0 * useful_area
 }
@@ -60,8 +62,8 @@ fn below(temp_free: f64, temp_setpnt_heat: f64, temp_setpnt_cool: f64) -> bool
     below & !close
 }
 
-pub fn wanted_of(useful_area: f64, h: Conditions, temp_free: f64) -> HeatCoolLoad
-    ensures { λ r. ⌜ r ≡ wanted «useful_area» h «temp_free» ⌝ }
+pub fn wanted_of(useful_area: f64, h: HourFront, temp_free: f64) -> HeatCoolLoad
+    ensures { λ r. ⌜ r ≡ wanted «useful_area» (hourOf h []) «temp_free» ⌝ }
 {
     if above(temp_free, h.temp_setpnt_cool) {
         return HeatCoolLoad::Toward {
@@ -81,8 +83,8 @@ pub fn wanted_of(useful_area: f64, h: Conditions, temp_free: f64) -> HeatCoolLoa
 }
 
 // The convective fraction of the gains with the load.
-pub fn frac_upper(h: Conditions, load: f64, fraction: f64) -> f64
-    ensures { λ r. ⌜ r ≡ fracUpper h load fraction ⌝ }
+pub fn frac_upper(h: HourFront, load: f64, fraction: f64) -> f64
+    ensures { λ r. ⌜ r ≡ fracUpper (hourOf h []) load fraction ⌝ }
 {
     let gains = gains_heat_cool_of(h);
     let frac_conv = frac_conv_gains_heat_cool_of(h);
@@ -90,7 +92,7 @@ pub fn frac_upper(h: Conditions, load: f64, fraction: f64) -> f64
 }
 
 fn kwh_of(delta_t_h: f64, setpoint: f64, load: f64, temp_free: f64, temp_upper: f64) -> f64
-    ensures { λ r. ⌜ r ≡ load *ᶠ (setpoint -ᶠ «temp_free») /ᶠ («temp_upper» -ᶠ «temp_free») /ᶠ dec 1000 0 *ᶠ «delta_t_h» ⌝ }
+    ensures { λ r. ⌜ r ≡ load *ᶠ (setpoint -ᶠ «temp_free») /ᶠ («temp_upper» -ᶠ «temp_free») /ᶠ decimal 1000 0 *ᶠ «delta_t_h» ⌝ }
 {
     load * (setpoint - temp_free) / (temp_upper - temp_free) / WATTS_PER_KILOWATT * delta_t_h
 }

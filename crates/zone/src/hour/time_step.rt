@@ -1,22 +1,18 @@
-// One time step of a zone: BS EN ISO 52016-1, 6.5.6.
-use crate::format::conditions::Conditions;
-use crate::physics::assembly::assemble_elements;
+// One time step of a zone: BS EN ISO 52016-1, 6.5.6. Its systems share their terms; all but one column of the matrix is factored once, and the right
+// side without gains reduced once. Then the last column is factored for each air change rate, and each load substituted.
+use crate::format::conditions::HourFront;
 use crate::physics::slots::at_most_24;
-use crate::physics::slots::set_entry;
-use crate::physics::ventilation::calc_vent_heat_transfer_coeff;
 use crate::record::building_element::Coefficients;
-use crate::record::zone_record::Zone;
-use solver::Solved;
-use solver::factor;
-use solver::substitute;
+use crate::record::zone_record::ZoneFront;
+use solver::factor_last;
+use solver::substitute_load;
 ghost use mathlib.Core.Path.{_≡_};
-ghost use Prim.Native.Nat.{_≤_};
-ghost use Rattle.zone.specs.Physics.Slots.{withTerms};
-ghost use Rattle.zone.specs.Physics.System.{twoNodesOf, areaElTotal};
-ghost use Rattle.zone.specs.Physics.CalcTemperatures.{calcTemperatures};
-ghost use Rattle.zone.specs.Inner.Assembly.{chains, withGains};
-ghost use Rattle.zone.specs.Inner.Assembled.{convectiveSum, elementChains, couplingsOf, elementSides, zoneTermsOf, zoneDiagonalFrom, assembled, assemble, denseWith, rightSideWith, solvedOrBefore, gainsPerAreaFrom, zoneRightSideFrom};
-ghost use Rattle.solver.specs.Inner.Factored.{factored, factor, solved, substitute};
+ghost use mathlib.Core.List.{[]};
+ghost use Rattle.zone.specs.Inner.Lent.{zoneOf, hourOf};
+ghost use Rattle.zone.specs.Inner.Kept.{termsBy};
+ghost use Rattle.zone.specs.Inner.Assembled.{gainsPerAreaFrom, zoneDiagonalFrom, zoneRightSideFrom};
+ghost use Rattle.zone.specs.Inner.Prepared.{lastOf, lastValid, loadOf};
+ghost use Rattle.solver.specs.Inner.Factored.{solved};
 
 // The terms of the zone's equation (38), and of the gains, that neither rate nor load changes.
 pub struct ZoneTerms {
@@ -34,46 +30,23 @@ pub struct ZoneTerms {
     pub f_sol_c: f64,
 }
 
-// All that one time step's systems share: the matrix but for the zone's own coefficient, and the right side but for gains and zone.
-pub fn assemble(
+// From the sums over the elements.
+pub fn terms_of(
     c: Coefficients,
-    z: Zone,
-    hour: Conditions,
+    z: ZoneFront,
+    hour: HourFront,
     delta_t: f64,
     t: &[f64; 121],
-    two_nodes: &mut [bool; 24],
-    diag: &mut [f64; 120],
-    next: &mut [f64; 120],
-    prev: &mut [f64; 120],
-    dense: &mut [f64; 625],
-    b: &mut [f64; 121],
+    sums: &[f64; 2],
 ) -> ZoneTerms
-    ensures { λ r. ⌜ assembled r (now («two_nodes» .exit)) (now (diag .exit)) (now (next .exit)) (now (prev .exit)) (now (dense .exit)) (now (b .exit))
-        ≡ assemble c z hour «delta_t» (now (t .entry)) (now («two_nodes» .entry)) (chains (now (diag .entry)) (now (next .entry)) (now (prev .entry))) (now (dense .entry)) (now (b .entry)) ⌝ }
+    ensures { λ r. ⌜ r ≡ termsBy c (zoneOf z []) (hourOf hour []) «delta_t» (now (t .entry)) (now (sums .entry)) ⌝ }
 {
-    let n = at_most_24(z.count);
-    let es = z.building_elements;
-    let hours = hour.elements;
-    let sums = assemble_elements(
-        c,
-        n,
-        es,
-        hours,
-        delta_t,
-        t,
-        two_nodes,
-        diag,
-        next,
-        prev,
-        dense,
-        b,
-    );
     let c_int = c.k_m_int * z.useful_area;
     ZoneTerms {
-        n,
-        area_el_total: sums.area_el_total,
+        n: at_most_24(z.count),
+        area_el_total: sums[0],
         c_int_per_delta_t: c_int / delta_t,
-        convective: sums.convective,
+        convective: sums[1],
         tb_heat_trans_coeff: z.tb_heat_trans_coeff,
         temp_int_air: t[120],
         temp_ext_air: hour.temp_ext_air,
@@ -91,41 +64,24 @@ fn zone_diagonal(s: ZoneTerms, h_ve: f64) -> f64
     s.c_int_per_delta_t + s.convective + h_ve + s.tb_heat_trans_coeff
 }
 
-// The zone's own coefficient (38), for one rate.
-fn set_rate(s: ZoneTerms, h_ve: f64, dense: &mut [f64; 625])
-    ensures { λ _. ⌜ now (dense .exit) ≡ denseWith s «h_ve» (now (dense .entry)) ⌝ }
-{
-    let n = at_most_24(s.n);
-    set_entry(dense, n, n, zone_diagonal(s, h_ve));
-}
-
-// The matrix of one rate, factored in place: 0, or 12.
+// The last column of one rate, factored: whether the matrix has no divisor that is zero or not finite.
 pub fn factor_rate(
     s: ZoneTerms,
     h_ve: f64,
-    two_nodes: &[bool; 24],
-    diag: &mut [f64; 120],
-    next: &[f64; 120],
-    prev: &[f64; 120],
-    dense: &mut [f64; 625],
-    interchanges: &mut [usize; 25],
-) -> u32
-    ensures { λ r. ⌜ factored r (now (diag .exit)) (now (dense .exit)) (now (interchanges .exit))
-        ≡ factor record { n = s .n; «two_nodes» = now («two_nodes» .entry); diag = now (diag .entry); next = now (next .entry); prev = now (prev .entry); dense = denseWith s «h_ve» (now (dense .entry)) } (now (interchanges .entry)) ⌝ }
+    valid: bool,
+    dense: &[f64; 625],
+    interchanges: &[usize; 25],
+    column: &[f64; 25],
+    last: &mut [f64; 25],
+) -> bool
+    ensures { λ r. ⌜ (now (last .exit) ≡ lastOf s (now (dense .entry)) (now (interchanges .entry)) (now (column .entry)) «h_ve»)
+        × (r ≡ lastValid s valid (now (last .exit))) ⌝ }
 {
-    set_rate(s, h_ve, dense);
-    factor(s.n, two_nodes, diag, next, prev, dense, interchanges)
-}
-
-fn add_gains(n: usize, x: f64, b: &mut [f64; 121])
-    requires { ⌜ n ≤ 24 ⌝ }
-    ensures { λ _. ⌜ now (b .exit) ≡ withGains n x (now (b .entry)) ⌝ }
-{
-    let mut e = 0;
-    while e < n {
-        b[5 * e + 4] = b[5 * e + 4] + x;
-        e += 1;
-    }
+    let n = at_most_24(s.n);
+    *last = *column;
+    last[n] = zone_diagonal(s, h_ve);
+    let pivot = factor_last(s.n, dense, interchanges, last);
+    valid & pivot
 }
 
 fn gains_per_area(s: ZoneTerms, gains_heat_cool: f64, f_hc_c: f64) -> f64
@@ -148,16 +104,7 @@ fn zone_right_side(s: ZoneTerms, h_ve: f64, gains_heat_cool: f64, f_hc_c: f64) -
         + f_hc_c * gains_heat_cool
 }
 
-// The right side of one rate and one load, from that of the chains without the gains.
-fn set_load(s: ZoneTerms, h_ve: f64, gains_heat_cool: f64, f_hc_c: f64, b: &mut [f64; 121])
-    ensures { λ _. ⌜ now (b .exit) ≡ rightSideWith s «h_ve» «gains_heat_cool» «f_hc_c» (now (b .entry)) ⌝ }
-{
-    let n = at_most_24(s.n);
-    add_gains(n, gains_per_area(s, gains_heat_cool, f_hc_c), b);
-    b[120] = zone_right_side(s, h_ve, gains_heat_cool, f_hc_c);
-}
-
-// The temperatures after the step for one load, where the right side without it stood: 0, or 13.
+// The temperatures after the step for one rate and one load: 0, or 13.
 pub fn solve_load(
     s: ZoneTerms,
     h_ve: f64,
@@ -166,89 +113,28 @@ pub fn solve_load(
     two_nodes: &[bool; 24],
     diag: &[f64; 120],
     next: &[f64; 120],
-    prev: &[f64; 120],
     dense: &[f64; 625],
     interchanges: &[usize; 25],
-    b: &mut [f64; 121],
+    b: &[f64; 121],
+    inner: &[f64; 24],
+    last: &[f64; 25],
+    temps: &mut [f64; 121],
 ) -> u32
-    ensures { λ r. ⌜ solved r (now (b .exit))
-        ≡ substitute record { n = s .n; «two_nodes» = now («two_nodes» .entry); diag = now (diag .entry); next = now (next .entry); prev = now (prev .entry); dense = now (dense .entry) } (now (interchanges .entry)) (rightSideWith s «h_ve» «gains_heat_cool» «f_hc_c» (now (b .entry))) ⌝ }
+    ensures { λ r. ⌜ solved r (now (temps .exit))
+        ≡ loadOf s (now («two_nodes» .entry)) (now (diag .entry)) (now (next .entry)) (now (dense .entry)) (now (interchanges .entry)) (now (b .entry)) (now (inner .entry)) (now (last .entry)) «h_ve» «gains_heat_cool» «f_hc_c» ⌝ }
 {
-    set_load(s, h_ve, gains_heat_cool, f_hc_c, b);
-    substitute(s.n, two_nodes, diag, next, prev, dense, interchanges, b)
-}
-
-// One time step, from the temperatures before it: 0 and those after it, or 12 or 13 and those before it.
-pub fn calc_temperatures(
-    c: Coefficients,
-    z: Zone,
-    temp_prev: [f64; 121],
-    hour: Conditions,
-    delta_t: f64,
-    gains_heat_cool: f64,
-    f_hc_c: f64,
-    ach: f64,
-) -> Solved
-    ensures { λ r. ⌜ r ≡ solvedOrBefore «temp_prev» (calcTemperatures c z «temp_prev» hour «delta_t» «gains_heat_cool» «f_hc_c» ach) ⌝ }
-{
-    let mut two_nodes = [false; 24];
-    let mut diag = [0.0; 120];
-    let mut next = [0.0; 120];
-    let mut prev = [0.0; 120];
-    let mut dense = [0.0; 625];
-    let mut b = [0.0; 121];
-    let mut interchanges = [0; 25];
-    let s = assemble(
-        c,
-        z,
-        hour,
-        delta_t,
-        &temp_prev,
-        &mut two_nodes,
-        &mut diag,
-        &mut next,
-        &mut prev,
-        &mut dense,
-        &mut b,
-    );
-    let h_ve = calc_vent_heat_transfer_coeff(z.volume, ach);
-    let number = factor_rate(
-        s,
-        h_ve,
-        &two_nodes,
-        &mut diag,
-        &next,
-        &prev,
-        &mut dense,
-        &mut interchanges,
-    );
-    if number != 0 {
-        return Solved {
-            number: 12,
-            temps: temp_prev,
-        };
-    }
-    let last = solve_load(
-        s,
-        h_ve,
-        gains_heat_cool,
-        f_hc_c,
-        &two_nodes,
-        &diag,
-        &next,
-        &prev,
-        &dense,
-        &interchanges,
-        &mut b,
-    );
-    if last != 0 {
-        return Solved {
-            number: 13,
-            temps: temp_prev,
-        };
-    }
-    Solved {
-        number: 0,
-        temps: b,
-    }
+    *temps = *b;
+    substitute_load(
+        s.n,
+        two_nodes,
+        diag,
+        next,
+        dense,
+        last,
+        interchanges,
+        inner,
+        gains_per_area(s, gains_heat_cool, f_hc_c),
+        zone_right_side(s, h_ve, gains_heat_cool, f_hc_c),
+        temps,
+    )
 }

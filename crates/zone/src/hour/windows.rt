@@ -1,18 +1,18 @@
 // What the choice of an air change rate looks at: temperatures, the rates that reach them, whether windows cool and whether they cool enough; and what it
 // gives.
 use crate::calls::state::AchToTriggerHeating;
-use crate::format::conditions::Conditions;
+use crate::format::conditions::HourFront;
 use crate::hour::solves::control_temperature;
 use crate::physics::ventilation::ach_req_to_reach_temperature;
-use crate::record::zone_record::Zone;
+use crate::record::zone_record::ZoneTemperatureControlBasis;
 use solver::close_in_windows_test;
 ghost use mathlib.Core.Path.{_≡_};
 ghost use mathlib.Core.Bool.{not, _&&_};
+ghost use mathlib.Core.List.{[]};
 ghost use lib.Ieee.{lt};
-ghost use Rattle.solver.specs.FastSolver.{atMost24};
+ghost use Rattle.zone.specs.Inner.Lent.{hourOf};
 ghost use Rattle.solver.specs.Closeness.{closeInWindowsTest};
-ghost use Rattle.zone.specs.Physics.System.{areaElTotal};
-ghost use Rattle.zone.specs.Inner.Operative.{areasOf};
+ghost use Rattle.zone.specs.Inner.Operative.{controlBy};
 ghost use Rattle.zone.specs.Inner.Demand.{zoneTemperatures, rateToReach, windowsCool};
 
 // Of a calculation's temperatures, what the choice of a rate looks at.
@@ -29,15 +29,15 @@ pub struct VentilationChoice {
 }
 
 pub fn zone_temperatures(
-    z: Zone,
+    basis: ZoneTemperatureControlBasis,
+    count: usize,
     area: &[f64; 24],
     area_el_total: f64,
     t: &[f64; 121],
 ) -> ZoneTemperatures
-    requires { ⌜ (now area ≡ areasOf z) × («area_el_total» ≡ areaElTotal (atMost24 (z .count)) (z .«building_elements»)) ⌝ }
-    ensures { λ r. ⌜ r ≡ zoneTemperatures z (now (t .entry)) ⌝ }
+    ensures { λ r. ⌜ r ≡ zoneTemperatures (controlBy basis count (now (area .entry)) «area_el_total») (now (t .entry)) ⌝ }
 {
-    let temp_control = control_temperature(z, area, area_el_total, t);
+    let temp_control = control_temperature(basis, count, area, area_el_total, t);
     ZoneTemperatures {
         temp_control,
         temp_int_air: t[120],
@@ -46,14 +46,14 @@ pub fn zone_temperatures(
 
 // The rate that brings the control temperature to a wanted one.
 pub fn ach_to_reach(
-    h: Conditions,
+    h: HourFront,
     target: f64,
     windows: f64,
     free: ZoneTemperatures,
     vent_max: ZoneTemperatures,
     temperature: f64,
 ) -> f64
-    ensures { λ r. ⌜ r ≡ rateToReach h target windows free «vent_max» temperature ⌝ }
+    ensures { λ r. ⌜ r ≡ rateToReach (hourOf h []) target windows free «vent_max» temperature ⌝ }
 {
     ach_req_to_reach_temperature(
         temperature,
@@ -67,8 +67,8 @@ pub fn ach_to_reach(
     )
 }
 
-pub fn windows_cool(h: Conditions, free: ZoneTemperatures, vent_max: ZoneTemperatures) -> bool
-    ensures { λ r. ⌜ r ≡ windowsCool h free «vent_max» ⌝ }
+pub fn windows_cool(h: HourFront, free: ZoneTemperatures, vent_max: ZoneTemperatures) -> bool
+    ensures { λ r. ⌜ r ≡ windowsCool (hourOf h []) free «vent_max» ⌝ }
 {
     (vent_max.temp_control < free.temp_control)
         & (h.temp_setpnt_cool_vent < free.temp_control)

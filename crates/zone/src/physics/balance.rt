@@ -1,15 +1,17 @@
 // The heat balance of a time step, in W.
-use crate::format::conditions::Conditions;
+use crate::format::conditions::HourFront;
 use crate::physics::fabric::FabricSums;
 use crate::physics::fabric::fabric_sums;
 use crate::physics::slots::at_most_24;
 use crate::physics::ventilation::calc_vent_heat_transfer_coeff;
+use crate::record::arrays::element_of;
 use crate::record::building_element::Coefficients;
-use crate::record::building_element::Element;
 use crate::record::building_element::h_ci;
-use crate::record::zone_record::Zone;
+use crate::record::zone_record::ZoneFront;
 ghost use mathlib.Core.Path.{_≡_};
+ghost use mathlib.Core.List.{[]};
 ghost use Prim.Native.Nat.{_≤_};
+ghost use Rattle.zone.specs.Inner.Lent.{elementsIn, zoneIn, hourOf, conditionsIn};
 ghost use Rattle.solver.specs.Sums.{sumFrom0, terms};
 ghost use Rattle.zone.specs.Physics.HeatBalance.{airNode, convectiveLossAt, internalBoundary, heatBalance};
 ghost use Rattle.zone.specs.Inner.FabricSums.{externalBoundaryFrom};
@@ -59,14 +61,14 @@ fn air_node(
     c_int: f64,
     h_ve: f64,
     tb_heat_trans_coeff: f64,
-    hour: Conditions,
+    hour: HourFront,
     delta_t: f64,
     gains_heat_cool: f64,
     f_hc_c: f64,
     temp_prev: f64,
     temp_internal: f64,
 ) -> HeatBalanceAirNode
-    ensures { λ r. ⌜ r ≡ airNode c «c_int» «h_ve» «tb_heat_trans_coeff» hour «delta_t» «gains_heat_cool» «f_hc_c» «temp_prev» «temp_internal» ⌝ }
+    ensures { λ r. ⌜ r ≡ airNode c «c_int» «h_ve» «tb_heat_trans_coeff» (hourOf hour []) «delta_t» «gains_heat_cool» «f_hc_c» «temp_prev» «temp_internal» ⌝ }
 {
     let gains_solar = c.f_sol_c * hour.gains_solar;
     let gains_internal = c.f_int_c * hour.gains_internal;
@@ -90,17 +92,18 @@ fn air_node(
 fn convective_loss(
     c: Coefficients,
     n: usize,
-    es: [Element; 24],
+    codes: &[u8; 72],
+    values: &[f64; 600],
     temp_prev: &[f64; 121],
     vector_x: &[f64; 121],
 ) -> f64
     requires { ⌜ n ≤ 24 ⌝ }
-    ensures { λ r. ⌜ r ≡ sumFrom0 (terms 0 n (convectiveLossAt c es (now («temp_prev» .entry)) (now («vector_x» .entry)))) ⌝ }
+    ensures { λ r. ⌜ r ≡ sumFrom0 (terms 0 n (convectiveLossAt c (elementsIn (now (codes .entry)) (now (values .entry))) (now («temp_prev» .entry)) (now («vector_x» .entry)))) ⌝ }
 {
     let mut total = 0.0;
     let mut e = 0;
     while e < n {
-        let el = es[e];
+        let el = element_of(codes, values, e);
         let h = h_ci(c, el.pitch, temp_prev[120], temp_prev[5 * e + 4]);
         total = total + el.area * (h * (vector_x[120] - vector_x[5 * e + 4]));
         e += 1;
@@ -111,11 +114,11 @@ fn convective_loss(
 fn internal_boundary(
     c: Coefficients,
     convective: f64,
-    hour: Conditions,
+    hour: HourFront,
     gains_heat_cool: f64,
     f_hc_c: f64,
 ) -> HeatBalanceInternalBoundary
-    ensures { λ r. ⌜ r ≡ internalBoundary c convective hour «gains_heat_cool» «f_hc_c» ⌝ }
+    ensures { λ r. ⌜ r ≡ internalBoundary c convective (hourOf hour []) «gains_heat_cool» «f_hc_c» ⌝ }
 {
     HeatBalanceInternalBoundary {
         fabric_int_air_convective: convective,
@@ -128,10 +131,10 @@ fn internal_boundary(
 fn external_boundary(
     s: FabricSums,
     a: HeatBalanceAirNode,
-    hour: Conditions,
+    hour: HourFront,
     gains_heat_cool: f64,
 ) -> HeatBalanceExternalBoundary
-    ensures { λ r. ⌜ r ≡ externalBoundaryFrom s a hour «gains_heat_cool» ⌝ }
+    ensures { λ r. ⌜ r ≡ externalBoundaryFrom s a (hourOf hour []) «gains_heat_cool» ⌝ }
 {
     HeatBalanceExternalBoundary {
         solar_gains: hour.gains_solar,
@@ -153,20 +156,22 @@ fn external_boundary(
 
 pub fn heat_balance(
     c: Coefficients,
-    z: Zone,
+    z: ZoneFront,
+    codes: &[u8; 72],
+    values: &[f64; 600],
     temp_prev: &[f64; 121],
-    hour: Conditions,
+    hour: HourFront,
+    parts: &[f64; 120],
+    opens: &[u8; 24],
     delta_t: f64,
     gains_heat_cool: f64,
     f_hc_c: f64,
     ach: f64,
     vector_x: &[f64; 121],
 ) -> HeatBalance
-    ensures { λ r. ⌜ r ≡ heatBalance c z (now («temp_prev» .entry)) hour «delta_t» «gains_heat_cool» «f_hc_c» ach (now («vector_x» .entry)) ⌝ }
+    ensures { λ r. ⌜ r ≡ heatBalance c (zoneIn z (now (codes .entry)) (now (values .entry))) (now («temp_prev» .entry)) (conditionsIn hour (now (parts .entry)) (now (opens .entry))) «delta_t» «gains_heat_cool» «f_hc_c» ach (now («vector_x» .entry)) ⌝ }
 {
     let n = at_most_24(z.count);
-    let es = z.building_elements;
-    let hours = hour.elements;
     let h_ve = calc_vent_heat_transfer_coeff(z.volume, ach);
     let c_int = c.k_m_int * z.useful_area;
     let air = air_node(
@@ -181,8 +186,8 @@ pub fn heat_balance(
         temp_prev[120],
         vector_x[120],
     );
-    let convective = convective_loss(c, n, es, temp_prev, vector_x);
-    let sums = fabric_sums(n, es, hours, vector_x);
+    let convective = convective_loss(c, n, codes, values, temp_prev, vector_x);
+    let sums = fabric_sums(n, codes, values, parts, opens, vector_x);
     HeatBalance {
         air_node: air,
         internal_boundary: internal_boundary(c, convective, hour, gains_heat_cool, f_hc_c),

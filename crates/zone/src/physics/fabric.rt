@@ -1,12 +1,15 @@
 // The elements at the external boundary of a heat balance.
 use crate::physics::slots::outer_surface;
+use crate::record::arrays::element_hour_of;
+use crate::record::arrays::element_of;
 use crate::record::building_element::Element;
 use crate::record::building_element::ElementHour;
 use crate::record::building_element::Kind;
 use crate::record::building_element::is_two_nodes;
 ghost use mathlib.Core.Path.{_≡_};
 ghost use Prim.Native.Nat.{_≤_};
-ghost use Rattle.solver.specs.Each.{each};
+ghost use Rattle.solver.specs.Repeat.{repeat};
+ghost use Rattle.zone.specs.Inner.Lent.{elementsIn, elementHoursIn};
 ghost use Rattle.zone.specs.Physics.HeatBalance.{fabricExt};
 ghost use Rattle.zone.specs.Inner.FabricSums.{addBoundary, addKind, addElement, addElementAt, noFabric};
 
@@ -107,18 +110,20 @@ fn no_fabric() -> FabricSums
 
 pub fn fabric_sums(
     n: usize,
-    es: [Element; 24],
-    hours: [ElementHour; 24],
+    codes: &[u8; 72],
+    values: &[f64; 600],
+    parts: &[f64; 120],
+    opens: &[u8; 24],
     vector_x: &[f64; 121],
 ) -> FabricSums
     requires { ⌜ n ≤ 24 ⌝ }
-    ensures { λ r. ⌜ r ≡ each 0 n (addElementAt es hours (now («vector_x» .entry))) noFabric ⌝ }
+    ensures { λ r. ⌜ r ≡ repeat 0 n (addElementAt (elementsIn (now (codes .entry)) (now (values .entry))) (elementHoursIn (now (parts .entry)) (now (opens .entry))) (now («vector_x» .entry))) noFabric ⌝ }
 {
     let mut sums = no_fabric();
     let mut e = 0;
     while e < n {
-        let el = es[e];
-        let hour = hours[e];
+        let el = element_of(codes, values, e);
+        let hour = element_hour_of(parts, opens, e);
         let kind = el.kind;
         let t = outer_surface(is_two_nodes(kind), vector_x, e);
         sums = add_element(el, hour, t, sums);

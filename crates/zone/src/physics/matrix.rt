@@ -2,42 +2,42 @@
 use crate::physics::equations::Rows;
 use crate::physics::slots::set_entry;
 use crate::physics::slots::set_slots;
-use crate::record::building_element::Coefficients;
-use crate::record::building_element::Element;
-use crate::record::building_element::h_ci;
+use crate::record::arrays::element_of;
+use crate::record::building_element::h_ci_by_code;
 use crate::record::building_element::is_two_nodes;
+use crate::record::building_element::standard_coefficients;
 use solver::Sum2;
 ghost use mathlib.Core.Path.{_≡_};
 ghost use Prim.Native.Nat.{_<_, _≤_};
 ghost use lib.ListN.{replicate};
 ghost use Rattle.solver.specs.F64.{zero64};
-ghost use Rattle.solver.specs.Each.{each};
+ghost use Rattle.solver.specs.Repeat.{repeat};
 ghost use Rattle.solver.specs.Sums.{sum2, terms};
+ghost use Rattle.zone.specs.Inner.Lent.{elementsIn};
 ghost use Rattle.zone.specs.Physics.Slots.{withTerms};
 ghost use Rattle.zone.specs.Physics.System.{areaOf, twoNodesOf};
-ghost use Rattle.zone.specs.Inner.Assembly.{at, hCiBy, shareBy, convectiveBy, chains, setRows, couple, coupleRow};
-ghost use Rattle.zone.specs.Inner.Assembled.{pitchOf, hRiOf};
+ghost use Rattle.zone.specs.Inner.Assembly.{at, shareBy, convectiveBy, chains, setRows, couple, coupleRow};
+ghost use Rattle.zone.specs.Inner.Assembled.{hRiOf};
+ghost use Rattle.zone.specs.Inner.Kept.{hCiIn};
 
-// What the couplings and the sums need of each element, taken out of the records in one pass.
+// What the couplings and the sums need of each element, in one pass.
 pub fn fill_surfaces(
     n: usize,
-    es: [Element; 24],
+    codes: &[u8; 72],
+    values: &[f64; 600],
     area: &mut [f64; 24],
-    pitch: &mut [f64; 24],
     h_ri: &mut [f64; 24],
     two_nodes: &mut [bool; 24],
 )
     requires { ⌜ n ≤ 24 ⌝ }
-    ensures { λ _. ⌜ (now (area .exit) ≡ withTerms n (areaOf es) (now (area .entry)))
-        × (now (pitch .exit) ≡ withTerms n (pitchOf es) (now (pitch .entry)))
-        × (now («h_ri» .exit) ≡ withTerms n (hRiOf es) (now («h_ri» .entry)))
-        × (now («two_nodes» .exit) ≡ withTerms n (twoNodesOf es) (now («two_nodes» .entry))) ⌝ }
+    ensures { λ _. ⌜ (now (area .exit) ≡ withTerms n (areaOf (elementsIn (now (codes .entry)) (now (values .entry)))) (now (area .entry)))
+        × (now («h_ri» .exit) ≡ withTerms n (hRiOf (elementsIn (now (codes .entry)) (now (values .entry)))) (now («h_ri» .entry)))
+        × (now («two_nodes» .exit) ≡ withTerms n (twoNodesOf (elementsIn (now (codes .entry)) (now (values .entry)))) (now («two_nodes» .entry))) ⌝ }
 {
     let mut e = 0;
     while e < n {
-        let el = es[e];
+        let el = element_of(codes, values, e);
         area[e] = el.area;
-        pitch[e] = el.pitch;
         h_ri[e] = el.h_ri;
         let kind = el.kind;
         two_nodes[e] = is_two_nodes(kind);
@@ -71,15 +71,16 @@ pub fn shares_of(n: usize, area: &[f64; 24], total: f64) -> [f64; 24]
     share
 }
 
-// h_ci of each element, from the temperatures before the step.
-pub fn h_ci_of(c: Coefficients, n: usize, pitch: &[f64; 24], t: &[f64; 121]) -> [f64; 24]
+// h_ci of each element, by the direction of heat flow.
+pub fn h_ci_of(n: usize, directions: &[u8; 24]) -> [f64; 24]
     requires { ⌜ n ≤ 24 ⌝ }
-    ensures { λ r. ⌜ r ≡ withTerms n (hCiBy c (at (now (pitch .entry))) (now (t .entry))) (replicate 24 zero64) ⌝ }
+    ensures { λ r. ⌜ r ≡ withTerms n (hCiIn (now (directions .entry))) (replicate 24 zero64) ⌝ }
 {
+    let c = standard_coefficients();
     let mut h = [0.0; 24];
     let mut e = 0;
     while e < n {
-        h[e] = h_ci(c, pitch[e], t[120], t[5 * e + 4]);
+        h[e] = h_ci_by_code(c, directions[e]);
         e += 1;
     }
     h
@@ -120,7 +121,7 @@ pub fn set_rows(
 
 fn couplings(n: usize, share: &[f64; 24], h_ri: f64, i: usize, m: &mut [f64; 625])
     requires { ⌜ (n ≤ 24) × (i < n) ⌝ }
-    ensures { λ _. ⌜ now (m .exit) ≡ each 0 n (couple (at (now (share .entry))) «h_ri» i) (now (m .entry)) ⌝ }
+    ensures { λ _. ⌜ now (m .exit) ≡ repeat 0 n (couple (at (now (share .entry))) «h_ri» i) (now (m .entry)) ⌝ }
 {
     let mut k = 0;
     while k < n {
@@ -157,7 +158,7 @@ pub fn couple_rows(
 )
     requires { ⌜ n ≤ 24 ⌝ }
     ensures { λ _. ⌜ now (m .exit)
-        ≡ each 0 n (coupleRow n (at (now (area .entry))) (at (now («h_ri» .entry))) (at (now («h_ci» .entry))) (at (now (share .entry)))) (now (m .entry)) ⌝ }
+        ≡ repeat 0 n (coupleRow n (at (now (area .entry))) (at (now («h_ri» .entry))) (at (now («h_ci» .entry))) (at (now (share .entry)))) (now (m .entry)) ⌝ }
 {
     let mut i = 0;
     while i < n {

@@ -1,12 +1,13 @@
 // Between the paper's node order, in which states are handed out and stored, and slots.
 use crate::physics::slots::at_most_24;
-use crate::record::building_element::Element;
+use crate::record::arrays::element_of;
 use crate::record::building_element::is_two_nodes;
-use crate::record::zone_record::Zone;
+use crate::record::zone_record::ZoneFront;
 ghost use mathlib.Core.Path.{_≡_};
 ghost use Prim.Native.Nat.{_+_, _≤_};
 ghost use mathlib.Core.Bool.{false, cond};
 ghost use lib.ListN.{replicate};
+ghost use Rattle.zone.specs.Inner.Lent.{elementsIn, zoneIn};
 ghost use Rattle.zone.specs.Physics.Slots.{withTerms};
 ghost use Rattle.zone.specs.Physics.System.{twoNodesOf, zoneTwoNodes};
 ghost use Rattle.zone.specs.Physics.NodeLayout.{copyNodes, toSlots, toNodes};
@@ -62,14 +63,14 @@ pub fn to_nodes(count: usize, two_nodes: &[bool; 24], slots: &[f64; 121]) -> [f6
     temps
 }
 
-fn fill_two_nodes(n: usize, es: [Element; 24]) -> [bool; 24]
+fn fill_two_nodes(n: usize, codes: &[u8; 72], values: &[f64; 600]) -> [bool; 24]
     requires { ⌜ n ≤ 24 ⌝ }
-    ensures { λ r. ⌜ r ≡ withTerms n (twoNodesOf es) (replicate 24 false) ⌝ }
+    ensures { λ r. ⌜ r ≡ withTerms n (twoNodesOf (elementsIn (now (codes .entry)) (now (values .entry)))) (replicate 24 false) ⌝ }
 {
     let mut two_nodes = [false; 24];
     let mut e = 0;
     while e < n {
-        let el = es[e];
+        let el = element_of(codes, values, e);
         let kind = el.kind;
         two_nodes[e] = is_two_nodes(kind);
         e += 1;
@@ -78,10 +79,9 @@ fn fill_two_nodes(n: usize, es: [Element; 24]) -> [bool; 24]
 }
 
 // Which of the zone's elements have two nodes.
-pub fn two_nodes_of(z: Zone) -> [bool; 24]
-    ensures { λ r. ⌜ r ≡ zoneTwoNodes z ⌝ }
+pub fn two_nodes_of(z: ZoneFront, codes: &[u8; 72], values: &[f64; 600]) -> [bool; 24]
+    ensures { λ r. ⌜ r ≡ zoneTwoNodes (zoneIn z (now (codes .entry)) (now (values .entry))) ⌝ }
 {
     let n = at_most_24(z.count);
-    let es = z.building_elements;
-    fill_two_nodes(n, es)
+    fill_two_nodes(n, codes, values)
 }

@@ -1,8 +1,8 @@
 // The operative temperature.
 use crate::physics::matrix::area_total;
 use crate::physics::slots::at_most_24;
-use crate::record::building_element::Element;
-use crate::record::zone_record::Zone;
+use crate::record::arrays::element_of;
+use crate::record::zone_record::ZoneFront;
 use solver::Sum2;
 ghost use mathlib.Core.Path.{_≡_};
 ghost use Prim.Native.Nat.{_≤_};
@@ -10,32 +10,33 @@ ghost use lib.ListN.{replicate};
 ghost use Rattle.solver.specs.F64.{zero64};
 ghost use Rattle.solver.specs.Sums.{sum2, terms};
 ghost use Rattle.solver.specs.FastSolver.{atMost24};
+ghost use Rattle.zone.specs.Inner.Lent.{elementsIn, zoneIn};
 ghost use Rattle.zone.specs.Physics.Slots.{withTerms};
 ghost use Rattle.zone.specs.Physics.System.{areaOf};
 ghost use Rattle.zone.specs.Physics.TempOperative.{meanOf, tempOperative};
 ghost use Rattle.zone.specs.Inner.Assembly.{at};
 ghost use Rattle.zone.specs.Inner.Operative.{radiantAt, tempOperativeOf, areasOf};
 
-fn fill_areas(n: usize, es: [Element; 24]) -> [f64; 24]
+fn fill_areas(n: usize, codes: &[u8; 72], values: &[f64; 600]) -> [f64; 24]
     requires { ⌜ n ≤ 24 ⌝ }
-    ensures { λ r. ⌜ r ≡ withTerms n (areaOf es) (replicate 24 zero64) ⌝ }
+    ensures { λ r. ⌜ r ≡ withTerms n (areaOf (elementsIn (now (codes .entry)) (now (values .entry)))) (replicate 24 zero64) ⌝ }
 {
     let mut area = [0.0; 24];
     let mut e = 0;
     while e < n {
-        area[e] = es[e].area;
+        let el = element_of(codes, values, e);
+        area[e] = el.area;
         e += 1;
     }
     area
 }
 
 // For `temp_operative_by_temp_vector`, which is asked several times in an hour.
-pub fn areas_of(z: Zone) -> [f64; 24]
-    ensures { λ r. ⌜ r ≡ areasOf z ⌝ }
+pub fn areas_of(z: ZoneFront, codes: &[u8; 72], values: &[f64; 600]) -> [f64; 24]
+    ensures { λ r. ⌜ r ≡ areasOf (zoneIn z (now (codes .entry)) (now (values .entry))) ⌝ }
 {
     let n = at_most_24(z.count);
-    let es = z.building_elements;
-    fill_areas(n, es)
+    fill_areas(n, codes, values)
 }
 
 fn radiant_sum(n: usize, area: &[f64; 24], t: &[f64; 121]) -> f64
@@ -72,10 +73,10 @@ pub fn temp_operative_by_temp_vector(
     mean_of(temp_int_air, temp_mean_radiant)
 }
 
-pub fn temp_operative(z: Zone, t: &[f64; 121]) -> f64
-    ensures { λ r. ⌜ r ≡ tempOperative z (now (t .entry)) ⌝ }
+pub fn temp_operative(z: ZoneFront, codes: &[u8; 72], values: &[f64; 600], t: &[f64; 121]) -> f64
+    ensures { λ r. ⌜ r ≡ tempOperative (zoneIn z (now (codes .entry)) (now (values .entry))) (now (t .entry)) ⌝ }
 {
-    let area = areas_of(z);
+    let area = areas_of(z, codes, values);
     let n = at_most_24(z.count);
     let area_el_total = area_total(n, &area);
     temp_operative_by_temp_vector(z.count, &area, area_el_total, t)

@@ -21,7 +21,7 @@ pub fn set_entry(m: &mut [f64; 625], i: usize, j: usize, x: f64)
     m[25 * i + j] = x;
 }
 
-pub fn slots_of(t: &[f64; 121], e: usize) -> [f64; 5]
+pub fn element_slots(t: &[f64; 121], e: usize) -> [f64; 5]
     requires { ⌜ e < 24 ⌝ }
     ensures { λ r. ⌜ r ≡ elementSlots (now (t .entry)) e ⌝ }
 {

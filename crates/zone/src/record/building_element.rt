@@ -1,7 +1,7 @@
 // A building element: its record, and what is worked out from it alone.
 ghost use mathlib.Core.Path.{_≡_};
 ghost use Prim.Native.Nat.{min, _≤_};
-ghost use Rattle.zone.specs.Inner.Record.{heatFlowDirection};
+ghost use Rattle.zone.specs.Inner.Record.{heatFlowDirection, directionCode, hCiByCode};
 ghost use Rattle.zone.specs.Record.BuildingElement.{
   hCi,
   standardCoefficients,
@@ -116,6 +116,29 @@ pub fn h_ci(c: Coefficients, pitch: f64, temp_int_air: f64, temp_int_surface: f6
         HeatFlowDirection::Upwards => c.h_ci_upwards,
         HeatFlowDirection::Downwards => c.h_ci_downwards,
     }
+}
+
+// A direction's code, by which it is kept.
+pub fn direction_code(direction: HeatFlowDirection) -> u8
+    ensures { λ r. ⌜ r ≡ directionCode direction ⌝ }
+{
+    match direction {
+        HeatFlowDirection::Horizontal => 0,
+        HeatFlowDirection::Upwards => 1,
+        HeatFlowDirection::Downwards => 2,
+    }
+}
+
+pub fn h_ci_by_code(c: Coefficients, code: u8) -> f64
+    ensures { λ r. ⌜ r ≡ hCiByCode c code ⌝ }
+{
+    if code == 0 {
+        return c.h_ci_horizontal;
+    }
+    if code == 1 {
+        return c.h_ci_upwards;
+    }
+    c.h_ci_downwards
 }
 
 pub fn at_most(n: usize, limit: usize) -> usize

@@ -12,13 +12,13 @@ use Rattle.zone.proofs.Promise.{bind-ok, require-ok, ok-inj}
 use Rattle.book.specs.Numbers.{bufferShort, bookFull}
 use Rattle.book.specs.Model.Interface.{Interface}
 use Rattle.book.proofs.Model.InterfaceLaws.{Laws}
-use Rattle.book.specs.Model.Calls.{Values, handedBack, outcomeOf, beginRes, begin, appendRes, append}
+use Rattle.book.specs.Model.Calls.{BookState, handedBack, outcomeOf, beginRes, begin, appendRes, append}
 use Rattle.book.specs.Model.Claims.{BeginLeavesBehind, AppendLeavesBehind}
 
 module _ (L : Interface) (W : Laws L) where
   -- an outcome leaves them if an accepted one does
-  outcome-behind : (g : Values (L .State)) (buf : List ℕ) (x : Result (Values (L .State) × List ℕ))
-      → ((r : Values (L .State) × List ℕ) → x ≡ ok r → drop (r .0 .used) (r .1) ≡ drop (r .0 .used) buf)
+  outcome-behind : (g : BookState (L .State)) (buf : List ℕ) (x : Result (BookState (L .State) × List ℕ))
+      → ((r : BookState (L .State) × List ℕ) → x ≡ ok r → drop (r .0 .used) (r .1) ≡ drop (r .0 .used) buf)
       → drop (handedBack (outcomeOf g buf x .answer) .used) (outcomeOf g buf x .buffer) ≡ drop (handedBack (outcomeOf g buf x .answer) .used) buf
   outcome-behind g buf (ok r) h = h r refl
   outcome-behind g buf (refused c j) h = refl
@@ -27,7 +27,7 @@ module _ (L : Interface) (W : Laws L) where
   unfolding begin beginRes
   begin-leaves-behind head g buf = outcome-behind g buf (beginRes L head buf) accepted
     where
-      accepted : (r : Values (L .State) × List ℕ) → beginRes L head buf ≡ ok r → drop (r .0 .used) (r .1) ≡ drop (r .0 .used) buf
+      accepted : (r : BookState (L .State) × List ℕ) → beginRes L head buf ≡ ok r → drop (r .0 .used) (r .1) ≡ drop (r .0 .used) buf
       accepted r e =
           let a = bind-ok (L .headOf head) _ r e in
           let b = bind-ok (L .startUp (a .0 .zone)) _ r (a .2) in
@@ -39,7 +39,7 @@ module _ (L : Interface) (W : Laws L) where
   unfolding append appendRes
   append-leaves-behind z g i buf = outcome-behind g buf (appendRes L z g i buf) accepted
     where
-      accepted : (r : Values (L .State) × List ℕ) → appendRes L z g i buf ≡ ok r → drop (r .0 .used) (r .1) ≡ drop (r .0 .used) buf
+      accepted : (r : BookState (L .State) × List ℕ) → appendRes L z g i buf ≡ ok r → drop (r .0 .used) (r .1) ≡ drop (r .0 .used) buf
       accepted r e =
           let a = bind-ok (L .givenTest z (g .state)) _ r e in
           let b = bind-ok (require (ltb (g .count) (L .limit)) bookFull) _ r (a .2) in

@@ -1,6 +1,6 @@
--- An append of a well-formed book is made; a cut of it is never refused, keeps the first items, and what it took is held again once it is accepted anew.
+-- An append and a cut of a well-formed book are made; a cut of it is never refused, keeps the first items, and what it took is held again once it is accepted anew.
 use mathlib.Core.Path.{_≡_, refl, sym, ap, _∙_, subst}
-use mathlib.Core.Bool.{Bool, true, false}
+use mathlib.Core.Bool.{Bool, true, false, _&&_}
 use mathlib.Core.List.{List, [], _∷_, _++_, map, append-assoc, append-nil}
 use mathlib.Core.Option.{none, some}
 use Prim.Native.Nat.{ℕ, _+_, _≤_, _<_}
@@ -9,45 +9,46 @@ use native.Mathlib.Omega.{arith}
 use lib.ListN.{length, take, drop, length-append}
 use lib.Seq.{drop-at, drop-drop}
 use lib.Dec.{leb, ltb}
-use borrow.Author.Tests.{leb-false, le-leb, lt-ltb}
+use borrow.Author.Tests.{leb-true, leb-false, le-leb, lt-ltb}
 use Rattle.zone.specs.Promise.{Result, ok, refused, require}
-use Rattle.zone.proofs.Promise.{bind-ok, ok-inj}
+use Rattle.zone.proofs.Promise.{bind-ok, ok-inj, and-true}
 use Rattle.book.specs.Numbers.{bufferShort, bookFull}
 use Rattle.book.specs.Model.Interface.{Interface, Written}
 use Rattle.book.proofs.Model.InterfaceLaws.{Laws}
-use Rattle.book.specs.Model.Calls.{Values, Answer, accepted, refusedWith, append, takeUp}
-use Rattle.book.specs.Model.Plain.{Plain, empty, book, lastState, entriesOf, contentsOf, appendPlain, itemsEndingBy, WellFormed}
+use Rattle.book.specs.Model.Calls.{BookState, Answer, accepted, refusedWith, append, takeUp}
+use Rattle.book.specs.Model.Plain.{Plain, empty, book, entryBytes, lastState, entriesOf, contentsOf, snapshot, appendPlain, itemsEndingBy, WellFormed}
 use Rattle.book.proofs.Model.Formed.{wellFormed}
 use Rattle.book.specs.Model.PlainTakeUp.{takeUpPlain}
 use Rattle.book.specs.Model.Run.{callAppend, callCut, plainOutcome, plainMake, plainEvent, plainRun, plainAfter}
-use Rattle.book.specs.Model.Claims.{appendsOf, AllAccepted, Ready, OfBook}
-use Rattle.book.proofs.Model.Laws.Bytes.{some-inj}
+use Rattle.book.specs.Model.Claims.{appendsOf, AllAccepted, HaveRoom, OfBook}
+use Rattle.book.proofs.Model.Laws.Bytes.{some-inj, none-not-some}
 use Rattle.book.proofs.Model.Laws.Entries.{Entries, entry, itemsOf, items-are, entries-cons, entries-parts, length-entries}
 use Rattle.book.proofs.Model.Laws.Decode.{none-ending}
-use Rattle.book.proofs.Model.Agreement.{contents-is, viewed, view-is, takeUp-agrees}
+use Rattle.book.proofs.Model.Agreement.{contents-is, snapshotFor, snapshot-is, head-on, takeUp-agrees}
+use Rattle.book.proofs.Model.Caller.{make}
 use Rattle.book.proofs.Model.AppendCut.{usedOf, own, call-append, plain-append, more, kept-items, cut-is, cut-take-up}
 use Rattle.book.proofs.Model.Whole.{agrees}
 
 module _ (L : Interface) (W : Laws L) where
   -- a take-up's answer is the plain book's
-  pub take-up-answer : (g : Values (L .State)) (bytes : List ℕ) → some (takeUp L g bytes) ≡ plainOutcome L g none empty (takeUpPlain L bytes) .answer
+  pub take-up-answer : (g : BookState (L .State)) (bytes : List ℕ) → some (takeUp L g bytes) ≡ plainOutcome L g none empty (takeUpPlain L bytes) .answer
   unfolding plainEvent
   take-up-answer g bytes = ap (λ e. e .answer) (takeUp-agrees L W empty tt g bytes .0)
 
-  pub take-up-formed : (bytes : List ℕ) (q : Plain (L .Item)) → takeUpPlain L bytes ≡ ok q → Values (L .State) → wellFormed L q
+  pub take-up-formed : (bytes : List ℕ) (q : Plain (L .Item)) → takeUpPlain L bytes ≡ ok q → BookState (L .State) → wellFormed L q
   take-up-formed bytes q e g = rw e at (takeUp-agrees L W empty tt g bytes .1)
 
-  pub take-up-ok : (g : Values (L .State)) (bytes : List ℕ) (head : List ℕ) (is : List (L .Item)) → takeUpPlain L bytes ≡ ok (book head is)
-      → (S : WellFormed L head is) → takeUp L g bytes ≡ accepted (viewed L head is S .values)
-  take-up-ok g bytes head is e S = let v = view-is L head is S in some-inj (take-up-answer g bytes ∙ rw (e, v) refl)
+  pub take-up-ok : (g : BookState (L .State)) (bytes : List ℕ) (head : List ℕ) (is : List (L .Item)) → takeUpPlain L bytes ≡ ok (book head is)
+      → (S : WellFormed L head is) → takeUp L g bytes ≡ accepted (snapshotFor L head is S .values)
+  take-up-ok g bytes head is e S = let v = snapshot-is L head is S in some-inj (take-up-answer g bytes ∙ rw (e, v) refl)
 
-  cut-accepted : (head : List ℕ) (is : List (L .Item)) (S : WellFormed L head is) (at : ℕ) → length head ≤ at → (g : Values (L .State))
-      → (v : Values (L .State)) × (takeUp L g (take at (usedOf L W head is S)) ≡ accepted v)
+  cut-accepted : (head : List ℕ) (is : List (L .Item)) (S : WellFormed L head is) (at : ℕ) → length head ≤ at → (g : BookState (L .State))
+      → (v : BookState (L .State)) × (takeUp L g (take at (usedOf L W head is S)) ≡ accepted v)
   cut-accepted head is S at lo g =
       let T : List ℕ = take at (usedOf L W head is S) in
       let p : takeUpPlain L T ≡ ok (book head (kept-items L W head is S at)) = sym (cut-take-up L W head is S at lo) ∙ cut-is L W head is S at in
       let S′ : WellFormed L head (kept-items L W head is S at) = take-up-formed T _ p g in
-      (viewed L head (kept-items L W head is S at) S′ .values, take-up-ok g T head (kept-items L W head is S at) p S′)
+      (snapshotFor L head (kept-items L W head is S at) S′ .values, take-up-ok g T head (kept-items L W head is S at) p S′)
 
   keeps-first : (at b : ℕ) (es : Entries L) → (lost : List (L .Item)) × (itemsEndingBy L at b es ++ lost ≡ itemsOf es)
   unfolding itemsEndingBy
@@ -70,7 +71,7 @@ module _ (L : Interface) (W : Laws L) where
   cut-next : (head : List ℕ) (is : List (L .Item)) (S : WellFormed L head is) (at : ℕ) → length head ≤ at → at ≤ length (usedOf L W head is S)
       → plainMake L (book head is) (callCut at) .next ≡ book head (kept-items L W head is S at)
   unfolding plainMake
-  cut-next head is S at lo hi = rw (view-is L head is S, le-leb (length head) at lo, le-leb at (length (usedOf L W head is S)) hi, cut-is L W head is S at)
+  cut-next head is S at lo hi = rw (snapshot-is L head is S, le-leb (length head) at lo, le-leb at (length (usedOf L W head is S)) hi, cut-is L W head is S at)
 
   -- an append that is accepted adds its item
   accepted-adds : (head : List ℕ) (is : List (L .Item)) (i : L .Item) (spare : List ℕ) (q : Plain (L .Item))
@@ -83,7 +84,7 @@ module _ (L : Interface) (W : Laws L) where
       let d = bind-ok (require (leb (length (c .0 .bytes)) (length spare)) bufferShort) _ q (c .2) in
       sym (ok-inj (d .2))
 
-  adds : (head : List ℕ) (is : List (L .Item)) (S : WellFormed L head is) (i : L .Item) (spare : List ℕ) (v : Values (L .State))
+  adds : (head : List ℕ) (is : List (L .Item)) (S : WellFormed L head is) (i : L .Item) (spare : List ℕ) (v : BookState (L .State))
       → plainMake L (book head is) (callAppend i spare) .answer ≡ some (accepted v) → plainMake L (book head is) (callAppend i spare) .next ≡ book head (is ++ (i ∷ []))
   adds head is S i spare v h = go (appendPlain L head is i spare) refl
     where
@@ -145,14 +146,14 @@ module _ (L : Interface) (W : Laws L) where
 
   all-accepted : (head : List ℕ) (is : List (L .Item)) (S : WellFormed L head is) (ps : List (L .Item × List ℕ)) (all : Entries L)
       → entriesOf L (S .contents .zone) 0 (S .contents .start) (is ++ map (λ p. p .0) ps) ≡ ok all → length (is ++ map (λ p. p .0) ps) ≤ L .limit
-      → Ready L (drop (length is) all) ps → AllAccepted L (plainRun L (book head is) (appendsOf L ps))
+      → HaveRoom L (drop (length is) all) ps → AllAccepted L (plainRun L (book head is) (appendsOf L ps))
   unfolding plainRun plainEvent appendPlain more
   all-accepted head is S [] all entries-are within-limit r = tt
   all-accepted head is S (p ∷ ps) all entries-are within-limit r =
       let lost : List (L .Item) = map (λ x. x .0) ps in
       let is′ : List (L .Item) = is ++ (p .0 ∷ []) in
       let N = next-entry head is S (p .0) lost all entries-are within-limit in
-      let q : Ready L (entry L (p .0) (N .e) ∷ N .others) (p ∷ ps) = subst (λ x. Ready L x (p ∷ ps)) (N .behind) r in
+      let q : HaveRoom L (entry L (p .0) (N .e) ∷ N .others) (p ∷ ps) = subst (λ x. HaveRoom L x (p ∷ ps)) (N .behind) r in
       let S′ : WellFormed L head is′ = more L W head is S (p .0) (N .e) (N .stepped) (N .room) in
       let added : appendPlain L head is (p .0) (p .1) ≡ ok (book head is′) =
       rw (
@@ -164,13 +165,13 @@ module _ (L : Interface) (W : Laws L) where
       let assoc : is′ ++ lost ≡ is ++ (p .0 ∷ lost) = append-assoc is (p .0 ∷ []) lost in
       let b : drop (length is′) all ≡ N .others =
       ap (λ x. drop x all) (length-append is (p .0 ∷ [])) ∙ sym (drop-drop 1 (length is) all) ∙ ap (drop 1) (N .behind) in
-      let rest = all-accepted head is′ S′ ps all (ap (entriesOf L (S .contents .zone) 0 (S .contents .start)) assoc ∙ entries-are) (rw assoc within-limit) (subst (λ x. Ready L x ps) (sym b) (q .2)) in
-      let v = view-is L head is′ S′ in
-      rw (plain-append L W head is S (p .0) (p .1), added, v) ((viewed L head is′ S′ .values, refl), rest)
+      let rest = all-accepted head is′ S′ ps all (ap (entriesOf L (S .contents .zone) 0 (S .contents .start)) assoc ∙ entries-are) (rw assoc within-limit) (subst (λ x. HaveRoom L x ps) (sym b) (q .2)) in
+      let v = snapshot-is L head is′ S′ in
+      rw (plain-append L W head is S (p .0) (p .1), added, v) ((snapshotFor L head is′ S′ .values, refl), rest)
 
   accepted-anew : (head : List ℕ) (is : List (L .Item)) (S : WellFormed L head is) (at : ℕ) → length head ≤ at → at ≤ length (usedOf L W head is S)
       → (ps : List (L .Item × List ℕ)) → kept-items L W head is S at ++ map (λ p. p .0) ps ≡ is
-      → Ready L (drop (length (kept-items L W head is S at)) (S .contents .entries)) ps
+      → HaveRoom L (drop (length (kept-items L W head is S at)) (S .contents .entries)) ps
       → AllAccepted L (plainRun L (book head (kept-items L W head is S at)) (appendsOf L ps))
   accepted-anew head is S at lo hi ps e r =
       let xs : List (L .Item) = kept-items L W head is S at in
@@ -191,11 +192,36 @@ module _ (L : Interface) (W : Laws L) where
       let called = append L (S .contents .zone) (own L W head is S) i (usedOf L W head is S ++ spare) in
       (called .answer, ap (λ x. x .answer) (sym (agrees L W (book head is) S (callAppend i spare) .0) ∙ call-append L W head is S i spare))
 
+  cut-call : (head : List ℕ) (is : List (L .Item)) (S : WellFormed L head is) (at : ℕ) → length head ≤ at → at ≤ length (usedOf L W head is S)
+      → make L (snapshot L (book head is)) (callCut at) .answer ≡ some (takeUp L (own L W head is S) (take at (usedOf L W head is S)))
+  unfolding make
+  cut-call head is S at lo hi =
+      rw (snapshot-is L head is S, head-on L W head is S (entryBytes (S .contents .entries)), le-leb (length head) at lo, le-leb at (length (usedOf L W head is S)) hi)
+
+  cut-made : (head : List ℕ) (is : List (L .Item)) (S : WellFormed L head is) (at : ℕ) → length head ≤ at → at ≤ length (usedOf L W head is S)
+      → plainMake L (book head is) (callCut at) .answer ≡ some (takeUp L (own L W head is S) (take at (usedOf L W head is S)))
+  unfolding plainEvent
+  cut-made head is S at lo hi = ap (λ x. x .answer) (sym (agrees L W (book head is) S (callCut at) .0)) ∙ cut-call head is S at lo hi
+
+  cut-made-only : (head : List ℕ) (is : List (L .Item)) (S : WellFormed L head is) (at : ℕ) (a : Answer (L .State))
+      → plainMake L (book head is) (callCut at) .answer ≡ some a → (length head ≤ at) × (at ≤ length (usedOf L W head is S))
+  unfolding plainMake
+  cut-made-only head is S at a e = go (leb (length head) at && leb at (length (usedOf L W head is S))) refl
+    where
+      go : (b : Bool) → (leb (length head) at && leb at (length (usedOf L W head is S))) ≡ b → (length head ≤ at) × (at ≤ length (usedOf L W head is S))
+      go true t =
+          let both = and-true (leb (length head) at) (leb at (length (usedOf L W head is S))) t in
+          (leb-true _ _ (both .0), leb-true _ _ (both .1))
+      go false t = none-not-some a (sym (rw (snapshot-is L head is S, t) refl) ∙ e)
+
   pub of-book : (head : List ℕ) (is : List (L .Item)) (S : WellFormed L head is) → OfBook L head is S
   of-book head is S =
       record {
         append-made = append-made head is S;
         append-holds = adds head is S;
+        cut-made = cut-made head is S;
+        cut-holds = cut-next head is S;
+        cut-made-only = cut-made-only head is S;
         cut-is-take-up = cut-take-up L W head is S;
         cut-accepted = cut-accepted head is S;
         cut-keeps-first = λ at lo. cut-keeps-first head is S at;

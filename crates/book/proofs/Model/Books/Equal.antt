@@ -13,7 +13,7 @@ use Rattle.book.specs.Model.Plain.{empty, entriesOf, entryBytes, content
 use Rattle.book.specs.Model.Claims.{EqualBooks, TwoBooks}
 use Rattle.book.proofs.Model.Laws.Entries.{Entries, bytesOf, entries-cons}
 use Rattle.book.proofs.Model.Laws.Decode.{whole-none, whole-some, length-nil}
-use Rattle.book.proofs.Model.Agreement.{contents-is, viewed, view-is, head-on}
+use Rattle.book.proofs.Model.Agreement.{contents-is, snapshotFor, snapshot-is, head-on}
 use Rattle.book.proofs.Model.Whole.{after-formed}
 use Rattle.book.proofs.Model.Formed.{wellFormed}
 use Rattle.book.proofs.Model.Laws.Bytes.{some-inj}
@@ -72,8 +72,8 @@ module _ (L : Interface) (W : Laws L) where
   two-books cs cs′ head head′ is is′ e e′ v v′ h h′ =
       let S : WellFormed L head is = subst (wellFormed L) e (after-formed L W empty tt cs) in
       let S′ : WellFormed L head′ is′ = subst (wellFormed L) e′ (after-formed L W empty tt cs′) in
-      let q : v ≡ viewed L head is S = some-inj (sym h ∙ view-is L head is S) in
-      let q′ : v′ ≡ viewed L head′ is′ S′ = some-inj (sym h′ ∙ view-is L head′ is′ S′) in
+      let q : v ≡ snapshotFor L head is S = some-inj (sym h ∙ snapshot-is L head is S) in
+      let q′ : v′ ≡ snapshotFor L head′ is′ S′ = some-inj (sym h′ ∙ snapshot-is L head′ is′ S′) in
       let b = equal-books head head′ is is′ S S′ in (
         λ u. b .0 (sym (ap (λ x. x .bytes) q) ∙ u ∙ ap (λ x. x .bytes) q′),
         λ u. ap (λ x. x .bytes) q ∙ b .1 u ∙ sym (ap (λ x. x .bytes) q′),

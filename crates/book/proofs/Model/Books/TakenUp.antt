@@ -16,16 +16,16 @@ use Rattle.book.specs.Numbers.{bookFull, falseEntry}
 use Rattle.book.specs.Model.Bytes.{firstBelow}
 use Rattle.book.specs.Model.Interface.{Interface}
 use Rattle.book.proofs.Model.InterfaceLaws.{Laws}
-use Rattle.book.specs.Model.Calls.{Values, accepted, refusedWith, takeUp}
-use Rattle.book.specs.Model.Plain.{Plain, empty, book, view, WellFormed}
+use Rattle.book.specs.Model.Calls.{BookState, accepted, refusedWith, takeUp}
+use Rattle.book.specs.Model.Plain.{Plain, empty, book, snapshot, WellFormed}
 use Rattle.book.specs.Model.PlainTakeUp.{numberOfEntries, itemsIn, falseAt, firstInvalid, refusalAt, testEntries, takeUpPlain}
 use Rattle.book.specs.Model.Run.{plainEvent}
-use Rattle.book.specs.Model.Claims.{TakenUp, TakeUpAccepts, TakeUpGives, NotTakenUp, badHead, badStartUp, tooMany, oneFalse, TakeUpRefuses}
+use Rattle.book.specs.Model.Claims.{TakenUp, TakeUpAccepts, TakeUpGives, NotTakenUp, byHead, byStartUp, byBookFull, byFalseEntry, TakeUpRefuses}
 use Rattle.book.proofs.Model.Laws.Bytes.{some-inj, true-not-false, or-false, first-is, First, first-of}
-use Rattle.book.proofs.Model.Agreement.{viewed, takeUp-agrees}
+use Rattle.book.proofs.Model.Agreement.{snapshotFor, takeUp-agrees}
 use Rattle.book.proofs.Model.Books.Cuts.{take-up-answer, take-up-formed, take-up-ok}
 
-apart : {S B : Type 0} (v w : Values S) (c j : ℕ) → accepted v ≡ refusedWith c j w → B
+apart : {S B : Type 0} (v w : BookState S) (c j : ℕ) → accepted v ≡ refusedWith c j w → B
 apart v w c j e = let z : _≡_ {A = ℕ} 0 1 = cc in absurd (omega arith)
 
 apart-lt : (a b : ℕ) → a ≤ b → (a ≡ b → ⊥) → a < b
@@ -135,41 +135,41 @@ module _ (L : Interface) (W : Laws L) where
       go₃ : (z : L .Zone) (n : ℕ) (s : L .State) → L .headOf bytes ≡ ok (record { zone = z; length = n }) → L .startUp z ≡ ok s
           → (t : Result (Unit {0})) → Tested L z s (drop n bytes) t → testEntries L z s (drop n bytes) ≡ t → Ways bytes (takeUpPlain L bytes)
       go₃ z n s e f t (allTrue within-limit a) q = rw (e, f, q) (taken z n s e f within-limit a)
-      go₃ z n s e f t (oneTooMany lt a) q = rw (e, f, q) (notTaken bookFull 0 (tooMany z n s e f lt a))
-      go₃ z n s e f t (falseOne k lt room a b) q = rw (e, f, q) (notTaken falseEntry k (oneFalse z n s k e f lt room a b))
+      go₃ z n s e f t (oneTooMany lt a) q = rw (e, f, q) (notTaken bookFull 0 (byBookFull z n s e f lt a))
+      go₃ z n s e f t (falseOne k lt room a b) q = rw (e, f, q) (notTaken falseEntry k (byFalseEntry z n s k e f lt room a b))
 
       go₂ : (z : L .Zone) (n : ℕ) → L .headOf bytes ≡ ok (record { zone = z; length = n }) → (x : Result (L .State)) → L .startUp z ≡ x → Ways bytes (takeUpPlain L bytes)
-      go₂ z n e (refused c j) f = rw (e, f) (notTaken c j (badStartUp z n c j e f))
+      go₂ z n e (refused c j) f = rw (e, f) (notTaken c j (byStartUp z n c j e f))
       go₂ z n e (ok s) f = go₃ z n s e f (testEntries L z s (drop n bytes)) (tested L z s (drop n bytes)) refl
 
       go : (x : Result (ReadHead (L .Zone))) → L .headOf bytes ≡ x → Ways bytes (takeUpPlain L bytes)
-      go (refused c j) e = rw e (notTaken c j (badHead c j e))
+      go (refused c j) e = rw e (notTaken c j (byHead c j e))
       go (ok h) e = go₂ (h .zone) (h .length) e (L .startUp (h .zone)) refl
 
   not-taken-up : (bytes : List ℕ) (c j : ℕ) → NotTakenUp L bytes c j → takeUpPlain L bytes ≡ refused c j
   unfolding takeUpPlain
-  not-taken-up bytes c j (badHead n i e) = rw e
-  not-taken-up bytes c j (badStartUp z n c′ j′ e f) = rw (e, f)
-  not-taken-up bytes c j (tooMany z n s e f lt a) = plain-refused bytes z n s e f bookFull 0 (one-too-many L z s (drop n bytes) lt a)
-  not-taken-up bytes c j (oneFalse z n s k e f lt room a b) = plain-refused bytes z n s e f falseEntry k (false-one L z s (drop n bytes) k lt room a b)
+  not-taken-up bytes c j (byHead n i e) = rw e
+  not-taken-up bytes c j (byStartUp z n c′ j′ e f) = rw (e, f)
+  not-taken-up bytes c j (byBookFull z n s e f lt a) = plain-refused bytes z n s e f bookFull 0 (one-too-many L z s (drop n bytes) lt a)
+  not-taken-up bytes c j (byFalseEntry z n s k e f lt room a b) = plain-refused bytes z n s e f falseEntry k (false-one L z s (drop n bytes) k lt room a b)
 
   -- ---- the take-up that the contract cites
 
-  refused-answer : (g : Values (L .State)) (bytes : List ℕ) (c j : ℕ) → takeUpPlain L bytes ≡ refused c j → takeUp L g bytes ≡ refusedWith c j g
+  refused-answer : (g : BookState (L .State)) (bytes : List ℕ) (c j : ℕ) → takeUpPlain L bytes ≡ refused c j → takeUp L g bytes ≡ refusedWith c j g
   refused-answer g bytes c j e = some-inj (take-up-answer L W g bytes ∙ rw e refl)
 
   -- the book held after an accepted take-up
-  held-view : (g : Values (L .State)) (bytes : List ℕ) (q : Plain (L .Item)) (v : Values (L .State)) → takeUpPlain L bytes ≡ ok q
-      → takeUp L g bytes ≡ accepted v → view L q ≡ some (record { bytes = take (v .used) bytes; values = v })
+  held-snapshot : (g : BookState (L .State)) (bytes : List ℕ) (q : Plain (L .Item)) (v : BookState (L .State)) → takeUpPlain L bytes ≡ ok q
+      → takeUp L g bytes ≡ accepted v → snapshot L q ≡ some (record { bytes = take (v .used) bytes; values = v })
   unfolding plainEvent
-  held-view g bytes q v e f = sym (rw (e, f) at (ap (λ x. x .held) (takeUp-agrees L W empty tt g bytes .0)))
+  held-snapshot g bytes q v e f = sym (rw (e, f) at (ap (λ x. x .held) (takeUp-agrees L W empty tt g bytes .0)))
 
   -- bytes that the plain book takes up
-  accepted-answer : (g : Values (L .State)) (bytes head : List ℕ) (is : List (L .Item)) → takeUpPlain L bytes ≡ ok (book head is)
-      → (v : Values (L .State)) × (takeUp L g bytes ≡ accepted v)
+  accepted-answer : (g : BookState (L .State)) (bytes head : List ℕ) (is : List (L .Item)) → takeUpPlain L bytes ≡ ok (book head is)
+      → (v : BookState (L .State)) × (takeUp L g bytes ≡ accepted v)
   accepted-answer g bytes head is p =
       let S : WellFormed L head is = take-up-formed L W bytes (book head is) p g in
-      (viewed L head is S .values, take-up-ok L W g bytes head is p S)
+      (snapshotFor L head is S .values, take-up-ok L W g bytes head is p S)
 
   plain-taken : (bytes : List ℕ) (t : TakenUp L bytes) → takeUpPlain L bytes ≡ ok (book (take (t .n) bytes) (itemsIn L (t .zone) (drop (t .n) bytes)))
   plain-taken bytes t =
@@ -179,12 +179,12 @@ module _ (L : Interface) (W : Laws L) where
   pub take-up-accepts : TakeUpAccepts L
   take-up-accepts g bytes = (λ h. there (h .0) (h .1) (takeUpPlain L bytes) refl (ways bytes), λ t. accepted-answer g bytes _ _ (plain-taken bytes t))
     where
-      there : (v : Values (L .State)) → takeUp L g bytes ≡ accepted v → (x : Result (Plain (L .Item))) → takeUpPlain L bytes ≡ x → Ways bytes x → TakenUp L bytes
+      there : (v : BookState (L .State)) → takeUp L g bytes ≡ accepted v → (x : Result (Plain (L .Item))) → takeUpPlain L bytes ≡ x → Ways bytes x → TakenUp L bytes
       there v h x p (taken z n s e f le a) = record { zone = z; n = n; start = s; head-is = e; start-is = f; within-limit = le; none-false = a }
       there v h x p (notTaken c j w) = apart v g c j (sym h ∙ refused-answer g bytes c j p)
 
   pub take-up-gives : TakeUpGives L
-  take-up-gives g bytes v h t = held-view g bytes _ v (plain-taken bytes t) h
+  take-up-gives g bytes v h t = held-snapshot g bytes _ v (plain-taken bytes t) h
 
   pub take-up-refuses : TakeUpRefuses L
   take-up-refuses g bytes c j v = (λ h. there h (takeUpPlain L bytes) refl (ways bytes), λ w. refused-answer g bytes c j (not-taken-up bytes c j (w .1)) ∙ ap (refusedWith c j) (sym (w .0)))

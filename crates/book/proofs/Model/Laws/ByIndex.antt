@@ -19,7 +19,7 @@ use Rattle.book.specs.Model.Interface.{Interface, Written}
 use Rattle.book.proofs.Model.InterfaceLaws.{Laws}
 use Rattle.book.specs.Model.Calls.{wholeEntriesUpTo, wholeEntries}
 use Rattle.book.specs.Model.Plain.{entriesOf, lastState}
-use Rattle.book.specs.Model.PlainTakeUp.{firstEntryLength, restAt, entryAt, numberOfEntries, itemsBefore, itemsIn, stepAt, givesOther, falseAt, firstInvalid, refusalAt, testEntries}
+use Rattle.book.specs.Model.PlainTakeUp.{firstEntryLength, restAt, entryAt, numberOfEntries, itemsBefore, itemsIn, stepAt, refusesOrDiffers, falseAt, firstInvalid, refusalAt, testEntries}
 use Rattle.book.proofs.Model.Laws.Bytes.{equal-self, equal-true, first-is}
 use Rattle.book.proofs.Model.Laws.Entries.{Entries, bytesOf, length-bytesOf, entries-cons, entries-parts, length-entries, bytesOf-append}
 use Rattle.book.proofs.Model.Laws.Checking.{Bad}
@@ -127,7 +127,7 @@ module _ (L : Interface) (W : Laws L) (z : L .Zone) where
             rw (ib, P .first, cj, st, e0, equal-self c)
 
     -- an entry is false exactly where the step does not give it
-    other-false : (r : Result (Written (L .State))) (c : List ℕ) → ((t : L .State) → r ≡ ok (record { bytes = c; after = t }) → ⊥) → givesOther L z r c ≡ true
+    other-false : (r : Result (Written (L .State))) (c : List ℕ) → ((t : L .State) → r ≡ ok (record { bytes = c; after = t }) → ⊥) → refusesOrDiffers L z r c ≡ true
     other-false (refused n j) c h = refl
     other-false (ok e) c h = go (equalBytes (e .bytes) c) refl
       where

@@ -14,7 +14,7 @@ use Rattle.zone.proofs.Promise.{bind-ok, bind-is, require-ok, ok-inj, ok-not-re
 use Rattle.book.specs.Numbers.{bookFull, falseEntry}
 use Rattle.book.specs.Model.Bytes.{concat, equalBytes}
 use Rattle.book.specs.Model.Interface.{Interface, Written}
-use Rattle.book.specs.Model.Calls.{Values, checkEntry, checkEntries}
+use Rattle.book.specs.Model.Calls.{BookState, checkEntry, checkEntries}
 use Rattle.book.specs.Model.Plain.{entriesOf, lastState}
 use Rattle.book.proofs.Model.Laws.Bytes.{true-not-false, equal-self, equal-true}
 use Rattle.book.proofs.Model.Laws.Entries.{Entries, bytesOf, entries-cons}
@@ -47,14 +47,14 @@ module _ (L : Interface) where
 
   -- ---- what is accepted
 
-  pub record Checked (z : L .Zone) (k : ℕ) (s : L .State) (u : ℕ) (cs : List (List ℕ)) (v : Values (L .State)) : Type 0 where
+  pub record Checked (z : L .Zone) (k : ℕ) (s : L .State) (u : ℕ) (cs : List (List ℕ)) (v : BookState (L .State)) : Type 0 where
     pub es : Entries L
     pub entries-are : entriesOf L z k s (map (L .itemOf z) cs) ≡ ok es
     pub same : bytesOf es ≡ cs
     pub within-limit : k + length cs ≤ L .limit
     pub values : record { state = lastState s es; count = k + length cs; used = u + length (concat cs) } ≡ v
 
-  pub check-accepted : (z : L .Zone) (k : ℕ) (s : L .State) (u : ℕ) (cs : List (List ℕ)) (v : Values (L .State))
+  pub check-accepted : (z : L .Zone) (k : ℕ) (s : L .State) (u : ℕ) (cs : List (List ℕ)) (v : BookState (L .State))
       → k ≤ L .limit → checkEntries L z k s u cs ≡ ok v → Checked z k s u cs v
   unfolding entriesOf checkEntries
   check-accepted z k s u [] v room h = record { es = []; entries-are = refl; same = refl; within-limit = rw add-zero room; values = rw (add-zero, add-zero) (ok-inj h) }

@@ -1,4 +1,5 @@
-use Rattle.book.proofs.Calls.{head-inside, begin-cases}
+use Rattle.book.proofs.Calls.{begin-cases}
+use Rattle.book.proofs.Laws.Heads.{head-inside}
 use borrow.Author.Needs.{needs}
 use Rattle.book.proofs.book.begin.Statement.{statement}
 use Rattle.book.proofs.book.begin.Tie as tie

@@ -8,10 +8,10 @@ use Rattle.book_torture.proofs.year.append_hours.Statement.{statement}
 use Rattle.book_torture.proofs.year.append_hours.Tie as tie
 
 abbrev Inv-loop : tie.InvT-loop
-Inv-loop z from to buf₀ filled₀ hour₀ buf filled hour = length buf ≡ length buf₀
+Inv-loop z codes values from to buf₀ filled₀ hour₀ buf filled hour = length buf ≡ length buf₀
 
 abbrev μ-loop : tie.MeasureT-loop
-μ-loop z from to buf₀ filled₀ hour₀ buf filled hour = to - hour
+μ-loop z codes values from to buf₀ filled₀ hour₀ buf filled hour = to - hour
 
 pub append-hours-spec : {M : Type 1} → statement M
 append-hours-spec =

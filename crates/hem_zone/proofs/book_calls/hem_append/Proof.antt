@@ -1,16 +1,13 @@
-use Rattle.hem_zone.proofs.Cases.{zone-cases}
-use Rattle.hem_zone.specs.Book.{hemAppend}
+use Rattle.hem_zone.proofs.BookCases.{append-head-cases}
 use borrow.Author.Needs.{needs}
 use Rattle.hem_zone.proofs.book_calls.hem_append.Statement.{statement}
 use Rattle.hem_zone.proofs.book_calls.hem_append.Tie as tie
 
 returns : tie.Need-returns
-unfolding hemAppend
-returns c = search zone-cases
+returns c = search append-head-cases
 
 returns-2 : tie.Need-returns-2
-unfolding hemAppend
-returns-2 c = search zone-cases
+returns-2 c = search append-head-cases
 
 pub hem-append-spec : {M : Type 1} → statement M
 hem-append-spec =

@@ -9,7 +9,12 @@ returns c = search head-cases
 returns-2 : tie.Need-returns-2
 returns-2 c = search head-cases
 
+returns-3 : tie.Need-returns-3
+returns-3 c = search head-cases
+
 pub hem-head-spec : {M : Type 1} → statement M
 hem-head-spec =
     tie.close
-    (tie.spec (λ c κs. search needs) (λ c. search needs) (λ c κs. search needs) (λ c. search needs) returns returns-2)
+    (tie.spec (λ c κs. search needs) (λ c. search needs) (λ c κs. search needs) (λ c. search needs)
+    (λ c κs. search needs) (λ c. search needs) (λ c κs. search needs) (λ c. search needs) returns returns-2
+    returns-3)

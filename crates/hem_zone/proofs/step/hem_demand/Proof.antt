@@ -1,15 +1,12 @@
 use Rattle.hem_zone.proofs.Cases.{zone-cases}
-use Rattle.hem_zone.specs.Zone.{hemDemand}
 use borrow.Author.Needs.{needs}
 use Rattle.hem_zone.proofs.step.hem_demand.Statement.{statement}
 use Rattle.hem_zone.proofs.step.hem_demand.Tie as tie
 
 returns : tie.Need-returns
-unfolding hemDemand
 returns c = search zone-cases
 
 returns-2 : tie.Need-returns-2
-unfolding hemDemand
 returns-2 c = search zone-cases
 
 pub hem-demand-spec : {M : Type 1} → statement M

@@ -1,15 +1,12 @@
 use Rattle.hem_zone.proofs.Cases.{zone-cases}
-use Rattle.hem_zone.specs.Zone.{hemHourStep}
 use borrow.Author.Needs.{needs}
 use Rattle.hem_zone.proofs.step.hem_hour_step.Statement.{statement}
 use Rattle.hem_zone.proofs.step.hem_hour_step.Tie as tie
 
 returns : tie.Need-returns
-unfolding hemHourStep
 returns c = search zone-cases
 
 returns-2 : tie.Need-returns-2
-unfolding hemHourStep
 returns-2 c = search zone-cases
 
 pub hem-hour-step-spec : {M : Type 1} → statement M

@@ -1,15 +1,12 @@
 use Rattle.hem_zone.proofs.Cases.{zone-cases}
-use Rattle.hem_zone.specs.Zone.{hemOperative}
 use borrow.Author.Needs.{needs}
 use Rattle.hem_zone.proofs.step.hem_operative.Statement.{statement}
 use Rattle.hem_zone.proofs.step.hem_operative.Tie as tie
 
 returns : tie.Need-returns
-unfolding hemOperative
 returns c = search zone-cases
 
 returns-2 : tie.Need-returns-2
-unfolding hemOperative
 returns-2 c = search zone-cases
 
 pub hem-operative-spec : {M : Type 1} → statement M

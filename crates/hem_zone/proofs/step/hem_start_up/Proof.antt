@@ -1,15 +1,12 @@
 use Rattle.hem_zone.proofs.Cases.{zone-cases}
-use Rattle.hem_zone.specs.Zone.{hemStartUp}
 use borrow.Author.Needs.{needs}
 use Rattle.hem_zone.proofs.step.hem_start_up.Statement.{statement}
 use Rattle.hem_zone.proofs.step.hem_start_up.Tie as tie
 
 returns : tie.Need-returns
-unfolding hemStartUp
 returns c = search zone-cases
 
 returns-2 : tie.Need-returns-2
-unfolding hemStartUp
 returns-2 c = search zone-cases
 
 pub hem-start-up-spec : {M : Type 1} → statement M

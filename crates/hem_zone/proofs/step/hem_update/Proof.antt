@@ -1,15 +1,12 @@
 use Rattle.hem_zone.proofs.Cases.{zone-cases}
-use Rattle.hem_zone.specs.Zone.{hemUpdate}
 use borrow.Author.Needs.{needs}
 use Rattle.hem_zone.proofs.step.hem_update.Statement.{statement}
 use Rattle.hem_zone.proofs.step.hem_update.Tie as tie
 
 returns : tie.Need-returns
-unfolding hemUpdate
 returns c = search zone-cases
 
 returns-2 : tie.Need-returns-2
-unfolding hemUpdate
 returns-2 c = search zone-cases
 
 pub hem-update-spec : {M : Type 1} → statement M

@@ -1,7 +1,7 @@
 use mathlib.Core.Path.{_≡_, refl, sym, _∙_}
 use Prim.Native.Nat.{_+_, _*_, _≤_}
 use native.Mathlib.Omega.{arith}
-use Rattle.solver.specs.Each.{eachDown}
+use Rattle.solver.specs.Repeat.{repeatDown}
 use Rattle.solver.specs.Chain.{backSubstituteNode, backSubstituteChain}
 use Rattle.solver.proofs.Laws.Counting.{down-next, down-done}
 use borrow.Author.Needs.{needs}
@@ -9,7 +9,7 @@ use Rattle.solver.proofs.chain.back_substitute_chain.Statement.{stateme
 use Rattle.solver.proofs.chain.back_substitute_chain.Tie as tie
 
 abbrev Inv-loop : tie.InvT-loop
-Inv-loop twoNodes diag next e t₀ outer j₀ t j = (outer + j ≤ 5 * e + 4) × (eachDown j (backSubstituteNode diag next outer) t ≡ eachDown j₀ (backSubstituteNode diag next outer) t₀)
+Inv-loop twoNodes diag next e t₀ outer j₀ t j = (outer + j ≤ 5 * e + 4) × (repeatDown j (backSubstituteNode diag next outer) t ≡ repeatDown j₀ (backSubstituteNode diag next outer) t₀)
 
 abbrev μ-loop : tie.MeasureT-loop
 μ-loop twoNodes diag next e t₀ outer j₀ t j = j

@@ -3,7 +3,7 @@ use mathlib.Core.Bool.{_&&_}
 use Prim.Native.Nat.{_+_, _*_, _-_}
 use lib.ListN.{getD}
 use lib.Ieee.{nan}
-use Rattle.solver.specs.Each.{all}
+use Rattle.solver.specs.Repeat.{all}
 use Rattle.solver.specs.Closeness.{validDivisor}
 use Rattle.solver.specs.Chain.{chainDivisorsValid}
 use Rattle.solver.proofs.Laws.Counting.{all-turn, all-end}

@@ -1,7 +1,7 @@
 use mathlib.Core.Path.{_≡_, refl}
 use mathlib.Core.Bool.{_&&_}
 use Prim.Native.Nat.{_-_}
-use Rattle.solver.specs.Each.{all}
+use Rattle.solver.specs.Repeat.{all}
 use Rattle.solver.specs.Chain.{chainDivisorsValid, divisorsValid}
 use Rattle.solver.proofs.Laws.Counting.{all-turn, all-end}
 use borrow.Author.Needs.{needs}

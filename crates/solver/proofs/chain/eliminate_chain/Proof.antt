@@ -1,14 +1,14 @@
 use mathlib.Core.Path.{_≡_, refl}
 use Prim.Native.Nat.{_+_, _*_, _-_}
-use Rattle.solver.specs.Each.{each}
+use Rattle.solver.specs.Repeat.{repeat}
 use Rattle.solver.specs.Chain.{adjustDiagonal, eliminateChain}
-use Rattle.solver.proofs.Laws.Counting.{each-turn, each-end}
+use Rattle.solver.proofs.Laws.Counting.{repeat-turn, repeat-end}
 use borrow.Author.Needs.{needs}
 use Rattle.solver.proofs.chain.eliminate_chain.Statement.{statement}
 use Rattle.solver.proofs.chain.eliminate_chain.Tie as tie
 
 abbrev Inv-loop : tie.InvT-loop
-Inv-loop twoNodes next prev e d₀ s₀ diag s = each s (5 * e + 4) (adjustDiagonal next prev) diag ≡ each s₀ (5 * e + 4) (adjustDiagonal next prev) d₀
+Inv-loop twoNodes next prev e d₀ s₀ diag s = repeat s (5 * e + 4) (adjustDiagonal next prev) diag ≡ repeat s₀ (5 * e + 4) (adjustDiagonal next prev) d₀
 
 abbrev μ-loop : tie.MeasureT-loop
 μ-loop twoNodes next prev e d₀ s₀ diag s = 5 * e + 4 - s
@@ -17,7 +17,7 @@ returns : tie.Need-returns Inv-loop μ-loop
 unfolding eliminateChain
 returns c =
     rw (← c .before .before .outer-slot .ensures .0)
-    (search (needs, each-end))
+    (search (needs, repeat-end))
 
 pub eliminate-chain-spec : {M : Type 1} → statement M
 eliminate-chain-spec =
@@ -25,4 +25,4 @@ eliminate-chain-spec =
     (tie.spec Inv-loop μ-loop (λ c κs. search needs) (λ c. refl) (λ c. search needs) (λ c. search needs)
     (λ c. search needs) (λ c. search needs) (λ c. search needs) (λ c. search needs) (λ c. search needs)
     (λ c. search needs) (λ c. search needs) (λ c. search needs) (λ c. search needs) (λ c. search needs)
-    (λ c. search needs) (λ c. search needs) (λ c. search (needs, each-turn)) returns)
+    (λ c. search needs) (λ c. search needs) (λ c. search (needs, repeat-turn)) returns)

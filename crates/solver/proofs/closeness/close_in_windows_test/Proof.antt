@@ -1,5 +1,5 @@
 use lib.Ieee.{ofBits}
-use Rattle.solver.specs.F64.{dec}
+use Rattle.solver.specs.F64.{decimal}
 use Rattle.solver.specs.Closeness.{closeInWindowsTest}
 use borrow.Author.Needs.{needs}
 use Rattle.solver.proofs.closeness.close_in_windows_test.Statement.{statement}
@@ -7,7 +7,7 @@ use Rattle.solver.proofs.closeness.close_in_windows_test.Tie as tie
 
 -- the literals' bits are those of the decimals, by computation
 returns : tie.Need-returns
-unfolding closeInWindowsTest ofBits dec
+unfolding closeInWindowsTest ofBits decimal
 returns c = c .relative-eq .ensures
 
 pub close-in-windows-test-spec : {M : Type 1} → statement M

@@ -2,15 +2,15 @@ use mathlib.Core.Logic.{⊎-elim}
 use borrow.Author.Tests.{lt-ltb, le-ltb}
 use mathlib.Core.Path.{_≡_, refl}
 use Prim.Native.Nat.{_-_}
-use Rattle.solver.specs.Each.{each}
+use Rattle.solver.specs.Repeat.{repeat}
 use Rattle.solver.specs.Lu.{applyInterchange, applyInterchanges}
-use Rattle.solver.proofs.Laws.Counting.{each-turn, each-end}
+use Rattle.solver.proofs.Laws.Counting.{repeat-turn, repeat-end}
 use borrow.Author.Needs.{needs}
 use Rattle.solver.proofs.lu.apply_interchanges.Statement.{statement}
 use Rattle.solver.proofs.lu.apply_interchanges.Tie as tie
 
 abbrev Inv-loop : tie.InvT-loop
-Inv-loop b₀ interchanges w k₀ b k = each k w (applyInterchange interchanges) b ≡ each 0 w (applyInterchange interchanges) b₀
+Inv-loop b₀ interchanges w k₀ b k = repeat k w (applyInterchange interchanges) b ≡ repeat 0 w (applyInterchange interchanges) b₀
 
 abbrev μ-loop : tie.MeasureT-loop
 μ-loop b₀ interchanges w k₀ b k = w - k
@@ -22,11 +22,11 @@ changed c =
     ⊎-elim (λ w. rw (lt-ltb _ _ (w .0 .taken)) (w .3)) (λ w. rw (le-ltb _ _ (w .0 .left)) (w .1)) (c .if1 .came)
 
 loop-again : tie.Need-loop-again Inv-loop μ-loop
-loop-again c = rw (changed c) (search (needs, each-turn))
+loop-again c = rw (changed c) (search (needs, repeat-turn))
 
 returns : tie.Need-returns Inv-loop μ-loop
 unfolding applyInterchanges
-returns c = search (needs, each-end)
+returns c = search (needs, repeat-end)
 
 pub apply-interchanges-spec : {M : Type 1} → statement M
 apply-interchanges-spec =

@@ -1,7 +1,7 @@
 use mathlib.Core.Path.{_≡_, refl, sym, ap, _∙_}
 use Prim.Native.Nat.{_-_, _≤_}
 use native.Mathlib.Omega.{arith}
-use Rattle.solver.specs.Each.{eachDown}
+use Rattle.solver.specs.Repeat.{repeatDown}
 use Rattle.solver.specs.Lu.{backStep, backSubstitution}
 use Rattle.solver.proofs.Laws.Counting.{down-next, down-done}
 use borrow.Author.Needs.{needs}
@@ -9,7 +9,7 @@ use Rattle.solver.proofs.lu.back_substitution.Statement.{statement}
 use Rattle.solver.proofs.lu.back_substitution.Tie as tie
 
 abbrev Inv-loop : tie.InvT-loop
-Inv-loop m b₀ w k₀ b k = (k ≤ w) × (eachDown k (backStep m) b ≡ eachDown w (backStep m) b₀)
+Inv-loop m b₀ w k₀ b k = (k ≤ w) × (repeatDown k (backStep m) b ≡ repeatDown w (backStep m) b₀)
 
 abbrev μ-loop : tie.MeasureT-loop
 μ-loop m b₀ w k₀ b k = k
@@ -23,7 +23,7 @@ loop-again c =
     let l = c .before .before .before .before .before .loop in
     let s = c .before .before .before .before .before .before in (
       omega (arith, l .inv .0),
-      ap (eachDown (l .k - 1) (backStep (s .args .m .now))) (rw (c .before .before .entry .ensures) at (c .subtract-multiples .ensures))
+      ap (repeatDown (l .k - 1) (backStep (s .args .m .now))) (rw (c .before .before .entry .ensures) at (c .subtract-multiples .ensures))
           ∙ sym (down-next (backStep (s .args .m .now)) (l .k) (l .b) (c .before .before .before .before .loop-test .taken)) ∙ l .inv .1,
     )
 

@@ -1,7 +1,7 @@
 use mathlib.Core.Path.{_≡_, refl, ap, _∙_}
 use mathlib.Core.Bool.{_&&_}
 use Prim.Native.Nat.{_-_}
-use Rattle.solver.specs.Each.{all}
+use Rattle.solver.specs.Repeat.{all}
 use Rattle.solver.specs.Closeness.{validDivisor}
 use Rattle.solver.specs.Rows.{entry}
 use Rattle.solver.specs.Lu.{pivotsValid}

@@ -1,16 +1,13 @@
 use Rattle.zone.specs.Calls.StartUp.{startUpConditions}
-use Rattle.solver.specs.F64.{dec}
+use Rattle.solver.specs.F64.{decimal}
 use lib.Ieee.{ofBits}
 use mathlib.Core.Path.{refl}
-use borrow.Author.Needs.{needs}
 use Rattle.zone.proofs.calls.start_up.start_up_conditions.Statement.{statement}
 use Rattle.zone.proofs.calls.start_up.start_up_conditions.Tie as tie
 
 returns : tie.Need-returns
-unfolding startUpConditions ofBits dec
-returns c = rw (c .first-hours .ensures) refl
+unfolding startUpConditions ofBits decimal
+returns c = refl
 
 pub start-up-conditions-spec : {M : Type 1} → statement M
-start-up-conditions-spec =
-    tie.close
-    (tie.spec (λ c κs. search needs) returns)
+start-up-conditions-spec = tie.close (tie.spec returns)

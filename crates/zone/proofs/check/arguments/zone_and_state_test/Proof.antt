@@ -1,4 +1,4 @@
-use Rattle.zone.proofs.Laws.Hour.{zone-refused, state-accepted, state-6}
+use Rattle.zone.proofs.Laws.HourArrays.{zone-refused, state-accepted, state-refused}
 use borrow.Author.Needs.{needs}
 use Rattle.zone.proofs.check.arguments.zone_and_state_test.Statement.{statement}
 use Rattle.zone.proofs.check.arguments.zone_and_state_test.Tie as tie
@@ -10,7 +10,7 @@ returns-2 : tie.Need-returns-2
 returns-2 c = state-accepted _ _ _ (c .before .before .before .before .zone-test .ensures) (c .before .before .enum-told .given .1) _ (c .before .state-valid .ensures) (c .if1 .taken)
 
 returns-3 : tie.Need-returns-3
-returns-3 c = state-6 _ _ _ (c .before .before .before .before .zone-test .ensures) (c .before .before .enum-told .given .1) _ (c .before .state-valid .ensures) (c .if1 .left)
+returns-3 c = state-refused _ _ _ (c .before .before .before .before .zone-test .ensures) (c .before .before .enum-told .given .1) _ (c .before .state-valid .ensures) (c .if1 .left)
 
 pub zone-and-state-test-spec : {M : Type 1} → statement M
 zone-and-state-test-spec =

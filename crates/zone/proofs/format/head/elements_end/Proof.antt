@@ -9,7 +9,7 @@ use Rattle.zone.specs.Format.Layout.{firstElement}
 use Rattle.zone.specs.Format.ElementLayout.{kindValidAt, sizeAt}
 use Rattle.zone.specs.Inner.Format.{kindValid}
 use Rattle.zone.specs.Format.Head.{elementsEnd}
-use Rattle.zone.specs.Inner.Format.{structureAnswer}
+use Rattle.zone.specs.Inner.Format.{extentAnswer}
 use Rattle.zone.proofs.Laws.Structure.{end-short, end-kind, end-rest, end-next}
 use borrow.Author.Needs.{needs}
 use Rattle.zone.proofs.format.head.elements_end.Statement.{statement}
@@ -32,11 +32,11 @@ size c = rw (c .element-size .ensures, c .before .kind-of .ensures, c .before .b
 
 returns : tie.Need-returns Inv-loop μ-loop
 returns c = let l = c .before .before .before .loop in let a = c .before .before .before .before .before .args in
-    c .wrong .ensures ∙ sym (ap structureAnswer (l .inv .2 ∙ end-short (now (a .s)) (a .end) (a .n) (l .i) (l .p) (omega arith) (omega arith)))
+    c .refuse-extent .ensures ∙ sym (ap extentAnswer (l .inv .2 ∙ end-short (now (a .s)) (a .end) (a .n) (l .i) (l .p) (omega arith) (omega arith)))
 
 returns-2 : tie.Need-returns-2 Inv-loop μ-loop
 returns-2 c = let l = c .before .before .before .before .before .before .before .before .before .before .before .loop in let a = c .before .before .before .before .before .before .before .before .before .before .before .before .before .args in let z = size (c .before .before) in
-    c .wrong2 .ensures ∙ sym (ap structureAnswer (l .inv .2 ∙ end-rest (now (a .s)) (a .end) (a .n) (l .i) (l .p) (omega arith) (omega arith) (good (c .before .before .before .before .before) _ (c .before .before .before .before .if2 .taken)) (omega (arith, z, c .before .if3 .taken))))
+    c .refuse-extent2 .ensures ∙ sym (ap extentAnswer (l .inv .2 ∙ end-rest (now (a .s)) (a .end) (a .n) (l .i) (l .p) (omega arith) (omega arith) (good (c .before .before .before .before .before) _ (c .before .before .before .before .if2 .taken)) (omega (arith, z, c .before .if3 .taken))))
 
 loop-again : tie.Need-loop-again Inv-loop μ-loop
 loop-again c = let l = c .before .before .before .before .before .before .before .before .before .before .loop in let a = c .before .before .before .before .before .before .before .before .before .before .before .before .args in let z = size (c .before) in
@@ -44,13 +44,13 @@ loop-again c = let l = c .before .before .before .before .before .before .before
 
 returns-3 : tie.Need-returns-3 Inv-loop μ-loop
 returns-3 c = let l = c .before .before .before .before .before .before .before .loop in let a = c .before .before .before .before .before .before .before .before .before .args in
-    sym (ap structureAnswer (l .inv .2 ∙ end-kind (now (a .s)) (a .end) (a .n) (l .i) (l .p) (omega arith) (omega arith) (good (c .before) _ (c .if2 .left))))
+    sym (ap extentAnswer (l .inv .2 ∙ end-kind (now (a .s)) (a .end) (a .n) (l .i) (l .p) (omega arith) (omega arith) (good (c .before) _ (c .if2 .left))))
 
 returns-4 : tie.Need-returns-4 Inv-loop μ-loop
 unfolding elementsEnd
 returns-4 c = let l = c .before .loop in let a = c .before .before .before .args in
     let none : a .n - l .i ≡ 0 = omega arith in
-    sym (ap structureAnswer (l .inv .2 ∙ ap (λ (m : ℕ). elementsEnd (now (a .s)) (a .end) m (l .i) (l .p)) none))
+    sym (ap extentAnswer (l .inv .2 ∙ ap (λ (m : ℕ). elementsEnd (now (a .s)) (a .end) m (l .i) (l .p)) none))
 
 pub elements-end-spec : {M : Type 1} → statement M
 elements-end-spec =

@@ -3,7 +3,7 @@ use Rattle.zone.proofs.format.read_conditions.refuse.Statement.{stateme
 use Rattle.zone.proofs.format.read_conditions.refuse.Tie as tie
 
 returns : tie.Need-returns
-returns c = rw (c .no-conditions .ensures)
+returns c = rw (c .no-hour-front .ensures)
 
 pub refuse-spec : {M : Type 1} → statement M
 refuse-spec = tie.close (tie.spec (λ c κs. search needs) returns)

@@ -1,20 +1,15 @@
-use Rattle.zone.proofs.Laws.Assembled.{control-by-areas}
-use mathlib.Core.Path.{_∙_}
-use Rattle.zone.specs.Hour.Demand.{controlTemperature}
-use mathlib.Core.Path.{refl}
+use mathlib.Core.Path.{refl, _∙_}
 use borrow.Author.Needs.{needs}
 use Rattle.zone.proofs.hour.solves.control_temperature.Statement.{statement}
 use Rattle.zone.proofs.hour.solves.control_temperature.Tie as tie
 
 returns : tie.Need-returns
-unfolding controlTemperature
 returns c = rw (c .before .enum-told .given .1) refl
 
 returns-2 : tie.Need-returns-2
-returns-2 c = c .temp-operative-by-temp-vector .ensures ∙ control-by-areas _ _ _ _ (c .before .before .before .pre .0) (c .before .before .before .pre .1) (c .before .enum-told2 .given .1)
+returns-2 c = c .temp-operative-by-temp-vector .ensures ∙ rw (c .before .enum-told2 .given .1) refl
 
 pub control-temperature-spec : {M : Type 1} → statement M
 control-temperature-spec =
     tie.close
-    (tie.spec (λ c. search needs) (λ c. search needs) (λ c. search needs) (λ c κs. search needs) returns
-    returns-2)
+    (tie.spec (λ c. search needs) (λ c. search needs) (λ c. search needs) (λ c κs. search needs) returns returns-2)

@@ -6,7 +6,7 @@ use Rattle.zone.proofs.physics.node_layout.two_nodes_of.Tie as tie
 
 returns : tie.Need-returns
 unfolding zoneTwoNodes
-returns c = rw (c .fill-two-nodes .ensures, c .before .before .at-most-24 .ensures .0) refl
+returns c = rw (c .fill-two-nodes .ensures, c .before .at-most-24 .ensures .0) refl
 
 pub two-nodes-of-spec : {M : Type 1} → statement M
 two-nodes-of-spec = tie.close (tie.spec (λ c κs. search needs) (λ c κs. search needs) returns)

@@ -6,7 +6,7 @@ use Rattle.zone.proofs.physics.operative.areas_of.Tie as tie
 
 returns : tie.Need-returns
 unfolding areasOf
-returns c = rw (c .fill-areas .ensures, c .before .before .at-most-24 .ensures .0) refl
+returns c = rw (c .fill-areas .ensures, c .before .at-most-24 .ensures .0) refl
 
 pub areas-of-spec : {M : Type 1} → statement M
 areas-of-spec = tie.close (tie.spec (λ c κs. search needs) (λ c κs. search needs) returns)

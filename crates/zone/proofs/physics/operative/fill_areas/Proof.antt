@@ -1,37 +1,30 @@
-use mathlib.Core.Path.{_≡_, refl, sym, _∙_}
-use Prim.Native.Nat.{_-_, _<_}
-use native.Mathlib.Omega.{arith}
-use lib.ListN.{length}
-use Rattle.solver.specs.Each.{each}
-use Rattle.solver.proofs.Laws.Counting.{each-next}
-use Rattle.zone.proofs.Laws.Loops.{each-end}
-use Rattle.zone.specs.Format.Decode.{noElement}
+use mathlib.Core.Path.{_≡_, refl, ap}
+use Prim.Native.Nat.{_-_}
+use Rattle.solver.specs.Repeat.{repeat}
+use Rattle.zone.specs.declared.record.building_element.Element.{Element}
+use Rattle.zone.specs.Inner.Lent.{elementsIn}
 use Rattle.zone.specs.Physics.Slots.{setTerm, withTerms}
 use Rattle.zone.specs.Physics.System.{areaOf}
-use Rattle.zone.proofs.Laws.Lists.{mapped-length}
-use Rattle.zone.proofs.Laws.Terms.{read-same}
+use Rattle.zone.proofs.Laws.Loops.{store-turn, repeat-end}
 use borrow.Author.Needs.{needs}
 use Rattle.zone.proofs.physics.operative.fill_areas.Statement.{statement}
 use Rattle.zone.proofs.physics.operative.fill_areas.Tie as tie
 
 abbrev Inv-loop : tie.InvT-loop
-Inv-loop n es area₀ e₀ area e = (length es ≡ 24) × (each e n (setTerm (areaOf es)) area ≡ each 0 n (setTerm (areaOf es)) area₀)
+Inv-loop n codes values area₀ e₀ area e = let store = setTerm (areaOf (elementsIn codes values)) in repeat e n store area ≡ repeat 0 n store area₀
 
 abbrev μ-loop : tie.MeasureT-loop
-μ-loop n es area₀ e₀ area e = n - e
+μ-loop n codes values area₀ e₀ area e = n - e
 
 loop-again : tie.Need-loop-again Inv-loop μ-loop
-loop-again c = let l = c .before .loop in
-    let s = c .before .before in
-    let h : l .e < length (s .args .t2) = omega arith in
-    (l .inv .0, rw (read-same (s .args .t2) (l .e) _ noElement h) (sym (each-next (setTerm (areaOf (s .args .t2))) (l .e) (s .args .n) (l .area) (c .loop-test .taken)) ∙ l .inv .1))
+loop-again c = store-turn _ _ _ _ _ _ (c .before .loop-test .taken) (ap (λ (x : Element). x .area) (c .element-of .ensures)) (c .before .before .loop .inv)
 
 returns : tie.Need-returns Inv-loop μ-loop
 unfolding withTerms
-returns c = each-end _ _ _ _ _ (c .loop-test .left) (c .before .loop .inv .1)
+returns c = repeat-end _ _ _ _ _ (c .loop-test .left) (c .before .loop .inv)
 
 pub fill-areas-spec : {M : Type 1} → statement M
 fill-areas-spec =
     tie.close
-    (tie.spec Inv-loop μ-loop (λ c. (search (needs, mapped-length), refl)) (λ c. search needs) (λ c. search needs) (λ c. search needs)
+    (tie.spec Inv-loop μ-loop (λ c. refl) (λ c κs. search needs) (λ c. search needs)
     (λ c. search needs) (λ c. search needs) (λ c. search needs) loop-again returns)

@@ -1,12 +1,12 @@
 use mathlib.Core.Path.{refl}
 use lib.Ieee.{ofBits}
-use Rattle.solver.specs.F64.{dec}
+use Rattle.solver.specs.F64.{decimal}
 use Rattle.zone.specs.Physics.TempOperative.{meanOf}
 use Rattle.zone.proofs.physics.operative.mean_of.Statement.{statement}
 use Rattle.zone.proofs.physics.operative.mean_of.Tie as tie
 
 returns : tie.Need-returns
-unfolding meanOf dec ofBits
+unfolding meanOf decimal ofBits
 returns c = refl
 
 pub mean-of-spec : {M : Type 1} → statement M

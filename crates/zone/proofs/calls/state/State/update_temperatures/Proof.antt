@@ -1,10 +1,11 @@
 use Rattle.zone.proofs.Laws.Hour.{update-refused, update-in, update-out}
+use mathlib.Core.Path.{refl}
 use borrow.Author.Needs.{needs}
 use Rattle.zone.proofs.calls.state.State.update_temperatures.Statement.{statement}
 use Rattle.zone.proofs.calls.state.State.update_temperatures.Tie as tie
 
 returns : tie.Need-returns
-returns c = update-in _ _ _ _ _ (c .before .before .before .before .before .before .tested .ensures) _ _ _ (c .before .before .before .before .enum-told .given .1) _ (c .before .before .before .load-in-range .ensures) _ (c .before .before .if1 .taken) (c .step .ensures)
+returns c = update-in _ _ _ _ _ (c .before .before .before .before .before .before .before .before .tested .ensures) _ _ _ (c .before .before .before .before .before .before .enum-told .given .1) _ (c .before .before .before .before .before .load-in-range .ensures) _ (c .before .before .before .before .if1 .taken) (c .step .ensures)
 
 returns-2 : tie.Need-returns-2
 returns-2 c = update-refused _ _ _ _ _ (c .before .before .before .before .tested .ensures) _ _ _ _ _ _ (c .before .before .verdict .given .1) (c .refuse .ensures)
@@ -15,5 +16,4 @@ returns-3 c = update-out _ _ _ _ _ (c .before .before .before .before .before .t
 pub update-temperatures-spec : {M : Type 1} → statement M
 update-temperatures-spec =
     tie.close
-    (tie.spec (λ c κs. search needs) (λ c. search needs) (λ c κs. search needs) (λ c. search needs) (λ c κs. search needs) (λ c κs. search needs)
-    returns (λ c κs. search needs) returns-2 returns-3)
+    (tie.spec (λ c κs. record { no-parts = refl; no-opens = refl }) (λ c. search needs) (λ c κs. search needs) (λ c. search needs) (λ c κs. search needs) (λ c κs. search needs) returns (λ c κs. search needs) returns-2 returns-3)

@@ -1,0 +1,220 @@
+// Take-up: the entries of a book, one after the other, against the hours that they hold.
+use crate::book::BookState;
+use crate::book::Reply;
+use crate::book::accept;
+use crate::book::refuse;
+use crate::entry::conditions_length;
+use crate::entry::entry_length;
+use crate::entry::is_entry;
+use crate::layout::FRONT_SIZE;
+use crate::layout::MOST_ENTRIES;
+use crate::numbers::BOOK_FULL;
+use crate::numbers::FALSE_ENTRY;
+use zone::DemandAnswer;
+use zone::State;
+use zone::Verdict;
+use zone::ZoneFront;
+use zone::init_node_temps;
+use zone::read_head;
+ghost use mathlib.Core.Path.{_≡_};
+ghost use Prim.Native.Nat.{_+_, _≤_, _<_};
+ghost use lib.ListN.{length, drop};
+ghost use Rattle.zone.specs.Promise.{ok};
+ghost use Rattle.zone.specs.Inner.Lent.{zoneIn};
+ghost use Rattle.zone.specs.Check.ZoneTest.{zoneTest};
+ghost use Rattle.zone.specs.Inner.Kept.{Kept};
+ghost use Rattle.book.specs.Model.Calls as Book;
+ghost use Rattle.book.specs.Numbers.{falseEntry};
+ghost use Rattle.book.specs.Layout.{wholeLength};
+ghost use Rattle.book.specs.Year.{yearInterface, hourEntry, conditionsIn};
+ghost use Rattle.book.specs.Answers.{givenOf, replyIn};
+ghost use Rattle.book.specs.Inner.Checked.{checkedEntry};
+
+// One whole entry against the hour step: the state after it, or 18 and the state before it.
+pub struct CheckedEntry {
+    pub verdict: Verdict,
+    pub state: State,
+}
+
+fn false_entry(s: State, index: usize) -> CheckedEntry
+    ensures { λ r. ⌜ r ≡ record { verdict = Verdict.Refused falseEntry index; state = s } ⌝ }
+{
+    CheckedEntry {
+        verdict: Verdict::Refused {
+            number: FALSE_ENTRY,
+            index,
+        },
+        state: s,
+    }
+}
+
+// The hour step on the conditions that the entry holds, and its result, written anew, against the entry.
+fn check_entry(
+    z: ZoneFront,
+    codes: &[u8; 72],
+    values: &[f64; 600],
+    index: usize,
+    s: State,
+    entry: &[u8],
+    flags: &mut [bool; 2],
+    step: &mut [u64; 1],
+    sums: &mut [f64; 2],
+    kept_directions: &mut [u8; 24],
+    kept_opens: &mut [u8; 24],
+    two_nodes: &mut [bool; 24],
+    diag: &mut [f64; 120],
+    next: &mut [f64; 120],
+    prev: &mut [f64; 120],
+    dense: &mut [f64; 625],
+    interchanges: &mut [usize; 25],
+    column: &mut [f64; 25],
+) -> CheckedEntry
+    requires { ⌜ (zoneTest (zoneIn z (now codes) (now values)) ≡ ok tt) × (length (now entry) ≡ wholeLength (zoneIn z (now codes) (now values)))
+        × Kept (zoneIn z (now codes) (now values)) (now flags) (now step) (now sums) (now «kept_directions») (now «kept_opens») (now «two_nodes») (now diag) (now next) (now prev) (now dense) (now interchanges) (now column) ⌝ }
+    ensures { λ r. ⌜ (r ≡ checkedEntry s (Book.checkEntry yearInterface index (now (entry .entry)) (hourEntry (zoneIn z (now (codes .entry)) (now (values .entry))) index s (conditionsIn (zoneIn z (now (codes .entry)) (now (values .entry))) (now (entry .entry))))))
+        × Kept (zoneIn z (now (codes .entry)) (now (values .entry))) (now (flags .exit)) (now (step .exit)) (now (sums .exit)) (now («kept_directions» .exit)) (now («kept_opens» .exit)) (now («two_nodes» .exit)) (now (diag .exit)) (now (next .exit)) (now (prev .exit)) (now (dense .exit)) (now (interchanges .exit)) (now (column .exit)) ⌝ }
+{
+    let end = FRONT_SIZE + conditions_length(z);
+    let x = s.next_hour(
+        z,
+        codes,
+        values,
+        &entry[FRONT_SIZE..end],
+        flags,
+        step,
+        sums,
+        kept_directions,
+        kept_opens,
+        two_nodes,
+        diag,
+        next,
+        prev,
+        dense,
+        interchanges,
+        column,
+    );
+    let a = x.answer;
+    match a {
+        DemandAnswer::Refused {
+            number: _,
+            index: _,
+        } => false_entry(s, index),
+        DemandAnswer::Accepted(demand) => {
+            let after = x.state;
+            if is_entry(
+                z,
+                codes,
+                values,
+                &entry[FRONT_SIZE..end],
+                demand,
+                after,
+                entry,
+            ) {
+                CheckedEntry {
+                    verdict: Verdict::Accepted,
+                    state: after,
+                }
+            } else {
+                false_entry(s, index)
+            }
+        }
+    }
+}
+
+// The whole entries behind the head's n bytes, in order; a shorter rest is dropped. The factored matrix is kept from entry to entry.
+fn check_entries(
+    z: ZoneFront,
+    codes: &[u8; 72],
+    values: &[f64; 600],
+    s: State,
+    n: usize,
+    given: BookState,
+    bytes: &[u8],
+) -> Reply
+    requires { ⌜ (zoneTest (zoneIn z (now codes) (now values)) ≡ ok tt) × (n ≤ length (now bytes)) ⌝ }
+    ensures { λ r. ⌜ r ≡ replyIn (Book.answerFrom (givenOf given) (Book.checkEntries yearInterface (zoneIn z (now (codes .entry)) (now (values .entry))) 0 s n (Book.wholeEntries yearInterface (zoneIn z (now (codes .entry)) (now (values .entry))) (drop n (now (bytes .entry)))))) ⌝ }
+{
+    let length = entry_length(z, codes, values);
+    let mut state = s;
+    let mut count: usize = 0;
+    let mut at = n;
+    let mut flags = [false; 2];
+    let mut step = [0; 1];
+    let mut sums = [0.0; 2];
+    let mut kept_directions = [0; 24];
+    let mut kept_opens = [0; 24];
+    let mut two_nodes = [false; 24];
+    let mut diag = [0.0; 120];
+    let mut next = [0.0; 120];
+    let mut prev = [0.0; 120];
+    let mut dense = [0.0; 625];
+    let mut interchanges = [0; 25];
+    let mut column = [0.0; 25];
+    while length <= bytes.len() - at {
+        if MOST_ENTRIES <= count {
+            return refuse(given, BOOK_FULL, 0);
+        }
+        let x = check_entry(
+            z,
+            codes,
+            values,
+            count,
+            state,
+            &bytes[at..at + length],
+            &mut flags,
+            &mut step,
+            &mut sums,
+            &mut kept_directions,
+            &mut kept_opens,
+            &mut two_nodes,
+            &mut diag,
+            &mut next,
+            &mut prev,
+            &mut dense,
+            &mut interchanges,
+            &mut column,
+        );
+        let v = x.verdict;
+        match v {
+            Verdict::Refused { number, index } => {
+                return refuse(given, number, index);
+            }
+            Verdict::Accepted => {
+                state = x.state;
+            }
+        }
+        count += 1;
+        at += length;
+    }
+    accept(state, count, at)
+}
+
+// A book in bytes: its head, and whole entries that are what the hour step gives.
+pub fn take_up(given: BookState, bytes: &[u8]) -> Reply
+    ensures { λ r. ⌜ r ≡ replyIn (Book.takeUp yearInterface (givenOf given) (now (bytes .entry))) ⌝ }
+{
+    let mut codes = [0; 72];
+    let mut values = [0.0; 600];
+    let h = read_head(bytes, &mut codes, &mut values);
+    let v = h.verdict;
+    match v {
+        Verdict::Refused { number, index } => refuse(given, number, index),
+        Verdict::Accepted => {
+            let z = h.zone;
+            let s = init_node_temps(z, &codes, &values);
+            let w = s.verdict;
+            match w {
+                Verdict::Refused { number, index } => refuse(given, number, index),
+                Verdict::Accepted => check_entries(
+                    z,
+                    &codes,
+                    &values,
+                    s.state,
+                    h.length,
+                    given,
+                    bytes,
+                ),
+            }
+        }
+    }
+}
