@@ -46,6 +46,11 @@ impl Engine {
         &self.hours
     }
 
+    /// The head, then each hour.
+    pub fn bytes(&self) -> Vec<u8> {
+        [self.head.clone(), self.hours.concat()].concat()
+    }
+
     pub fn start_up(&self) -> Temps {
         let mut t = Temps::new();
         // SAFETY: the head is valid for its length, the array has 121 floats.

@@ -21,14 +21,17 @@ fn main() -> ExitCode {
     let repetitions = words.first().map(|word| word.parse::<usize>());
     match (words.as_slice(), repetitions) {
         ([word], _) if word == "totals" => totals(),
+        ([word, elements, rate], _) if word == "bytes" => return bytes(elements, rate),
         ([], _) => times(REPETITIONS),
         ([_], Some(Ok(count))) if count > 0 => times(count),
-        _ => {
-            eprintln!("usage: bench/run [REPETITIONS | totals]");
-            return ExitCode::from(2);
-        }
+        _ => return usage(),
     }
     ExitCode::SUCCESS
+}
+
+fn usage() -> ExitCode {
+    eprintln!("usage: bench/run [REPETITIONS | totals | bytes ELEMENTS fixed|windows]");
+    ExitCode::from(2)
 }
 
 /// Prints a line; ends where nobody reads it.
@@ -135,4 +138,17 @@ fn totals() {
         let [heated, cooled, windows] = counts;
         say(format!("{elements} {rate}: {heating:.1} {cooling:.1} {heated}/{cooled}/{windows}"));
     });
+}
+
+/// Writes the head and the hours of one house, for the programs in C.
+fn bytes(elements: &str, rate: &str) -> ExitCode {
+    let elements = elements.parse().ok().filter(|n| (1..=24).contains(n));
+    let windows = RATES.iter().find(|(name, _)| *name == rate).map(|(_, windows)| *windows);
+    let (Some(elements), Some(windows)) = (elements, windows) else {
+        return usage();
+    };
+    match std::io::stdout().write_all(&Engine::new(elements, HOURS, windows).bytes()) {
+        Ok(()) => ExitCode::SUCCESS,
+        Err(_) => ExitCode::from(2),
+    }
 }
