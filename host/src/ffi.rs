@@ -2,7 +2,7 @@
 //!
 //! Every pointer must be aligned and valid for the length beside it (121 for `temps`, 5 for `out`, 25
 //! for `balance`), what it leads to must be initialised, and what a call writes may overlap nothing else
-//! that it is given. The calling thread rounds to nearest with denormal numbers, and has 64 KB of stack.
+//! that it is given. The calling thread rounds to nearest with denormal numbers, and has 48 KB of stack.
 
 /// Length of every array of node temperatures (`HEM_TEMPS`).
 pub const TEMPS: usize = 121;

@@ -2,7 +2,7 @@
 use Prim.Native.Nat.{ℕ}
 use mathlib.Core.List.{List, [], _∷_, _++_}
 use lib.ListN.{take}
-use Rattle.zone.specs.Format.Bytes.{bytesOf}
+use Rattle.zone.specs.Format.Bytes.{bytesOf, floatSize}
 use Rattle.zone.specs.Format.Encode.{floatBytes, rowBytes}
 use Rattle.zone.specs.Record.BuildingElement.{nodeCount}
 use Rattle.zone.specs.declared.record.zone_record.Zone.{Zone}
@@ -10,7 +10,7 @@ use Rattle.zone.specs.declared.calls.state.State.{State}
 use Rattle.zone.specs.declared.calls.state.Demand.{Demand}
 use Rattle.zone.specs.declared.calls.state.AchToTriggerHeating.{AchToTriggerHeating}
 use Rattle.zone.specs.declared.calls.state.AchToTriggerHeating.the-variants.{Absent, At}
-use Rattle.zone.specs.Format.Layout.{floatSize, lengthSize}
+use Rattle.zone.specs.Format.Layout.{lengthSize}
 use Rattle.book.specs.Layout.{version, followingLength}
 
 -- "4-byte length of what follows, then version byte 1"

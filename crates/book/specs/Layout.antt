@@ -1,7 +1,8 @@
 -- Sizes in the bytes of a book.
 use Prim.Native.Nat.{ℕ, _+_, _*_}
 use Rattle.zone.specs.Record.BuildingElement.{nodeCount}
-use Rattle.zone.specs.Format.Layout.{floatSize, lengthSize, elementHourSize}
+use Rattle.zone.specs.Format.Bytes.{floatSize}
+use Rattle.zone.specs.Format.Layout.{lengthSize, elementHourSize}
 use Rattle.zone.specs.declared.record.zone_record.Zone.{Zone}
 
 -- the most entries: a leap year's hours

@@ -137,36 +137,7 @@ fn append_hour(
     if MOST_ENTRIES <= given.count {
         return refuse(given, BOOK_FULL, 0);
     }
-    let mut flags = [false; 2];
-    let mut step = [0; 1];
-    let mut sums = [0.0; 2];
-    let mut kept_directions = [0; 24];
-    let mut kept_opens = [0; 24];
-    let mut two_nodes = [false; 24];
-    let mut diag = [0.0; 120];
-    let mut next = [0.0; 120];
-    let mut prev = [0.0; 120];
-    let mut dense = [0.0; 625];
-    let mut interchanges = [0; 25];
-    let mut column = [0.0; 25];
-    let x = state.next_hour(
-        z,
-        codes,
-        values,
-        conditions,
-        &mut flags,
-        &mut step,
-        &mut sums,
-        &mut kept_directions,
-        &mut kept_opens,
-        &mut two_nodes,
-        &mut diag,
-        &mut next,
-        &mut prev,
-        &mut dense,
-        &mut interchanges,
-        &mut column,
-    );
+    let x = state.next_hour(z, codes, values, conditions);
     let a = x.answer;
     match a {
         DemandAnswer::Refused { number, index } => refuse(given, number, index),

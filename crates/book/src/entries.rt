@@ -14,15 +14,15 @@ use zone::DemandAnswer;
 use zone::State;
 use zone::Verdict;
 use zone::ZoneFront;
-use zone::init_node_temps;
 use zone::read_head;
+use zone::start_up_lent;
 ghost use mathlib.Core.Path.{_≡_};
 ghost use Prim.Native.Nat.{_+_, _≤_, _<_};
 ghost use lib.ListN.{length, drop};
 ghost use Rattle.zone.specs.Promise.{ok};
 ghost use Rattle.zone.specs.Inner.Lent.{zoneIn};
 ghost use Rattle.zone.specs.Check.ZoneTest.{zoneTest};
-ghost use Rattle.zone.specs.Inner.Kept.{Kept};
+ghost use Rattle.zone.specs.Inner.Kept.{arrays, held, Kept};
 ghost use Rattle.book.specs.Model.Calls as Book;
 ghost use Rattle.book.specs.Numbers.{falseEntry};
 ghost use Rattle.book.specs.Layout.{wholeLength};
@@ -57,10 +57,8 @@ fn check_entry(
     s: State,
     entry: &[u8],
     flags: &mut [bool; 2],
-    step: &mut [u64; 1],
-    sums: &mut [f64; 2],
-    kept_directions: &mut [u8; 24],
-    kept_opens: &mut [u8; 24],
+    numbers: &mut [f64; 3],
+    key: &mut [u8; 48],
     two_nodes: &mut [bool; 24],
     diag: &mut [f64; 120],
     next: &mut [f64; 120],
@@ -70,21 +68,19 @@ fn check_entry(
     column: &mut [f64; 25],
 ) -> CheckedEntry
     requires { ⌜ (zoneTest (zoneIn z (now codes) (now values)) ≡ ok tt) × (length (now entry) ≡ wholeLength (zoneIn z (now codes) (now values)))
-        × Kept (zoneIn z (now codes) (now values)) (now flags) (now step) (now sums) (now «kept_directions») (now «kept_opens») (now «two_nodes») (now diag) (now next) (now prev) (now dense) (now interchanges) (now column) ⌝ }
+        × Kept (zoneIn z (now codes) (now values)) (held (now flags) (now numbers) (now key) (arrays (now «two_nodes») (now diag) (now next) (now prev) (now dense) (now interchanges)) (now column)) ⌝ }
     ensures { λ r. ⌜ (r ≡ checkedEntry s (Book.checkEntry yearInterface index (now (entry .entry)) (hourEntry (zoneIn z (now (codes .entry)) (now (values .entry))) index s (conditionsIn (zoneIn z (now (codes .entry)) (now (values .entry))) (now (entry .entry))))))
-        × Kept (zoneIn z (now (codes .entry)) (now (values .entry))) (now (flags .exit)) (now (step .exit)) (now (sums .exit)) (now («kept_directions» .exit)) (now («kept_opens» .exit)) (now («two_nodes» .exit)) (now (diag .exit)) (now (next .exit)) (now (prev .exit)) (now (dense .exit)) (now (interchanges .exit)) (now (column .exit)) ⌝ }
+        × Kept (zoneIn z (now (codes .entry)) (now (values .entry))) (held (now (flags .exit)) (now (numbers .exit)) (now (key .exit)) (arrays (now («two_nodes» .exit)) (now (diag .exit)) (now (next .exit)) (now (prev .exit)) (now (dense .exit)) (now (interchanges .exit))) (now (column .exit))) ⌝ }
 {
     let end = FRONT_SIZE + conditions_length(z);
-    let x = s.next_hour(
+    let x = s.next_hour_kept(
         z,
         codes,
         values,
         &entry[FRONT_SIZE..end],
         flags,
-        step,
-        sums,
-        kept_directions,
-        kept_opens,
+        numbers,
+        key,
         two_nodes,
         diag,
         next,
@@ -130,26 +126,25 @@ fn check_entries(
     n: usize,
     given: BookState,
     bytes: &[u8],
+    flags: &mut [bool; 2],
+    numbers: &mut [f64; 3],
+    key: &mut [u8; 48],
+    two_nodes: &mut [bool; 24],
+    diag: &mut [f64; 120],
+    next: &mut [f64; 120],
+    prev: &mut [f64; 120],
+    dense: &mut [f64; 625],
+    interchanges: &mut [usize; 25],
+    column: &mut [f64; 25],
 ) -> Reply
-    requires { ⌜ (zoneTest (zoneIn z (now codes) (now values)) ≡ ok tt) × (n ≤ length (now bytes)) ⌝ }
+    requires { ⌜ (zoneTest (zoneIn z (now codes) (now values)) ≡ ok tt) × (n ≤ length (now bytes))
+        × Kept (zoneIn z (now codes) (now values)) (held (now flags) (now numbers) (now key) (arrays (now «two_nodes») (now diag) (now next) (now prev) (now dense) (now interchanges)) (now column)) ⌝ }
     ensures { λ r. ⌜ r ≡ replyIn (Book.answerFrom (givenOf given) (Book.checkEntries yearInterface (zoneIn z (now (codes .entry)) (now (values .entry))) 0 s n (Book.wholeEntries yearInterface (zoneIn z (now (codes .entry)) (now (values .entry))) (drop n (now (bytes .entry)))))) ⌝ }
 {
     let length = entry_length(z, codes, values);
     let mut state = s;
     let mut count: usize = 0;
     let mut at = n;
-    let mut flags = [false; 2];
-    let mut step = [0; 1];
-    let mut sums = [0.0; 2];
-    let mut kept_directions = [0; 24];
-    let mut kept_opens = [0; 24];
-    let mut two_nodes = [false; 24];
-    let mut diag = [0.0; 120];
-    let mut next = [0.0; 120];
-    let mut prev = [0.0; 120];
-    let mut dense = [0.0; 625];
-    let mut interchanges = [0; 25];
-    let mut column = [0.0; 25];
     while length <= bytes.len() - at {
         if MOST_ENTRIES <= count {
             return refuse(given, BOOK_FULL, 0);
@@ -161,18 +156,16 @@ fn check_entries(
             count,
             state,
             &bytes[at..at + length],
-            &mut flags,
-            &mut step,
-            &mut sums,
-            &mut kept_directions,
-            &mut kept_opens,
-            &mut two_nodes,
-            &mut diag,
-            &mut next,
-            &mut prev,
-            &mut dense,
-            &mut interchanges,
-            &mut column,
+            flags,
+            numbers,
+            key,
+            two_nodes,
+            diag,
+            next,
+            prev,
+            dense,
+            interchanges,
+            column,
         );
         let v = x.verdict;
         match v {
@@ -201,7 +194,31 @@ pub fn take_up(given: BookState, bytes: &[u8]) -> Reply
         Verdict::Refused { number, index } => refuse(given, number, index),
         Verdict::Accepted => {
             let z = h.zone;
-            let s = init_node_temps(z, &codes, &values);
+            let mut flags = [false; 2];
+            let mut numbers = [0.0; 3];
+            let mut key = [0; 48];
+            let mut two_nodes = [false; 24];
+            let mut diag = [0.0; 120];
+            let mut next = [0.0; 120];
+            let mut prev = [0.0; 120];
+            let mut dense = [0.0; 625];
+            let mut interchanges = [0; 25];
+            let mut column = [0.0; 25];
+            let s = start_up_lent(
+                z,
+                &codes,
+                &values,
+                &mut flags,
+                &mut numbers,
+                &mut key,
+                &mut two_nodes,
+                &mut diag,
+                &mut next,
+                &mut prev,
+                &mut dense,
+                &mut interchanges,
+                &mut column,
+            );
             let w = s.verdict;
             match w {
                 Verdict::Refused { number, index } => refuse(given, number, index),
@@ -213,6 +230,16 @@ pub fn take_up(given: BookState, bytes: &[u8]) -> Reply
                     h.length,
                     given,
                     bytes,
+                    &mut flags,
+                    &mut numbers,
+                    &mut key,
+                    &mut two_nodes,
+                    &mut diag,
+                    &mut next,
+                    &mut prev,
+                    &mut dense,
+                    &mut interchanges,
+                    &mut column,
                 ),
             }
         }

@@ -37,10 +37,12 @@ pub mod PreparedParts
 pub mod PreparedMet
 pub mod HourFront
 pub mod PreparedDemand
+pub mod Key
 pub mod Kept
 pub mod KeptHour
 pub mod Hour
 pub mod NextHour
+pub mod NextKept
 pub mod FirstHours
 pub mod StartUp
 pub mod Accepted

@@ -7,9 +7,10 @@ pub use Rattle.zone.proofs.Laws.Accepted.{conditions-length, count-few,
 pub use Rattle.zone.proofs.Laws.Answers.{demand-no, demand-yes, hour-no, hour-yes, operative-no, operative-yes, start-no, start-yes, update-no, update-yes}
 pub use Rattle.zone.proofs.Laws.Element.{nodes-few}
 pub use Rattle.zone.proofs.Laws.HeadAnswers.{apart, head-no, head-yes, same-refusal}
-pub use Rattle.zone.proofs.Laws.Kept.{none-held}
+pub use Rattle.zone.proofs.Laws.Kept.{none-kept-in}
 pub use Rattle.zone.proofs.Laws.Lists.{from, none-left}
 pub use Rattle.zone.proofs.Laws.NextHour.{next-then}
+pub use Rattle.zone.proofs.Laws.NextKept.{next-kept}
 pub use Rattle.zone.proofs.Laws.Nan.{alike-no-nan, differs-nan, no-nan}
 pub use Rattle.zone.proofs.Laws.StructuredHead.{head-as-tested, head-fails, head-judged, head-passes, head-then-test, head-wrong, structured-counts, structured-few, structured-within}
 pub use Rattle.zone.proofs.Laws.StructuredHead.{demand-judges, hour-judges, operative-judges, start-up-judges, update-judges}

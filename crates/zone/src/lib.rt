@@ -7,6 +7,7 @@ mod physics;
 mod record;
 
 pub use calls::start_up::init_node_temps;
+pub use calls::start_up::start_up_lent;
 pub use calls::state::AchToTriggerHeating;
 pub use calls::state::Demand;
 pub use calls::state::DemandAnswer;

@@ -20,10 +20,10 @@ module _ (z : Zone) (s : State) (i : List ℕ) (r : HourResult) (e : hour z s i 
   pub hour-conditions : length i ≡ conditionsLength (z .count)
   hour-conditions = conditions-length standardCoefficients z s i r e
 
-  pub hour-few : z .count ≤ 24
+  hour-few : z .count ≤ 24
   hour-few = count-few standardCoefficients z s i r e
 
-  pub hour-temps : nodeCount z ≤ length (r .state .temps)
+  hour-temps : nodeCount z ≤ length (r .state .temps)
   hour-temps = omega (arith, temps-length standardCoefficients z s i r e, node-count-few z hour-few)
 
   pub hour-entry : length (entryOf z i (r .demand) (r .state)) ≡ wholeLength z

@@ -37,7 +37,7 @@ floats-few n l h e = omega arith
 pub length-front : (z : Zone) → length (frontBytes z) ≡ frontSize
 length-front z = omega (arith, length-append (bytesOf lengthSize (followingLength z)) (version ∷ []), length-bytesOf lengthSize (followingLength z))
 
-pub length-trigger : (t : AchToTriggerHeating) → length (triggerBytes t) ≡ triggerSize
+length-trigger : (t : AchToTriggerHeating) → length (triggerBytes t) ≡ triggerSize
 length-trigger Absent = omega (arith, length-append (bytesOf 1 0) (bytesOf 8 0), length-bytesOf 1 0, length-bytesOf 8 0)
 length-trigger (At x) = omega (arith, length-append (bytesOf 1 1) (floatBytes x), length-bytesOf 1 1, length-bytesOf 8 (toBits binary64 x))
 

@@ -27,7 +27,7 @@ module _ (at : ℕ) (xs ys b : List ℕ) (h : at ≤ length b) where
   front-length = simp (length-append, length-take) (omega arith)
 
   -- bytes behind bytes are written at once
-  pub replace-replace : replaceAt (at + length xs) ys (replaceAt at xs b) ≡ replaceAt at (xs ++ ys) b
+  replace-replace : replaceAt (at + length xs) ys (replaceAt at xs b) ≡ replaceAt at (xs ++ ys) b
   unfolding replaceAt
   replace-replace =
       let F : List ℕ = take at b ++ xs in

@@ -1,6 +1,7 @@
 -- Where the parts of an entry are written, and how long one can be: the entry's own bytes (specs/Entry.antt) have these lengths.
 use Prim.Native.Nat.{ℕ, _+_, _*_}
-use Rattle.zone.specs.Format.Layout.{floatSize, lengthSize, elementHourSize}
+use Rattle.zone.specs.Format.Bytes.{floatSize}
+use Rattle.zone.specs.Format.Layout.{lengthSize, elementHourSize}
 use Rattle.book.specs.Layout.{fixedLength}
 
 -- trigger byte and trigger rate

@@ -13,7 +13,7 @@ pub record Numbered (number index : ℕ) : Type 0 where
   pub to-18 : number ≤ 18
   pub few : index ≤ 8783
 
-pub solve-numbered : (n i : ℕ) → SolveRefusal n i → Numbered n i
+solve-numbered : (n i : ℕ) → SolveRefusal n i → Numbered n i
 solve-numbered n i solveDivisor = search needs
 solve-numbered n i solveTemperature = search needs
 
@@ -24,11 +24,11 @@ head-numbered n i Head.headVersion = search needs
 head-numbered n i (Head.headStructure j h) = search needs
 head-numbered n i (Head.headValue j h) = search needs
 
-pub zone-numbered : (n i : ℕ) → Head.ZoneRefusal n i → Numbered n i
+zone-numbered : (n i : ℕ) → Head.ZoneRefusal n i → Numbered n i
 zone-numbered n i (Head.zoneStructure j h) = search needs
 zone-numbered n i (Head.zoneValue j h) = search needs
 
-pub conditions-numbered : (n i : ℕ) → Head.ConditionsRefusal n i → Numbered n i
+conditions-numbered : (n i : ℕ) → Head.ConditionsRefusal n i → Numbered n i
 conditions-numbered n i Head.conditionsSize = search needs
 conditions-numbered n i Head.conditionsCode = search needs
 conditions-numbered n i (Head.conditionsValue j h) = search needs

@@ -42,14 +42,14 @@ module _ (w k : ℕ) (pivots : List Float) (reciprocal : Float) where
 
   -- one row
   module _ (i : ℕ) (m : List Float) (hk : k < w) (hw : w ≤ 25) (hi : i < 25) (hm : length m ≡ 625) where
-    pub row-length : length (eliminateRow w k pivots reciprocal i m) ≡ 625
+    row-length : length (eliminateRow w k pivots reciprocal i m) ≡ 625
     unfolding eliminateRow
     row-length =
         let f = entry i k m *ᶠ reciprocal in
         stores-length nan (λ j. 25 * i + j) (λ j x. x +ᶠ neg (getD pivots j nan) *ᶠ f) (k + 1) w (setEntry i k f m)
         ∙ length-set m (25 * i + k) f ∙ hm
 
-    pub row-other : (i' j : ℕ) → j < 25 → (i' ≡ i → ⊥) → entry i' j (eliminateRow w k pivots reciprocal i m) ≡ entry i' j m
+    row-other : (i' j : ℕ) → j < 25 → (i' ≡ i → ⊥) → entry i' j (eliminateRow w k pivots reciprocal i m) ≡ entry i' j m
     unfolding eliminateRow
     row-other i' j hj n =
         let f = entry i k m *ᶠ reciprocal in

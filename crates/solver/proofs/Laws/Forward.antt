@@ -21,7 +21,7 @@ use Rattle.solver.proofs.Laws.Interchanges.{swapped, swapped-other, swa
 
 -- one step
 module _ (w : ℕ) (m : List Float) (k : ℕ) (b : List Float) where
-  pub forward-length : length (forwardStep w m k b) ≡ length b
+  forward-length : length (forwardStep w m k b) ≡ length b
   unfolding forwardStep
   forward-length = stores-length nan (λ i. i) (λ i x. x -ᶠ entry i k m *ᶠ getD b k nan) (k + 1) w b
 
@@ -59,13 +59,13 @@ interchanges-length w interchanges b =
     either false s t e = refl
 
 -- the first k are not changed by another row at k
-pub interchanges-before : (k q : ℕ) (interchanges : List ℕ) (b : List Float) → applyInterchanges k (set interchanges k q) b ≡ applyInterchanges k interchanges b
+interchanges-before : (k q : ℕ) (interchanges : List ℕ) (b : List Float) → applyInterchanges k (set interchanges k q) b ≡ applyInterchanges k interchanges b
 unfolding applyInterchanges
 interchanges-before k q interchanges b =
     repeat-same (applyInterchange (set interchanges k q)) (applyInterchange interchanges) 0 k b (λ i t u v. rw (getD-set-other interchanges k i q 0 (λ e. omega arith)))
 
 -- the last apart
-pub interchanges-last : (k : ℕ) (interchanges : List ℕ) (b : List Float) → applyInterchanges (k + 1) interchanges b ≡ applyInterchange interchanges k (applyInterchanges k interchanges b)
+interchanges-last : (k : ℕ) (interchanges : List ℕ) (b : List Float) → applyInterchanges (k + 1) interchanges b ≡ applyInterchange interchanges k (applyInterchanges k interchanges b)
 unfolding applyInterchanges
 interchanges-last k interchanges b = repeat-last (applyInterchange interchanges) 0 k b (omega arith)
 

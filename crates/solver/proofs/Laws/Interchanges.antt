@@ -31,7 +31,7 @@ module _ (k q : ℕ) where
   unfolding swapped
   swapped-first = rw (eq-eqb k k refl)
 
-  pub swapped-second : swapped k q q ≡ k
+  swapped-second : swapped k q q ≡ k
   unfolding swapped
   swapped-second = ⊎-elim (λ (e : q ≡ k). rw (eq-eqb q k e) e) (λ (n : q ≡ k → ⊥). rw (ne-eqb q k n, eq-eqb q q refl)) (equal-or-not q k)
 
@@ -73,15 +73,15 @@ unfolding row
 row-at i m j h = terms-at (λ x. entry i x m) 25 j nan h
 
 module _ (i : ℕ) (r m : List Float) where
-  pub set-row-length : length (setRow i r m) ≡ length m
+  set-row-length : length (setRow i r m) ≡ length m
   unfolding setRow
   set-row-length = stores-length nan (λ j. 25 * i + j) (λ j x. getD r j nan) 0 25 m
 
-  pub set-row-at : (j : ℕ) → j < 25 → 25 * i + j < length m → entry i j (setRow i r m) ≡ getD r j nan
+  set-row-at : (j : ℕ) → j < 25 → 25 * i + j < length m → entry i j (setRow i r m) ≡ getD r j nan
   unfolding setRow
   set-row-at j h fits = stores-in nan (λ j. 25 * i + j) (λ j x. getD r j nan) 0 25 m j (λ x y n e. n (omega arith)) (omega arith) h fits
 
-  pub set-row-other : (i' j : ℕ) → j < 25 → (i' ≡ i → ⊥) → entry i' j (setRow i r m) ≡ entry i' j m
+  set-row-other : (i' j : ℕ) → j < 25 → (i' ≡ i → ⊥) → entry i' j (setRow i r m) ≡ entry i' j m
   unfolding setRow
   set-row-other i' j h n =
       stores-out nan (λ j. 25 * i + j) (λ j x. getD r j nan) 0 25 m (25 * i' + j) (omega arith) (λ x u v e. n (omega arith))

@@ -32,7 +32,7 @@ module _ (diag prev : List Float) (twoNodes : List Bool) (n : ℕ) (gains air : 
       reduce-beside diag prev twoNodes e 120 (λ t. air) (repeat 0 n (addGains gains) b) (λ s u v. (λ z. omega arith, λ z. omega arith)) (λ s t u v. refl)
       ∙ ap (λ (t : List Float). set t 120 air) (sym (repeat-commutes (addGains gains) (reduceChain twoNodes diag prev e) 0 n b (λ i t u v. gains-beside e i t)))
 
-  pub load-after : (b : List Float) → reduceChains n twoNodes diag prev (withLoad n gains air b) ≡ withLoad n gains air (reduceChains n twoNodes diag prev b)
+  load-after : (b : List Float) → reduceChains n twoNodes diag prev (withLoad n gains air b) ≡ withLoad n gains air (reduceChains n twoNodes diag prev b)
   unfolding reduceChains
   load-after b = repeat-commutes (reduceChain twoNodes diag prev) (withLoad n gains air) 0 n b (λ e t u v. load-beside e t (omega arith))
 

@@ -18,6 +18,7 @@ use Rattle.solver.specs.Inner.Apart.{columns, factorApart, substituteApa
 use Rattle.solver.proofs.Laws.Solver.{fast-solver-is}
 use Rattle.solver.proofs.Laws.ColumnStep.{Apart}
 use Rattle.solver.proofs.Laws.Together.{apart-divisor, apart-loaded}
+use Rattle.solver.specs.Numbers as SolveNumber
 
 solve-ok : (a : Matrix) (b temps : List Float) → fastSolver a b ≡ solved 0 temps → solve a b ≡ ok temps
 solve-ok a b temps h = sym (fast-solver-is a b) ∙ ap solvedRes h
@@ -33,7 +34,7 @@ module _ (a : Matrix) (m c : List Float) (valid : Bool) (diag dense : List Float
     (p : Apart (atMost24 (a .n)) (a .dense) m c) (hc : length c ≡ 25)
     (f : columns valid diag dense interchanges ≡ factorApart (atMost24 (a .n)) (a .«two_nodes») (a .diag) (a .next) (a .prev) m (replicate 25 0))
     (l : last ≡ factorLast (atMost24 (a .n)) dense interchanges c) where
-  pub load-divisor : (b : List Float) → (valid && validDivisor (getD last (atMost24 (a .n)) nan)) ≡ false → solve a b ≡ refused 12 0
+  pub load-divisor : (b : List Float) → (valid && validDivisor (getD last (atMost24 (a .n)) nan)) ≡ false → solve a b ≡ refused SolveNumber.divisor 0
   load-divisor b t = solve-refused a b b 12 (apart-divisor a m c valid diag dense interchanges last p hc f l b t) (λ q. omega arith)
 
   module _ (t : (valid && validDivisor (getD last (atMost24 (a .n)) nan)) ≡ true) (b shares : List Float) (hb : length b ≡ 121) (hs : length shares ≡ 24)

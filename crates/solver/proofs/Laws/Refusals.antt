@@ -1,15 +1,10 @@
--- What is refused by a sequence, by a test, by a choice, and by the solver.
+-- What is refused by a sequence, by a test and by a choice.
 use Prim.Native.Nat.{ℕ}
 use native.Mathlib.Omega.{arith}
 use mathlib.Core.Path.{_≡_, refl}
 use mathlib.Core.Bool.{Bool, true, false, cond}
-use mathlib.Core.List.{List}
-use lib.Ieee.{Float}
-use Rattle.solver.specs.declared.system.Matrix.{Matrix}
 use Rattle.solver.specs.Result.{Result, ok, refused, bind, requireAt}
-use Rattle.solver.specs.Refusals.{RefusesOnly, accepts, refuses, SolveRefusal, solveDivisor, solveTemperature}
-use Rattle.solver.specs.Numbers.{divisor, temperature}
-use Rattle.solver.specs.FastSolver.{allDivisorsValid, temperaturesOf, temperaturesValid, solve}
+use Rattle.solver.specs.Refusals.{RefusesOnly, accepts, refuses}
 
 module _ {P : ℕ → ℕ → Type 0} {A : Type 0} where
   -- a sequence refuses as its parts do; the second starts from what the first accepted
@@ -45,11 +40,3 @@ pub test-refuses :
     → (test ≡ true → RefusesOnly P (f tt)) → RefusesOnly P (bind (requireAt test number index) f)
 test-refuses true number index f p q = q refl
 test-refuses false number index f p q = refuses p
-
--- the solver refuses with 12 or 13
-pub solver-refuses : (a : Matrix) (b : List Float) → RefusesOnly SolveRefusal (solve a b)
-unfolding solve
-solver-refuses a b =
-    test-refuses (allDivisorsValid a) divisor 0 _ solveDivisor λ _.
-    test-refuses (temperaturesValid a (temperaturesOf a b)) temperature 0 _ solveTemperature λ _.
-    accepts (temperaturesOf a b)

@@ -122,7 +122,7 @@ tests-apart n twoNodes diag c x y hn (factoredApart full m interchanges hx a) =
     rw (pivots-apart n full m last hn a, and-assoc (divisorsValid n twoNodes diag) (pivotsValid n m) (validDivisor (getD last n nan)))
     (factorsApart (divisorsValid n twoNodes diag && pivotsValid n m) diag full m interchanges hx a)
 
-pub factors-apart : (a : Matrix) (m c : List Float) (interchanges : List ℕ) → length c ≡ 25 → length interchanges ≡ 25 → Apart (atMost24 (a .n)) (a .dense) m c →
+factors-apart : (a : Matrix) (m c : List Float) (interchanges : List ℕ) → length c ≡ 25 → length interchanges ≡ 25 → Apart (atMost24 (a .n)) (a .dense) m c →
     FactorsApart (atMost24 (a .n)) c (factor a interchanges) (factorApart (atMost24 (a .n)) (a .«two_nodes») (a .diag) (a .next) (a .prev) m interchanges)
 unfolding factor factorDense factorApart
 factors-apart a m c interchanges hc hx p =
@@ -205,7 +205,7 @@ module _ (a : Matrix) (m c : List Float) (valid : Bool) (diag dense : List Float
       abbrev inner : List Float
       inner = innerShares n diag (a .prev) reduced shares
 
-      pub apart-reduced : fastSolver a b ≡ substituteApart n (a .«two_nodes») diag (a .next) dense last interchanges (gatherReduced n reduced inner) reduced
+      apart-reduced : fastSolver a b ≡ substituteApart n (a .«two_nodes») diag (a .next) dense last interchanges (gatherReduced n reduced inner) reduced
       unfolding substituteApart
       apart-reduced =
           solved-as b (temperaturesApart n (a .«two_nodes») diag (a .next) dense last interchanges (gatherReduced n reduced inner) reduced)

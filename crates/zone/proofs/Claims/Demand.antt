@@ -32,6 +32,7 @@ use Rattle.zone.specs.Hour.Demand.{
   demandForLoad,
   spaceHeatCoolDemand,
 }
+use Rattle.zone.specs.Record.Numbers as Number
 
 below-le : (x y : Float) → lt x y ≡ true → le x y ≡ true
 unfolding le
@@ -62,8 +63,8 @@ module _ (c : Coefficients) (z : Zone) (t : List Float) (h : Conditions) where
   demand-signs : (d : Demand) → spaceHeatCoolDemand c z t h ≡ ok d → Signs d
   unfolding spaceHeatCoolDemand
   demand-signs d e =
-      let ten = bind-ok (require (not (lt (h .«temp_setpnt_cool») (h .«temp_setpnt_heat»))) 10) _ d e in
-      let eleven = bind-ok (require (not (lt (h .«temp_setpnt_cool_vent») (h .«temp_setpnt_heat»))) 11) _ d (ten .2) in
+      let ten = bind-ok (require (not (lt (h .«temp_setpnt_cool») (h .«temp_setpnt_heat»))) Number.coolingBelowHeating) _ d e in
+      let eleven = bind-ok (require (not (lt (h .«temp_setpnt_cool_vent») (h .«temp_setpnt_heat»))) Number.ventilationBelowHeating) _ d (ten .2) in
       let free = bind-ok (freeTemperatures c z t h (achTarget (h .«ach_args»))) _ d (eleven .2) in
       let v = bind-ok (calcCoolingPotentialFromVentilation c z t h (free .0) (h .«ach_args»)) _ d (free .2) in
       signs-towards (v .0) (wanted (z .«useful_area») h (v .0 .«temp_free»)) d (v .2)

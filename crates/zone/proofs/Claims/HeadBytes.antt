@@ -13,8 +13,8 @@ use Rattle.solver.specs.F64.{zero64}
 use Rattle.solver.specs.Result.{ok, requireAt}
 use Rattle.solver.proofs.Laws.Result.{bind-ok, require-ok}
 use Rattle.zone.specs.Record.Numbers.{zoneValue}
-use Rattle.zone.specs.Format.Layout.{lengthSize, versionAt, basisAt, countAt, limitAt, limitSize, zoneFloats, lengthField, basisIn, countIn, limitIn, firstElement, elementFloats, elementArrays, elementHourSize}
-use Rattle.zone.specs.Format.Bytes.{Bytes, floatAt, bytesOf}
+use Rattle.zone.specs.Format.Layout.{lengthSize, versionAt, basisAt, countAt, limitAt, limitSize, zoneFloats, lengthField, basisIn, countIn, firstElement, elementFloats, elementArrays, elementHourSize}
+use Rattle.zone.specs.Format.Bytes.{numAt, Bytes, floatAt, bytesOf}
 use Rattle.zone.specs.Format.ElementLayout.{hCount, kindOf, kindAt, treatmentsAt, maxTreatments, elementSize, sizeAt, sizes}
 use Rattle.zone.specs.Format.Decode.{floatsAt, elementHourAt, elementAt, elementsAt, basisOf, zoneAt}
 use Rattle.zone.specs.Check.Ranges.{areaRange, pitchRange, coefficientRange, hPliRange, kPliRange, fractionRange, skyRange, deltaRRange, temperatureRange, heatingSetpointRange, setpointRange, limitRange, allIn, openWithin}
@@ -189,8 +189,8 @@ module _ (s : List ℕ) (b : Bytes s) where
   unfolding frontInRange zoneAt Numbers floatsAt
   front-numbers e =
       let r =
-      six (limitRange (limitIn s) && areaRange (zoneFloat s 0)) (areaRange (zoneFloat s 1)) (coefficientRange (zoneFloat s 2)) (temperatureRange (zoneFloat s 3)) (heatingSetpointRange (zoneFloat s 4)) (setpointRange (zoneFloat s 5)) e in
-      let a = and-true (limitRange (limitIn s)) (areaRange (zoneFloat s 0)) (r .0) in
+      six (limitRange (numAt s limitAt limitSize) && areaRange (zoneFloat s 0)) (areaRange (zoneFloat s 1)) (coefficientRange (zoneFloat s 2)) (temperatureRange (zoneFloat s 3)) (heatingSetpointRange (zoneFloat s 4)) (setpointRange (zoneFloat s 5)) e in
+      let a = and-true (limitRange (numAt s limitAt limitSize)) (areaRange (zoneFloat s 0)) (r .0) in
       (area-number (zoneFloat s 0) (a .1), (area-number (zoneFloat s 1) (r .1), (coefficient-number (zoneFloat s 2) (r .2), (temperature-number (zoneFloat s 3) (r .3), (heatingSetpoint-number (zoneFloat s 4) (r .4), (setpoint-number (zoneFloat s 5) (r .5), tt))))))
 
   six-part : firstElement ≤ length s → frontInRange (zoneAt s) ≡ true → rowBytes (zoneFloat s 0 ∷ zoneFloat s 1 ∷ zoneFloat s 2 ∷ zoneFloat s 3 ∷ zoneFloat s 4 ∷ zoneFloat s 5 ∷ []) ≡ part s zoneFloats (8 * 6)
@@ -199,7 +199,7 @@ module _ (s : List ℕ) (b : Bytes s) where
 
   -- the front, with what follows it
   front-bytes : (n m : ℕ) → Structured s n → frontInRange (zoneAt s) ≡ true → n - lengthSize ≡ lengthField s → n ≡ firstElement + m
-      → bytesOf lengthSize (n - lengthSize) ++ (1 ∷ basisNumber (basisOf (basisIn s)) ∷ countIn s ∷ (bytesOf limitSize (limitIn s) ++ (rowBytes (zoneFloat s 0 ∷ zoneFloat s 1 ∷ zoneFloat s 2 ∷ zoneFloat s 3 ∷ zoneFloat s 4 ∷ zoneFloat s 5 ∷ []) ++ part s firstElement m)))
+      → bytesOf lengthSize (n - lengthSize) ++ (1 ∷ basisNumber (basisOf (basisIn s)) ∷ countIn s ∷ (bytesOf limitSize (numAt s limitAt limitSize) ++ (rowBytes (zoneFloat s 0 ∷ zoneFloat s 1 ∷ zoneFloat s 2 ∷ zoneFloat s 3 ∷ zoneFloat s 4 ∷ zoneFloat s 5 ∷ []) ++ part s firstElement m)))
       ≡ take n s
   front-bytes n m q good four ends =
       let total : n ≡ lengthSize + (1 + (1 + (1 + (limitSize + (8 * 6 + m))))) = omega (arith, ends) in

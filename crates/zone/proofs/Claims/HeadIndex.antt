@@ -19,6 +19,7 @@ use Rattle.zone.specs.Check.ZoneTest.{countValid, elementInRange, allReq
 use Rattle.zone.specs.Claims.Head.{OfHead, noElement, element}
 use Rattle.zone.proofs.Laws.Ranges.{count-few}
 use Rattle.zone.proofs.Laws.Structure.{lengthValid, structured}
+use Rattle.zone.specs.Record.Numbers as Number
 
 module _ (bs : List ℕ) where
   counted : zoneAt bs .count ≡ countIn bs
@@ -37,7 +38,7 @@ module _ (bs : List ℕ) where
         end-of-head end left (i + 1) (p + sizeAt bs p) (omega arith)
 
     -- their values, of which the first has index i
-    repeat-of-head : (es : List Element) (i : ℕ) → 1 ≤ i → length es + i ≤ countIn bs + 1 → RefusesOnly (OfHead bs) (allRequired elementInRange 5 es i)
+    repeat-of-head : (es : List Element) (i : ℕ) → 1 ≤ i → length es + i ≤ countIn bs + 1 → RefusesOnly (OfHead bs) (allRequired elementInRange Number.zoneValue es i)
     unfolding allRequired
     repeat-of-head [] i l h = accepts tt
     repeat-of-head (e ∷ es) i l h =
@@ -47,7 +48,7 @@ module _ (bs : List ℕ) where
     values-of-head : RefusesOnly (OfHead bs) (valuesTest (zoneAt bs))
     unfolding valuesTest
     values-of-head =
-        test-refuses (frontInRange (zoneAt bs)) 5 0 _ noElement λ _.
+        test-refuses (frontInRange (zoneAt bs)) Number.zoneValue 0 _ noElement λ _.
         repeat-of-head (take (zoneAt bs .count) (zoneAt bs .«building_elements»)) 1 (omega arith) (simp length-take (omega (arith, counted)))
 
   structure-of-head : RefusesOnly (OfHead bs) (structureOf bs)
@@ -57,7 +58,7 @@ module _ (bs : List ℕ) where
       test-refuses (lengthValid (lengthField bs)) 2 0 _ noElement λ _.
       test-refuses (leb (4 + lengthField bs) (length bs)) 1 0 _ noElement λ _.
       test-refuses (eqb (versionIn bs) 1) 3 0 _ noElement λ _.
-      test-refuses (leb (basisIn bs) 1 && countValid (countIn bs)) 4 0 _ noElement λ e.
+      test-refuses (leb (basisIn bs) 1 && countValid (countIn bs)) Number.structure 0 _ noElement λ e.
       let both = and-true (leb (basisIn bs) 1) (countValid (countIn bs)) e in
       let few = count-few (leb 1 (countIn bs)) (countIn bs) (both .1) in
       bind-refuses _ (end-of-head (leb-true (basisIn bs) 1 (both .0)) few (4 + lengthField bs) (countIn bs) 0 firstElement (omega arith)) λ p _.

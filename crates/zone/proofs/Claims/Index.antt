@@ -15,13 +15,14 @@ use Rattle.zone.specs.declared.calls.state.State.{State}
 use Rattle.zone.specs.Record.BuildingElement.{nodeCount}
 use Rattle.zone.specs.Check.Ranges.{gainsRange, fractionRange, rateRange}
 use Rattle.zone.specs.Check.ZoneTest.{elementHourInRange, elementInRange, allRequired, frontInRange, valuesTest, countValid, elementTreatmentsValid, countsTest, zoneTest}
-use Rattle.zone.specs.Format.Layout.{conditionsLength}
+use Rattle.zone.specs.Format.Layout.{firstElementHour, conditionsLength}
 use Rattle.zone.specs.Format.Conditions.{conditionsAt, rateCodeValid, openBitsValid, hourAndGainsInRange, setpointsInRange, achArgsInRange, conditionsTest, conditionsOf}
 use Rattle.zone.specs.Calls.State.{allWithinStateBound, stateTest, zoneAndStateTest, slotsOf, operative}
 use Rattle.zone.specs.Calls.Hour.{testedHour, tested, demand, hourStep, updateTemperatures}
 use Rattle.zone.specs.Calls.StartUp.{startState, close, settle, initNodeTemps}
 use Rattle.zone.specs.Claims.Refusals.{OfZone, IndicesOfZone}
 use Rattle.zone.proofs.Laws.Refusals.{demand-refuses, step-refuses, pass-refuses}
+use Rattle.zone.specs.Record.Numbers as Number
 
 -- a test of each of a list, of which the first has index i
 required-within : {A : Type 0} (z : Zone) (test : A → Bool) (number : ℕ) (l : List A) (i : ℕ) → length l + i ≤ z .count + 1 → RefusesOnly (OfZone z) (allRequired test number l i)
@@ -46,27 +47,27 @@ module _ (z : Zone) where
   unfolding zoneTest countsTest valuesTest
   zone-within =
       bind-refuses _
-      (test-refuses (countValid (z .count)) 4 0 _ none λ _.
-      elements-within z elementTreatmentsValid 4 (z .«building_elements»)) λ _ _.
-      test-refuses (frontInRange z) 5 0 _ none λ _.
-      elements-within z elementInRange 5 (z .«building_elements»)
+      (test-refuses (countValid (z .count)) Number.structure 0 _ none λ _.
+      elements-within z elementTreatmentsValid Number.structure (z .«building_elements»)) λ _ _.
+      test-refuses (frontInRange z) Number.zoneValue 0 _ none λ _.
+      elements-within z elementInRange Number.zoneValue (z .«building_elements»)
 
   conditions-within : (bs : List ℕ) → RefusesOnly (OfZone z) (conditionsOf z bs)
   unfolding conditionsOf conditionsTest
   conditions-within bs =
       let n = z .count in
       let h = conditionsAt bs n in
-      test-refuses (leb n 24 && eqb (length bs) (conditionsLength n)) 7 0 _ none λ _.
-      test-refuses (rateCodeValid bs && openBitsValid bs (take n (map (λ (e : Element). e .treatments) (z .«building_elements»))) 113) 8 0 _ none λ _.
+      test-refuses (leb n 24 && eqb (length bs) (conditionsLength n)) Number.conditionsSize 0 _ none λ _.
+      test-refuses (rateCodeValid bs && openBitsValid bs (take n (map (λ (e : Element). e .treatments) (z .«building_elements»))) firstElementHour) Number.conditionsCode 0 _ none λ _.
       bind-refuses _
-      (test-refuses (hourAndGainsInRange h && setpointsInRange h && achArgsInRange (h .«ach_args»)) 9 0 _ none λ _.
-      elements-within z elementHourInRange 9 (h .elements)) λ _ _.
+      (test-refuses (hourAndGainsInRange h && setpointsInRange h && achArgsInRange (h .«ach_args»)) Number.conditionsValue 0 _ none λ _.
+      elements-within z elementHourInRange Number.conditionsValue (h .elements)) λ _ _.
       accepts h
 
   module _ (s : State) where
     state-within : RefusesOnly (OfZone z) (stateTest z s)
     unfolding stateTest
-    state-within = require-refuses (eqb (s .nodes) (nodeCount z) && allWithinStateBound (take (s .nodes) (s .temps))) 6 0 none
+    state-within = require-refuses (eqb (s .nodes) (nodeCount z) && allWithinStateBound (take (s .nodes) (s .temps))) Number.stateInvalid 0 none
 
     operative-within : RefusesOnly (OfZone z) (operative z s)
     unfolding operative zoneAndStateTest
@@ -100,7 +101,7 @@ module _ (z : Zone) where
       unfolding updateTemperatures
       update-within gains fraction ach =
           bind-refuses _ (tested-within bytes) λ h _.
-          test-refuses (gainsRange gains && fractionRange fraction && rateRange ach) 9 0 _ none λ _.
+          test-refuses (gainsRange gains && fractionRange fraction && rateRange ach) Number.conditionsValue 0 _ none λ _.
           step-refuses solve-none c z s h gains fraction ach
 
   settle-within : (c : Coefficients) (limit : ℕ) (t : List Float) → RefusesOnly (OfZone z) (settle c z limit t)

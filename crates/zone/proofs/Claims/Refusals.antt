@@ -51,6 +51,7 @@ use Rattle.zone.specs.Claims.Refusals.{
 }
 use Rattle.zone.specs.Claims.StateClaims.{StateKept}
 use Rattle.zone.proofs.Laws.Refusals.{before-refuses, tested-refuses, step-refuses, demand-refuses, pass-refuses}
+use Rattle.zone.specs.Record.Numbers as Number
 
 module _ (c : Coefficients) (z : Zone) where
   module _ (s : State) (bytes : List ℕ) where
@@ -84,7 +85,7 @@ module _ (c : Coefficients) (z : Zone) where
     unfolding updateTemperatures
     update-refusals gains fraction ach =
         bind-refuses _ (tested-refuses (λ n i p. updateZone p) updateStateInvalid (λ n i p. updateConditions p) z s bytes) λ h _.
-        test-refuses (gainsRange gains && fractionRange fraction && rateRange ach) 9 0 _ updateConditionsValue λ _.
+        test-refuses (gainsRange gains && fractionRange fraction && rateRange ach) Number.conditionsValue 0 _ updateConditionsValue λ _.
         step-refuses (λ n i p. updateSolve p) c z s h gains fraction ach
 
   settle-refuses : (limit : ℕ) (t : List Float) → RefusesOnly StartUpRefusal (settle c z limit t)

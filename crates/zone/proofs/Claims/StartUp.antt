@@ -18,6 +18,7 @@ use Rattle.zone.specs.Claims.StartUpClaims.{Unsettled, start, further, S
 use Rattle.zone.specs.Claims.HeadRefusals.{ZoneRefusal, zoneStructure, zoneValue}
 use Rattle.zone.proofs.Claims.HeadRefusals.{zone-refusals}
 use Rattle.zone.proofs.Laws.Refusals.{pass-refuses}
+use Rattle.zone.specs.Record.Numbers as Number
 
 -- a refusal's number is below 15
 abbrev Below15 : (number index : ℕ) → Type 0
@@ -57,27 +58,27 @@ module _ (c : Coefficients) (z : Zone) where
   below-pass : (t : List Float) → RefusesOnly Below15 (pass c z t)
   below-pass t = pass-refuses {P = Below15} (omega arith) solve-below (omega arith) c z t
 
-  no-pass-gives-not-settled : (t : List Float) (j : ℕ) → pass c z t ≡ refused 15 j → ⊥
+  no-pass-gives-not-settled : (t : List Float) (j : ℕ) → pass c z t ≡ refused Number.notSettled j → ⊥
   no-pass-gives-not-settled t j e = let w : 15 < 15 = refusal-by (below-pass t) e in omega arith
 
   -- 15 means that no pass up to the limit settled
-  not-settled : (limit j : ℕ) (t : List Float) → settle c z limit t ≡ refused 15 j → (u : List Float) × Unsettled c z limit t u
+  not-settled : (limit j : ℕ) (t : List Float) → settle c z limit t ≡ refused Number.notSettled j → (u : List Float) × Unsettled c z limit t u
   unfolding settle settleBy
   not-settled zero j t e = (t, start)
   not-settled (suc n) j t e = go (pass c z t) refl e (λ t′. not-settled n j t′)
     where
-      at : (t′ : List Float) → pass c z t ≡ ok t′ → (b : Bool) → close z t t′ ≡ b → cond b (ok t) (settle c z n t′) ≡ refused 15 j
-          → (settle c z n t′ ≡ refused 15 j → (u : List Float) × Unsettled c z n t′ u) → (u : List Float) × Unsettled c z (suc n) t u
+      at : (t′ : List Float) → pass c z t ≡ ok t′ → (b : Bool) → close z t t′ ≡ b → cond b (ok t) (settle c z n t′) ≡ refused Number.notSettled j
+          → (settle c z n t′ ≡ refused Number.notSettled j → (u : List Float) × Unsettled c z n t′ u) → (u : List Float) × Unsettled c z (suc n) t u
       at t′ p true q f rest = let w : _≡_ {A = ℕ} 0 1 = cc in absurd (omega arith)
       at t′ p false q f rest = let r = rest f in (r .0, further p q (r .1))
 
-      go : (r : Result (List Float)) → pass c z t ≡ r → settleBy n t r ≡ refused 15 j
-          → ((t′ : List Float) → settle c z n t′ ≡ refused 15 j → (u : List Float) × Unsettled c z n t′ u) → (u : List Float) × Unsettled c z (suc n) t u
+      go : (r : Result (List Float)) → pass c z t ≡ r → settleBy n t r ≡ refused Number.notSettled j
+          → ((t′ : List Float) → settle c z n t′ ≡ refused Number.notSettled j → (u : List Float) × Unsettled c z n t′ u) → (u : List Float) × Unsettled c z (suc n) t u
       go (ok t′) p f rest = at t′ p (close z t t′) refl f (rest t′)
       go (refused k i) p f rest = absurd (no-pass-gives-not-settled t j (p ∙ f))
 
   -- and if none does, 15 is the answer
-  limit-not-settled : {limit : ℕ} {t u : List Float} → Unsettled c z limit t u → settle c z limit t ≡ refused 15 0
+  limit-not-settled : {limit : ℕ} {t u : List Float} → Unsettled c z limit t u → settle c z limit t ≡ refused Number.notSettled 0
   unfolding settle
   limit-not-settled start = refl
   limit-not-settled (further p q rest) = rw (p, q) (limit-not-settled rest)
@@ -91,19 +92,19 @@ module _ (c : Coefficients) (z : Zone) where
 
   -- ---- the call itself
 
-  settled-from : (r : Result (List Float)) (j : ℕ) → bind r (λ t. ok (stateOf z t)) ≡ refused 15 j → r ≡ refused 15 j
+  settled-from : (r : Result (List Float)) (j : ℕ) → bind r (λ t. ok (stateOf z t)) ≡ refused Number.notSettled j → r ≡ refused Number.notSettled j
   settled-from (ok t) j e = let w : _≡_ {A = ℕ} 0 1 = cc in absurd (omega arith)
-  settled-from (refused n i) j e = let u : n ≡ 15 = cc in let v : i ≡ j = cc in rw (u, v) refl
+  settled-from (refused n i) j e = let u : n ≡ Number.notSettled = cc in let v : i ≡ j = cc in rw (u, v) refl
 
   pub start-up-not-settled : StartUpNotSettled c z
   unfolding initNodeTemps
   start-up-not-settled j e = go (zoneTest z) refl e
     where
-      go : (r : Result (Unit {0})) → zoneTest z ≡ r → bind r (λ _. bind (settle c z (z .«start_up_limit») (slotsOf z (startState z))) λ t. ok (stateOf z t)) ≡ refused 15 j
+      go : (r : Result (Unit {0})) → zoneTest z ≡ r → bind r (λ _. bind (settle c z (z .«start_up_limit») (slotsOf z (startState z))) λ t. ok (stateOf z t)) ≡ refused Number.notSettled j
           → (u : List Float) × LimitUnsettled c z u
       go (ok _) p f = not-settled (z .«start_up_limit») j (slotsOf z (startState z)) (settled-from (settle c z (z .«start_up_limit») (slotsOf z (startState z))) j f)
       go (refused n i) p f =
-          let n15 : n ≡ 15 = cc in
+          let n15 : n ≡ Number.notSettled = cc in
           let w : n < 15 = zone-below n i (refusal-by (zone-refusals z) p) in
           absurd (omega arith)
 

@@ -27,6 +27,7 @@ use Rattle.zone.proofs.Laws.Accepted.{StepMade, step-made, hour-made}
 use Rattle.zone.proofs.Laws.Bound.{Within, step-within, state-tested, start-within}
 use Rattle.zone.proofs.Laws.Magnitude.{mean-within}
 use Rattle.zone.proofs.Claims.StartUp.{start-up-settled}
+use Rattle.zone.specs.Record.Numbers as Number
 
 -- both tests, by the two
 both-tested : (z : Zone) (s : State) (u : Unit {0}) → zoneTest z ≡ ok u → stateTest z s ≡ ok tt → zoneAndStateTest z s ≡ ok tt
@@ -46,7 +47,7 @@ module _ (c : Coefficients) (z : Zone) where
   unfolding updateTemperatures
   update-state-tested s bytes gains fraction ach r e =
       let h = bind-ok (tested z s bytes) _ r e in
-      let w = bind-ok (require (gainsRange gains && fractionRange fraction && rateRange ach) 9) _ r (h .2) in
+      let w = bind-ok (require (gainsRange gains && fractionRange fraction && rateRange ach) Number.conditionsValue) _ r (h .2) in
       step-tested s bytes (h .0) (r .0) (h .1) (step-made c z s (h .0) gains fraction ach r (w .2))
 
   pub hour-state-tested : HourStateTested c z
@@ -67,8 +68,8 @@ module _ (c : Coefficients) (z : Zone) where
   unfolding zoneTest valuesTest frontInRange
   first-within u e =
       let v = bind-ok (countsTest z) _ u e in
-      let f = bind-ok (requireAt (frontInRange z) 5 0) _ u (v .2) in
-      let all = require-ok (frontInRange z) 5 0 (f .0) (f .1) in
+      let f = bind-ok (requireAt (frontInRange z) Number.zoneValue 0) _ u (v .2) in
+      let all = require-ok (frontInRange z) Number.zoneValue 0 (f .0) (f .1) in
       let sizes = limitRange (z .«start_up_limit») && areaRange (z .«useful_area») && areaRange (z .volume) && coefficientRange (z .«tb_heat_trans_coeff») in
       let ext = temperatureRange (z .«temp_ext_air_init») in
       let set = heatingSetpointRange (z .«temp_setpnt_init») in

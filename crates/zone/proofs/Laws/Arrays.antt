@@ -40,12 +40,12 @@ unfolding floatsAt
 floats-length s at zero = refl
 floats-length s at (suc n) = ap suc (floats-length s (at + 8) n)
 
-pub array-length : (size : ℕ) (s : List ℕ) (at n : ℕ) → n ≤ size → length (arrayAt size s at n) ≡ size
+array-length : (size : ℕ) (s : List ℕ) (at n : ℕ) → n ≤ size → length (arrayAt size s at n) ≡ size
 array-length size s at n h = simp (length-append, length-replicate) (omega (arith, floats-length s at n))
 
 -- floats that are put behind others, where zeros stand: an array
 module _ (b : List Float) (i : ℕ) (xs : List Float) (n m : ℕ) (long : length xs ≡ n) (zeros : drop i b ≡ replicate m zero64) where
-  pub array-on : (size : ℕ) (s : List ℕ) (at count : ℕ) → n + size ≤ m → i + m ≤ length b → count ≤ size
+  array-on : (size : ℕ) (s : List ℕ) (at count : ℕ) → n + size ≤ m → i + m ≤ length b → count ≤ size
       → replaced (replaced b i xs n) (i + n) (floatsAt s at count) count ≡ replaced b i (xs ++ arrayAt size s at count) (n + size)
   array-on size s at count room fits h =
       let d : drop (i + n + count) (replaced b i xs n) ≡ replicate (m - (n + count)) zero64 =
@@ -100,7 +100,7 @@ values-length s p kc hc t hk hh ht =
     rw (length-append (floatsAt s (p + elementFloats) 7) (ks ++ (hs ++ (ds ++ fs))), length-append ks (hs ++ (ds ++ fs)), length-append hs (ds ++ fs), length-append ds fs, floats-length s (p + elementFloats) 7, array-length 5 s (kAt p kc hc t) kc hk, array-length 4 s (hAt p kc hc t) hc hh, array-length 4 s (deltaAt p kc hc t) t ht, floats-length s (hourAt p kc hc t) 5)
 
 -- element e by its part of the arrays
-pub element-parts : (codes : List ℕ) (values : List Float) (e : ℕ) → e < 24 → length values ≡ 600
+element-parts : (codes : List ℕ) (values : List Float) (e : ℕ) → e < 24 → length values ≡ 600
     → elementIn codes values e ≡ elementFrom (getD codes (3 * e) 0) (getD codes (3 * e + 1) 0) (getD codes (3 * e + 2) 0) (take 25 (drop (25 * e) values))
 unfolding elementIn counted
 element-parts codes values e h l = rw (run values nan (25 * e) 25 (omega arith)) (simp add-assoc)
@@ -118,7 +118,7 @@ at-second : (ks rest : List Float) (k i : ℕ) → length ks ≡ k → getD (ks 
 at-second ks rest k i e = rw (← e) (getD-append-add ks rest i nan)
 
 -- and read back
-pub element-put : (s : List ℕ) (p k kc hc t o : ℕ) → kc ≤ 5 → hc ≤ 4 → t ≤ 4 → o ≡ getD s (hourAt p kc hc t + openByte) 0
+element-put : (s : List ℕ) (p k kc hc t o : ℕ) → kc ≤ 5 → hc ≤ 4 → t ≤ 4 → o ≡ getD s (hourAt p kc hc t + openByte) 0
     → elementFrom k t o (valuesAt s p kc hc t) ≡ elementWith s p (kindOf k) t kc hc
 unfolding floatsAt
 element-put s p k kc hc t o hk hh ht e =
@@ -151,7 +151,7 @@ module _ (codes : List ℕ) (e k t o : ℕ) where
   two : List ℕ
   two = set one (3 * e + 1) t
 
-  pub coded-length : length (coded codes e k t o) ≡ length codes
+  coded-length : length (coded codes e k t o) ≡ length codes
   unfolding one two
   coded-length = length-set two (3 * e + 2) o ∙ length-set one (3 * e + 1) t ∙ length-set codes (3 * e) k
 

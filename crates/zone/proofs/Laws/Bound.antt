@@ -28,6 +28,7 @@ use Rattle.zone.specs.Physics.CalcTemperatures.{calcTemperatures}
 use Rattle.zone.specs.Calls.State.{allWithinStateBound, stateTest, slotsOf, stateOf}
 use Rattle.zone.proofs.Laws.Nodes.{at-most-24-le, nodes-le, first-le, located, to-slots-at, to-slots-air, to-nodes-at, to-nodes-air}
 use Rattle.zone.proofs.Laws.Zones.{node-count-le}
+use Rattle.solver.specs.Numbers as SolveNumber
 
 -- a test of every number of a range, at one of them
 all-at : (n i : ℕ) (test : ℕ → Bool) → allOf n i test ≡ true → (k : ℕ) → i ≤ k → k < i + n → test k ≡ true
@@ -57,7 +58,7 @@ element-at twoNodes t e h j l = go (getD twoNodes e false) h l
         → j < 5 * e + 5 - (5 * e + cond b 3 0) → withinStateBound (getD t (5 * e + cond b 3 0 + j) nan) ≡ true
     go b k m = all-at _ _ (λ s. withinStateBound (getD t s nan)) k (5 * e + cond b 3 0 + j) (omega arith) (omega arith)
 
-pub within : (count : ℕ) (twoNodes : List Bool) (t : List Float) → nodesWithin (atMost24 count) twoNodes t ≡ true → Within count twoNodes t
+within : (count : ℕ) (twoNodes : List Bool) (t : List Float) → nodesWithin (atMost24 count) twoNodes t ≡ true → Within count twoNodes t
 unfolding nodesWithin
 within count twoNodes t h =
     let both = and-true (withinStateBound (getD t 120 nan)) (allOf (atMost24 count - 0) 0 (elementWithin twoNodes t)) h in
@@ -77,10 +78,10 @@ step-within c z t h dt gains fraction ach t′ e =
     let v = calcVentHeatTransferCoeff (z .volume) ach in
     let a = matrixA c z t h dt v in
     let b = vectorB c z t h dt gains fraction v in
-    let twelve = bind-ok (require (allDivisorsValid a) 12) _ t′ e in
-    let thirteen = bind-ok (require (temperaturesValid a (temperaturesOf a b)) 13) _ t′ (twelve .2) in
+    let twelve = bind-ok (require (allDivisorsValid a) SolveNumber.divisor) _ t′ e in
+    let thirteen = bind-ok (require (temperaturesValid a (temperaturesOf a b)) SolveNumber.temperature) _ t′ (twelve .2) in
     let held : nodesWithin (atMost24 (atMost24 (z .count))) (zoneTwoNodes z) (temperaturesOf a b) ≡ true =
-    require-ok (temperaturesValid a (temperaturesOf a b)) 13 0 (thirteen .0) (thirteen .1) in
+    require-ok (temperaturesValid a (temperaturesOf a b)) SolveNumber.temperature 0 (thirteen .0) (thirteen .1) in
     within (z .count) (zoneTwoNodes z) t′
     (subst (λ (u : List Float). nodesWithin (atMost24 (z .count)) (zoneTwoNodes z) u ≡ true) (ok-inj (thirteen .2))
     (subst (λ (n : ℕ). nodesWithin n (zoneTwoNodes z) (temperaturesOf a b) ≡ true) (at-most-twice (z .count)) held))

@@ -33,7 +33,7 @@ module _ {A : Type 0} (f : ℕ → A) where
   counted-length a zero = refl
   counted-length a (suc n) = ap suc (counted-length (a + 1) n)
 
-  pub counted-from : (a n i : ℕ) (d : A) → i < n → getD (counted f a n) i d ≡ f (a + i)
+  counted-from : (a n i : ℕ) (d : A) → i < n → getD (counted f a n) i d ≡ f (a + i)
   unfolding counted
   counted-from a zero i d h = absurd (omega arith)
   counted-from a (suc n) zero d h = let z : a + 0 ≡ a = omega arith in rw z

@@ -6,7 +6,8 @@ use native.Mathlib.Omega.{arith}
 use borrow.Author.Tests.{leb-true}
 use lib.Dec.{leb}
 use Rattle.solver.proofs.Laws.Tests.{and-true}
-use Rattle.zone.specs.Format.Layout.{floatSize, elementArrays, elementHourSize, fiveNodesSize, transparentSize}
+use Rattle.zone.specs.Format.Bytes.{floatSize}
+use Rattle.zone.specs.Format.Layout.{elementArrays, elementHourSize, fiveNodesSize, transparentSize}
 use Rattle.zone.specs.Record.BuildingElement.{isTwoNodes, numberOfNodes}
 use Rattle.zone.specs.Format.ElementLayout.{hCount, kindOf, maxTreatments, elementSize}
 use Rattle.zone.specs.Inner.Format.{kindValid}

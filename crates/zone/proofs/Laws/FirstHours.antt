@@ -25,7 +25,7 @@ module _ (e : ℕ) (r l : List Float) where
   same-length : (m : ℕ) (k : List Float) → length (s m k) ≡ length k
   same-length m k = length-set k (5 * e + m) (getD r m nan)
 
-  pub slots-length : length (setSlots e r l) ≡ length l
+  slots-length : length (setSlots e r l) ≡ length l
   unfolding setSlots repeatOf
   slots-length =
       same-length 4 (s 3 (s 2 (s 1 (s 0 l)))) ∙ same-length 3 (s 2 (s 1 (s 0 l))) ∙ same-length 2 (s 1 (s 0 l)) ∙ same-length 1 (s 0 l) ∙ same-length 0 l

@@ -1,4 +1,4 @@
--- The ways out of the functions of arguments.rt, update.rt and hour_step.rt.
+-- The ways out of the functions of arguments.rt, update.rt, hour_step.rt and next_hour.rt.
 use mathlib.Core.Path.{_≡_, refl, sym, ap, _∙_}
 use mathlib.Core.Bool.{Bool, true, false, _&&_}
 use mathlib.Core.List.{List, []}
@@ -29,15 +29,14 @@ use Rattle.zone.specs.declared.calls.state.UpdateReply.{UpdateReply}
 use Rattle.zone.specs.declared.calls.state.HourStepReply.{HourStepReply}
 use Rattle.zone.specs.Calls.State.{slotsOf, stateOf}
 use Rattle.zone.specs.Hour.Demand.{deltaT, gainsHeatCool, temperaturesWith, spaceHeatCoolDemand}
-use Rattle.zone.specs.Calls.Hour.{testedHour, tested, step, updateTemperatures, demand, delivered, convectiveShare, HourResult, hourStep}
-use Rattle.zone.specs.Inner.NextHour.{nextHour}
+use Rattle.zone.specs.Calls.Hour.{testedHour, tested, step, updateTemperatures, demand, delivered, convectiveShare, hourStep}
 use Rattle.zone.specs.declared.hour.hour.Meeting.the-variants.{NotMet, WithGains}
 use Rattle.zone.specs.declared.hour.hour.Asked.the-variants as Asked
 use Rattle.zone.specs.Inner.Lent.{hourOf}
 use Rattle.zone.specs.Inner.Demand.{answerWith}
-use Rattle.zone.specs.Inner.Hour.{demandSolved, updateSolved, hourSolved}
+use Rattle.zone.specs.Inner.Hour.{demandSolved, updateSolved, hourSolved, stepped}
 use Rattle.zone.specs.Calls.Answers.{demandReply, updateReply, hourStepReply}
-use Rattle.zone.specs.Inner.NextHour.{nextHourReply}
+use Rattle.zone.specs.Inner.NextHour.{nextHour, nextHourReply, solvedNext}
 use Rattle.zone.specs.Inner.Verdict.{verdictRes}
 
 -- a verdict with its value
@@ -64,14 +63,7 @@ demanded-is : (s : State) (after : List Float) (a : DemandAnswer) → record { a
 demanded-is s after (DemandAnswer.Accepted d) = refl
 demanded-is s after (DemandAnswer.Refused n i) = refl
 
--- the hour step, from the demand and the temperatures after it
-abbrev stepped : Zone → (t : List Float) → Conditions → Demand × List Float → Result HourResult
-stepped z t h u =
-    let d = u .0 in
-    let w = delivered h d in
-    let g = gainsHeatCool h +ᶠ w in
-    ok (record { demand = d; state = stateOf z (u .1); balance = heatBalance standardCoefficients z t h (deltaT h) g (convectiveShare h w g) (d .«ach_cooling») (u .1) })
-
+-- the hour step
 module _ (z : Zone) (s : State) (bytes : List ℕ) (h : Conditions) (read : tested z s bytes ≡ ok h) (t : List Float) (t-is : t ≡ slotsOf z s) (before : List Float) where
   hour-solved : hourStep standardCoefficients z s bytes ≡ bind (hourSolved z t h (Asked.Demand WithGains) before) (stepped z t h)
   unfolding hourStep step demandSolved
@@ -89,27 +81,27 @@ module _ (z : Zone) (s : State) (bytes : List ℕ) (h : Conditions) (read : test
 
 -- the same without the heat balance
 module _ (z : Zone) (s : State) (bytes : List ℕ) (h : Conditions) (read : testedHour z s bytes ≡ ok h) (t : List Float) (t-is : t ≡ slotsOf z s) (before : List Float) where
-  next-solved : nextHour standardCoefficients z s bytes ≡ bind (hourSolved z t h (Asked.Demand WithGains) before) λ u. ok (u .0, stateOf z (u .1))
+  pub next-solved : nextHour standardCoefficients z s bytes ≡ solvedNext z (hourSolved z t h (Asked.Demand WithGains) before)
   unfolding nextHour demandSolved
   next-solved = go (spaceHeatCoolDemand standardCoefficients z t h) refl
     where
       last : (d : Demand) → spaceHeatCoolDemand standardCoefficients z t h ≡ ok d → (y : Result (List Float))
           → temperaturesWith standardCoefficients z t h (gainsHeatCool h +ᶠ delivered h d) (convectiveShare h (delivered h d) (gainsHeatCool h +ᶠ delivered h d)) (d .«ach_cooling») ≡ y
-          → nextHour standardCoefficients z s bytes ≡ bind (hourSolved z t h (Asked.Demand WithGains) before) λ u. ok (u .0, stateOf z (u .1))
+          → nextHour standardCoefficients z s bytes ≡ solvedNext z (hourSolved z t h (Asked.Demand WithGains) before)
       last d p (ok after) q = rw (read, ← t-is, p, q) refl
       last d p (refused n i) q = rw (read, ← t-is, p, q) refl
 
-      go : (x : Result Demand) → spaceHeatCoolDemand standardCoefficients z t h ≡ x → nextHour standardCoefficients z s bytes ≡ bind (hourSolved z t h (Asked.Demand WithGains) before) λ u. ok (u .0, stateOf z (u .1))
+      go : (x : Result Demand) → spaceHeatCoolDemand standardCoefficients z t h ≡ x → nextHour standardCoefficients z s bytes ≡ solvedNext z (hourSolved z t h (Asked.Demand WithGains) before)
       go (ok d) p = last d p _ refl
       go (refused n i) p = rw (read, ← t-is, p) refl
 
 -- ---- what reads the front alone
 
-pub front-delivered : (h : HourFront) (hours : List ElementHour) (d : Demand) → delivered (hourOf h []) d ≡ delivered (hourOf h hours) d
+front-delivered : (h : HourFront) (hours : List ElementHour) (d : Demand) → delivered (hourOf h []) d ≡ delivered (hourOf h hours) d
 unfolding delivered
 front-delivered h hours d = refl
 
-pub front-share : (h : HourFront) (hours : List ElementHour) (w g : Float) → convectiveShare (hourOf h []) w g ≡ convectiveShare (hourOf h hours) w g
+front-share : (h : HourFront) (hours : List ElementHour) (w g : Float) → convectiveShare (hourOf h []) w g ≡ convectiveShare (hourOf h hours) w g
 unfolding convectiveShare
 front-share h hours w g = refl
 
@@ -146,34 +138,31 @@ module _ (z : Zone) (s : State) where
     unfolding hourStep
     hour-refused n i r e p = rw (res-refused v h (tested z s bytes) read n i e) p
 
-    module _ (good : v ≡ Verdict.Accepted) (t before after : List Float) (t-is : t ≡ slotsOf z s) (a : DemandAnswer) (solved : answerWith a after ≡ hourSolved z t h (Asked.Demand WithGains) before) where
-      pub hour-not-met : (n i : ℕ) (r : HourStepReply) → a ≡ DemandAnswer.Refused n i → r ≡ hourStepReply s (refused n i) → r ≡ hourStepReply s (hourStep standardCoefficients z s bytes)
-      hour-not-met n i r e p = rw (hour-solved z s bytes h (res-accepted v h (tested z s bytes) read good) t t-is before, ← solved, e) p
+    pub hour-replied : v ≡ Verdict.Accepted → (t before : List Float) (x : Result (Demand × List Float)) (r : HourStepReply) → t ≡ slotsOf z s
+        → x ≡ hourSolved z t h (Asked.Demand WithGains) before → r ≡ hourStepReply s (bind x (stepped z t h)) → r ≡ hourStepReply s (hourStep standardCoefficients z s bytes)
+    hour-replied good t before x r t-is solved p = rw (hour-solved z s bytes h (res-accepted v h (tested z s bytes) read good) t t-is before, ← solved) p
 
--- with the front of the conditions, from which the load is worked out
-module _ (z : Zone) (s : State) (bytes : List ℕ) (v : Verdict) (hf : HourFront) (hours : List ElementHour) (read : verdictRes v (hourOf hf hours) ≡ tested z s bytes)
-    (good : v ≡ Verdict.Accepted) (t before after : List Float) (t-is : t ≡ slotsOf z s) (a : DemandAnswer)
-    (solved : answerWith a after ≡ hourSolved z t (hourOf hf hours) (Asked.Demand WithGains) before) where
-  pub hour-met : (d : Demand) → a ≡ DemandAnswer.Accepted d → (w g share : Float) → w ≡ delivered (hourOf hf []) d → g ≡ gainsHeatCool (hourOf hf []) +ᶠ w → share ≡ convectiveShare (hourOf hf []) w g
+-- its reply, of either answer; the load is worked out from the front of the conditions
+module _ (z : Zone) (s : State) (t : List Float) (hf : HourFront) (hours : List ElementHour) (after : List Float) (a : DemandAnswer) where
+  pub step-reply-refused : (n i : ℕ) (r : HourStepReply) → a ≡ DemandAnswer.Refused n i → r ≡ hourStepReply s (refused n i)
+      → r ≡ hourStepReply s (bind (answerWith a after) (stepped z t (hourOf hf hours)))
+  step-reply-refused n i r e p = rw e p
+
+  pub step-reply-accepted : (d : Demand) → a ≡ DemandAnswer.Accepted d → (w g share : Float) → w ≡ delivered (hourOf hf []) d → g ≡ gainsHeatCool (hourOf hf []) +ᶠ w → share ≡ convectiveShare (hourOf hf []) w g
       → (c : Coefficients) (dt : Float) (balance : HeatBalance) (state : State) → c ≡ standardCoefficients → dt ≡ deltaT (hourOf hf [])
       → balance ≡ heatBalance c z t (hourOf hf hours) dt g share (d .«ach_cooling») after → state ≡ stateOf z after
-      → record { answer = HourAnswer.Accepted d balance; state = state } ≡ hourStepReply s (hourStep standardCoefficients z s bytes)
-  hour-met d e w g share w-is g-is share-is c dt balance state c-is dt-is p q =
-      rw (hour-solved z s bytes (hourOf hf hours) (res-accepted v (hourOf hf hours) (tested z s bytes) read good) t t-is before, ← solved, e, ← front-delivered hf hours d, ← w-is, ← g-is, ← front-share hf hours w g, ← share-is, p, q, c-is, dt-is) refl
+      → record { answer = HourAnswer.Accepted d balance; state = state } ≡ hourStepReply s (bind (answerWith a after) (stepped z t (hourOf hf hours)))
+  step-reply-accepted d e w g share w-is g-is share-is c dt balance state c-is dt-is p q =
+      rw (e, ← front-delivered hf hours d, ← w-is, ← g-is, ← front-share hf hours w g, ← share-is, p, q, c-is, dt-is) refl
 
--- an hour of a zone that is tested
-module _ (z : Zone) (s : State) (bytes : List ℕ) (v : Verdict) (h : Conditions) (read : verdictRes v h ≡ testedHour z s bytes) where
-  pub next-refused : (n i : ℕ) (r : DemandReply) → v ≡ Verdict.Refused n i → r ≡ demandReply s (refused n i) → r ≡ nextHourReply s (nextHour standardCoefficients z s bytes)
-  unfolding nextHour
-  next-refused n i r e p = rw (res-refused v h (testedHour z s bytes) read n i e) p
+-- the reply of an hour without its heat balance, of either answer
+module _ (z : Zone) (s : State) (after : List Float) (a : DemandAnswer) where
+  pub reply-refused : (n i : ℕ) (r : DemandReply) → a ≡ DemandAnswer.Refused n i → r ≡ demandReply s (refused n i) → r ≡ nextHourReply s (solvedNext z (answerWith a after))
+  reply-refused n i r e p = rw e p
 
-  module _ (good : v ≡ Verdict.Accepted) (t before after : List Float) (t-is : t ≡ slotsOf z s) (a : DemandAnswer) (solved : answerWith a after ≡ hourSolved z t h (Asked.Demand WithGains) before) where
-    pub next-not-met : (n i : ℕ) (r : DemandReply) → a ≡ DemandAnswer.Refused n i → r ≡ demandReply s (refused n i) → r ≡ nextHourReply s (nextHour standardCoefficients z s bytes)
-    next-not-met n i r e p = rw (next-solved z s bytes h (res-accepted v h (testedHour z s bytes) read good) t t-is before, ← solved, e) p
-
-    pub next-met : (d : Demand) (state : State) → a ≡ DemandAnswer.Accepted d → state ≡ stateOf z after
-        → record { answer = DemandAnswer.Accepted d; state = state } ≡ nextHourReply s (nextHour standardCoefficients z s bytes)
-    next-met d state e q = rw (next-solved z s bytes h (res-accepted v h (testedHour z s bytes) read good) t t-is before, ← solved, e, q) refl
+  pub reply-accepted : (d : Demand) (state : State) → a ≡ DemandAnswer.Accepted d → state ≡ stateOf z after
+      → record { answer = a; state = state } ≡ nextHourReply s (solvedNext z (answerWith a after))
+  reply-accepted d state e q = rw (e, q) refl
 
 -- ---- one time step
 

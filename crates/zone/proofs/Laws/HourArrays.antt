@@ -129,12 +129,12 @@ unfolding counted
 counted-map g f a zero = refl
 counted-map g f a (suc n) = ap (λ r. g (f a) ∷ r) (counted-map g f (a + 1) n)
 
-pub treatments-held : (codes : List ℕ) (values : List Float) → map (λ (e : Element). e .treatments) (elementsIn codes values) ≡ treatmentsIn codes
+treatments-held : (codes : List ℕ) (values : List Float) → map (λ (e : Element). e .treatments) (elementsIn codes values) ≡ treatmentsIn codes
 unfolding elementIn
 treatments-held codes values = counted-map (λ (e : Element). e .treatments) (elementIn codes values) 0 24
 
 -- the conditions of a zone in arrays are those of its codes
-pub conditions-in : (z : ZoneFront) (codes : List ℕ) (values : List Float) (bytes : List ℕ) → conditionsOf (zoneIn z codes values) bytes ≡ conditionsFor (z .count) (treatmentsIn codes) bytes
+conditions-in : (z : ZoneFront) (codes : List ℕ) (values : List Float) (bytes : List ℕ) → conditionsOf (zoneIn z codes values) bytes ≡ conditionsFor (z .count) (treatmentsIn codes) bytes
 unfolding conditionsOf conditionsFor testedAt
 conditions-in z codes values bytes = rw (treatments-held codes values)
 

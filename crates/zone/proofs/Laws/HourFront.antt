@@ -23,6 +23,7 @@ use Rattle.zone.specs.Calls.Hour.{delivered, convectiveShare}
 use Rattle.zone.specs.Inner.Prepared.{Prepared, freeIn}
 use Rattle.zone.specs.Inner.Demand.{zoneTemperatures, rateToReach, windowsCool, coolByWindows, withChoice, chooseRate, coolingPotential, loadedDemand, demandFromFree, demandIn}
 use Rattle.zone.specs.Inner.Hour.{metLoad, demandMetIn, answerIn}
+use Rattle.zone.specs.Record.Numbers as Number
 
 bind-same : {A B : Type 0} (x : Result A) (f g : A → Result B) → ((a : A) → f a ≡ g a) → bind x f ≡ bind x g
 bind-same (ok a) f g e = e a
@@ -56,8 +57,8 @@ module _ (p : Prepared) (volume : Float) (control : List Float → Float) (h : H
   demand-front : (usefulArea : Float) → demandIn p volume control (hourOf h []) usefulArea ≡ demandIn p volume control (hourOf h hours) usefulArea
   unfolding demandIn fracConvGainsHeatCool
   demand-front usefulArea =
-      bind-same (require (not (lt (h .«temp_setpnt_cool») (h .«temp_setpnt_heat»))) 10) _ _
-      (λ _. bind-same (require (not (lt (h .«temp_setpnt_cool_vent») (h .«temp_setpnt_heat»))) 11) _ _
+      bind-same (require (not (lt (h .«temp_setpnt_cool») (h .«temp_setpnt_heat»))) Number.coolingBelowHeating) _ _
+      (λ _. bind-same (require (not (lt (h .«temp_setpnt_cool_vent») (h .«temp_setpnt_heat»))) Number.ventilationBelowHeating) _ _
       (λ _. bind-same (freeIn p volume (hourOf h hours) (achTarget (h .«ach_args»))) _ _
       (λ x. from-front usefulArea (zoneTemperatures control (x .0)) (x .1))))
 

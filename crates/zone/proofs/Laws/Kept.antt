@@ -1,14 +1,13 @@
 -- Factors that are kept: the same directions, open treatments and timestep give the same, and the hour's own give its system's.
 use mathlib.Core.Path.{_≡_, refl, sym, ap, subst, _∙_}
-use mathlib.Core.Logic.{⊎-elim}
 use mathlib.Core.Bool.{Bool, true, false, cond, not, _&&_, _||_}
 use mathlib.Core.List.{List, [], _∷_}
-use Prim.Native.Nat.{ℕ, _+_, _<_, _≤_}
-use native.Mathlib.Nat.{eq-or-lt-of-le}
+use Prim.Native.Nat.{ℕ, _<_, _≤_}
 use native.Mathlib.Omega.{arith}
 use lib.Dec.{T}
-use lib.ListN.{length, getD, replicate}
-use lib.Ieee.{Float, lt, le, binary64, ofBits, toBits, fits}
+use lib.ListN.{length, getD, drop, replicate}
+use lib.Seq.{getD-drop}
+use lib.Ieee.{Float, nan, lt, le, binary64, ofBits, toBits, fits}
 use lib.Ieee.Bits.{ofBits-toBits}
 use Rattle.solver.specs.F64.{zero64}
 use Rattle.solver.specs.FastSolver.{atMost24}
@@ -27,20 +26,14 @@ use Rattle.zone.specs.Physics.System.{areaOf, areaElTotal, shareOf, hCiA
 use Rattle.zone.specs.Inner.Record.{heatFlowDirection, directionCode, hCiByCode}
 use Rattle.zone.specs.Inner.Assembly.{convectiveBy, Chains, chains, elementRows}
 use Rattle.zone.specs.Inner.Assembled.{hRiOf, convectiveSum, elementChains, couplingsOf}
-use Rattle.zone.specs.Inner.Kept.{directionAt, hCiIn, rowsBy, chainsBy, couplingsBy, convectiveBySum, Factors, factors, factorsBy, FactorsOf, Cleared, Kept, SameKey}
+use Rattle.zone.specs.Inner.Kept.{directionAt, hCiIn, rowsBy, chainsBy, couplingsBy, convectiveBySum, Factors, factors, factorsIn, factorsBy, FactorsOf, Arrays, arrays, zeros, Held, held, noneHeld, factorsHeld, numbersHeld, numbersBy, keyOf, sameKey, emptied, heldWith, keepFactors, Kept}
+use borrow.Author.Tests.{eqb-true}
+use Rattle.solver.proofs.Laws.Tests.{and-true}
+use Rattle.zone.proofs.Laws.Key.{elements-same, elements-agree, key-direction, key-open, key-agree}
 use Rattle.zone.proofs.Laws.Terms.{repeat-same, terms-at}
 use Rattle.zone.proofs.Laws.Counted.{counted-at}
+use Rattle.zone.proofs.Laws.Nodes.{at-most-24-le}
 use Rattle.zone.proofs.Laws.Agree.{Agree, sum2-same, convective-agree, couplings-same}
-
--- numbers that agree below n, and at n
-pub one-more : (n : ℕ) (f g : ℕ → ℕ) → ((i : ℕ) → i < n → f i ≡ g i) → f n ≡ g n → (i : ℕ) → i < n + 1 → f i ≡ g i
-one-more n f g p q i h =
-    let le : i ≤ n = omega arith in
-    ⊎-elim (λ z. subst (λ (j : ℕ). f j ≡ g j) (sym z) q) (λ z. p i z) (eq-or-lt-of-le le)
-
-pub not-false : (b : Bool) → not b ≡ false → b ≡ true
-not-false true e = refl
-not-false false e = absurd (subst T e tt)
 
 -- h_ci by a direction's code
 code-tests : (c : Coefficients) (level upwards : Bool)
@@ -82,8 +75,8 @@ module _ (n : ℕ) (es : List Element) (f g : ℕ → Float) (p : Agree n f g) w
   unfolding convectiveBySum
   sum-agree = sum2-same n (convectiveBy (areaOf es) f) (convectiveBy (areaOf es) g) (convective-agree n (areaOf es) (areaOf es) f g (λ e h. refl) p)
 
--- of an hour they are the system's
-open-in : (parts : List Float) (opens : List ℕ) (e : ℕ) → e < 24 → getD opens e 0 ≡ elementHour (elementHoursIn parts opens) e .«treatments_open»
+-- of an hour they are the system's; `open-in`: of one that stands in arrays
+pub open-in : (parts : List Float) (opens : List ℕ) (e : ℕ) → e < 24 → getD opens e 0 ≡ elementHour (elementHoursIn parts opens) e .«treatments_open»
 unfolding elementHourIn
 open-in parts opens e h = sym (ap (λ (x : ElementHour). x .«treatments_open») (counted-at (elementHourIn parts opens) 24 e noElementHour h))
 
@@ -91,12 +84,12 @@ module _ (n : ℕ) (small : n ≤ 24) (es : List Element) (t : List Float) where
   abbrev own : ℕ → Float
   own = hCiAt standardCoefficients es t
 
-  pub chains-own : (parts : List Float) (opens : List ℕ) (dt : Float) (s : Chains) →
-      chainsBy n es opens dt own s ≡ elementChains standardCoefficients n es (elementHoursIn parts opens) dt t s
+  pub chains-own : (hours : List ElementHour) (opens : List ℕ) → ((e : ℕ) → e < 24 → getD opens e 0 ≡ elementHour hours e .«treatments_open») → (dt : Float) (s : Chains) →
+      chainsBy n es opens dt own s ≡ elementChains standardCoefficients n es hours dt t s
   unfolding chainsBy rowsBy elementChains elementRows
-  chains-own parts opens dt s =
-      repeat-same (rowsBy es opens dt own (shareOf n es)) (elementRows es (elementHoursIn parts opens) dt own (shareOf n es)) n s
-      (λ e h x. rw (open-in parts opens e (omega arith)) refl)
+  chains-own hours opens opened dt s =
+      repeat-same (rowsBy es opens dt own (shareOf n es)) (elementRows es hours dt own (shareOf n es)) n s
+      (λ e h x. rw (opened e (omega arith)) refl)
 
   pub couplings-own : (m : List Float) → couplingsBy n es own m ≡ couplingsOf standardCoefficients n es t m
   unfolding couplingsBy couplingsOf
@@ -118,7 +111,7 @@ module _ (z : Zone) (d d' o o' : List ℕ) (same : (e : ℕ) → e < atMost24 (z
   agree : Agree n (hCiIn d) (hCiIn d')
   agree e h = ap (hCiByCode standardCoefficients) (same e h)
 
-  pub factors-same : (dt dt' : Float) → dt ≡ dt' → (k : Factors) (sums : List Float) → FactorsOf z d o dt k sums → FactorsOf z d' o' dt' k sums
+  factors-same : (dt dt' : Float) → dt ≡ dt' → (k : Factors) (sums : List Float) → FactorsOf z d o dt k sums → FactorsOf z d' o' dt' k sums
   unfolding factorsBy
   factors-same dt dt' e k sums f =
       record {
@@ -129,72 +122,98 @@ module _ (z : Zone) (d d' o o' : List ℕ) (same : (e : ℕ) → e < atMost24 (z
         convective = f .convective ∙ sum-agree n es (hCiIn d) (hCiIn d') agree;
       }
 
--- the bits of a timestep tell it
-pub bits-tell : (bits : ℕ) (dt : Float) → T (fits binary64 dt) → bits ≡ toBits binary64 dt → ofBits binary64 bits ≡ dt
-bits-tell bits dt f e = ap (ofBits binary64) e ∙ ofBits-toBits binary64 dt f
+-- ---- what is held after an hour
 
--- arrays that hold nothing
-pub none-held : (z : Zone) (step : List ℕ) (sums : List Float) (d o : List ℕ) (column : List Float) →
-    Kept z (replicate 2 false) step sums d o (replicate 24 false) (replicate 120 zero64) (replicate 120 zero64) (replicate 120 zero64) (replicate 625 zero64) (replicate 25 0) column
-none-held z step sums d o column =
-    record {
-      empty = λ _. record { no-two-nodes = refl; no-diag = refl; no-next = refl; no-prev = refl; no-dense = refl; no-interchanges = refl };
-      held = λ e. absurd (subst T (sym e) tt);
-    }
+few-elements : (z : Zone) (e : ℕ) → e < atMost24 (z .count) → e < 24
+few-elements z e h = let small = at-most-24-le (z .count) in omega arith
 
--- what is held, of the same key
-pub kept-same : (z : Zone) (flags : List Bool) (step : List ℕ) (sums : List Float) (d₀ o₀ : List ℕ) (twoNodes : List Bool) (diag next prev dense : List Float)
-    (interchanges : List ℕ) (column : List Float) (n bits : ℕ) (d o : List ℕ) (dt : Float) →
-    n ≡ atMost24 (z .count) → T (fits binary64 dt) → bits ≡ toBits binary64 dt →
-    SameKey (getD flags 0 false) (getD step 0 0) bits n d₀ d o₀ o →
-    Kept z flags step sums d₀ o₀ twoNodes diag next prev dense interchanges column →
-    Kept z flags step sums d₀ o₀ twoNodes diag next prev dense interchanges column
-    × FactorsOf z d o dt (factors (getD flags 1 false) twoNodes diag next prev dense interchanges column) sums
-kept-same z flags step sums d₀ o₀ twoNodes diag next prev dense interchanges column n bits d o dt n-is f bits-is s k = (
-  k,
-  factors-same z d₀ d o₀ o
-      (λ e h. s .same-directions e (rw n-is h)) (λ e h. s .same-opens e (rw n-is h))
-      (ofBits binary64 (getD step 0 0)) dt (bits-tell (getD step 0 0) dt f (s .same-bits ∙ bits-is)) _ sums (k .held (s .is-held)),
-)
+pub none-kept : (z : Zone) → Kept z noneHeld
+none-kept z = record { when-empty = λ _. refl; when-held = λ e. absurd (subst T (sym e) tt) }
 
--- factored anew, in arrays that hold nothing
-module _ (z : Zone) (d o : List ℕ) (dt : Float) (n : ℕ) (n-is : n ≡ atMost24 (z .count)) (two₀ : List Bool) (diag₀ next₀ prev₀ dense₀ : List Float)
-    (interchanges₀ : List ℕ) (none : Cleared two₀ diag₀ next₀ prev₀ dense₀ interchanges₀) (two : List Bool) (diag next prev dense : List Float)
-    (two-is : two ≡ withTerms n (twoNodesOf (z .«building_elements»)) two₀)
-    (chains-is : chains diag next prev ≡ chainsBy n (z .«building_elements») o dt (hCiIn d) (chains diag₀ next₀ prev₀))
-    (dense-is : dense ≡ couplingsBy n (z .«building_elements») (hCiIn d) dense₀)
-    (total convective : Float) (total-is : total ≡ areaElTotal n (z .«building_elements»))
-    (convective-is : convective ≡ convectiveBySum n (z .«building_elements») (hCiIn d))
-    (column : List Float) (column-is : column ≡ columnOf (atMost24 n) dense) (valid : Bool) (diag' dense' : List Float) (interchanges : List ℕ)
-    (columns-is : columns valid diag' dense' interchanges ≡ factorApart (atMost24 n) two diag next prev dense interchanges₀) where
-  abbrev zeros : Chains
-  zeros = chains (replicate 120 zero64) (replicate 120 zero64) (replicate 120 zero64)
+pub none-kept-in : (z : Zone) (k : Held) → k ≡ noneHeld → Kept z k
+none-kept-in z k e = subst (λ (x : Held). Kept z x) (sym e) (none-kept z)
 
-  chains-anew : chains diag next prev ≡ chainsBy n (z .«building_elements») o dt (hCiIn d) zeros
-  chains-anew = chains-is ∙ ap (chainsBy n (z .«building_elements») o dt (hCiIn d)) (rw (none .no-diag, none .no-next, none .no-prev) refl)
+module _ (z : Zone) (d o : List ℕ) (dt : Float) (f : T (fits binary64 dt)) where
+  abbrev m : ℕ
+  m = atMost24 (z .count)
 
-  two-anew : two ≡ withTerms n (twoNodesOf (z .«building_elements»)) (replicate 24 false)
-  two-anew = two-is ∙ ap (withTerms n (twoNodesOf (z .«building_elements»))) (none .no-two-nodes)
+  -- what is held, of the same key
+  held-same : (flags : List Bool) (numbers : List Float) (key : List ℕ) (a : Arrays) (column : List Float)
+      → sameKey (getD flags 0 false) (getD numbers 2 nan) dt m key d o ≡ true
+      → Kept z (held flags numbers key a column) → FactorsOf z d o dt (factorsHeld (held flags numbers key a column)) numbers
+  unfolding sameKey
+  held-same flags numbers key a column e k =
+      let p = and-true _ _ e in
+      let q = and-true _ _ (p .1) in
+      let same = elements-same key d o m (q .1) in
+      factors-same z key d (drop 24 key) o (λ i h. same i h .0) (λ i h. getD-drop 24 key i 0 ∙ same i h .1)
+      (ofBits binary64 (toBits binary64 (getD numbers 2 nan))) dt (ap (ofBits binary64) (eqb-true _ _ (q .0)) ∙ ofBits-toBits binary64 dt f) _ numbers (k .when-held (p .0))
 
-  dense-anew : dense ≡ couplingsBy n (z .«building_elements») (hCiIn d) (replicate 625 zero64)
-  dense-anew = dense-is ∙ ap (couplingsBy n (z .«building_elements») (hCiIn d)) (none .no-dense)
-
-  columns-anew : columns valid diag' dense' interchanges ≡ factorApart (atMost24 n) two diag next prev dense (replicate 25 0)
-  columns-anew = columns-is ∙ ap (factorApart (atMost24 n) two diag next prev dense) (none .no-interchanges)
-
-  factors-anew : FactorsOf z d o dt (factors valid two diag' next prev dense' interchanges column) (total ∷ convective ∷ [])
+  -- what is factored anew
+  factored : (a : Arrays) → a ≡ zeros → FactorsOf z d o dt (factorsIn z d o dt a) (numbersBy z d dt)
   unfolding factorsBy
-  factors-anew =
-      record {
-        are = rw (← n-is, ← chains-anew, ← two-anew, ← dense-anew, ← columns-anew, column-is) refl;
-        total = rw (← n-is) total-is;
-        convective = rw (← n-is) convective-is;
-      }
+  factored a e = record { are = ap (factorsIn z d o dt) e; total = refl; convective = refl }
 
-  pub kept-anew : T (fits binary64 dt) → (bits : ℕ) → bits ≡ toBits binary64 dt →
-      Kept z (true ∷ valid ∷ []) (bits ∷ []) (total ∷ convective ∷ []) d o two diag' next prev dense' interchanges column
-      × FactorsOf z d o dt (factors valid two diag' next prev dense' interchanges column) (total ∷ convective ∷ [])
-  kept-anew f bits bits-is = (
-    record { empty = λ e. absurd (subst T e tt); held = λ _. rw (bits-tell bits dt f bits-is) factors-anew },
-    factors-anew,
+  held-anew : (x : Factors) → FactorsOf z d o dt x (numbersBy z d dt) → let k = heldWith (numbersBy z d dt) (keyOf d o) x in Kept z k × FactorsOf z d o dt (factorsHeld k) (numbersHeld k)
+  held-anew (factors valid twoNodes diag next prev dense interchanges column) q = (
+    record {
+      when-empty = λ e. absurd (subst T e tt);
+      when-held = λ _.
+          factors-same z d (keyOf d o) o (drop 24 (keyOf d o)) (λ e h. sym (key-direction d o e (few-elements z e h))) (λ e h. sym (getD-drop 24 (keyOf d o) e 0 ∙ key-open d o e (few-elements z e h)))
+          dt (ofBits binary64 (toBits binary64 dt)) (sym (ofBits-toBits binary64 dt f)) _ _ q;
+    },
+    q,
   )
+
+  emptied-zeros : (isHeld : Bool) (a : Arrays) → (isHeld ≡ false → a ≡ zeros) → emptied isHeld a ≡ zeros
+  emptied-zeros true a p = refl
+  emptied-zeros false a p = p refl
+
+  pub factors-kept : (k : Held) → Kept z k → Kept z (keepFactors z d o dt k) × FactorsOf z d o dt (factorsHeld (keepFactors z d o dt k)) (numbersHeld (keepFactors z d o dt k))
+  unfolding keepFactors
+  factors-kept (held flags numbers key a column) k = by (sameKey (getD flags 0 false) (getD numbers 2 nan) dt m key d o) refl
+    where
+      by : (t : Bool) → sameKey (getD flags 0 false) (getD numbers 2 nan) dt m key d o ≡ t →
+          let k' = cond t (held flags numbers key a column) (heldWith (numbersBy z d dt) (keyOf d o) (factorsIn z d o dt (emptied (getD flags 0 false) a))) in
+          Kept z k' × FactorsOf z d o dt (factorsHeld k') (numbersHeld k')
+      by true e = (k, held-same flags numbers key a column e k)
+      by false e = held-anew (factorsIn z d o dt (emptied (getD flags 0 false) a)) (factored (emptied (getD flags 0 false) a) (emptied-zeros (getD flags 0 false) a (k .when-empty)))
+
+-- open treatments that agree keep the same
+factors-agree : (z : Zone) (d o o' : List ℕ) (dt : Float) → ((e : ℕ) → e < atMost24 (z .count) → getD o e 0 ≡ getD o' e 0) → (a : Arrays) → factorsIn z d o dt a ≡ factorsIn z d o' dt a
+factors-agree z d o o' dt p (arrays twoNodes diag next prev dense interchanges) =
+    rw (chains-agree (atMost24 (z .count)) (z .«building_elements») (hCiIn d) (hCiIn d) (λ e h. refl) o o' p dt (chains diag next prev)) refl
+
+pub keep-agree : (z : Zone) (d o o' : List ℕ) (dt : Float) → ((e : ℕ) → e < 24 → getD o e 0 ≡ getD o' e 0) → (k : Held) → keepFactors z d o dt k ≡ keepFactors z d o' dt k
+unfolding keepFactors sameKey
+keep-agree z d o o' dt p (held flags numbers key a column) =
+    rw (elements-agree key d o o' (atMost24 (z .count)) (λ e h. p e (few-elements z e h)), key-agree d o o' p, factors-agree z d o o' dt (λ e h. p e (few-elements z e h)) (emptied (getD flags 0 false) a)) refl
+
+-- ---- what `keep_factors` leaves in the arrays
+
+module _ (z : Zone) (d o : List ℕ) (dt : Float) (flags : List Bool) (numbers : List Float) (key : List ℕ) (a : Arrays) (column : List Float)
+    (n : ℕ) (n-is : n ≡ atMost24 (z .count)) (test : Bool) (test-is : test ≡ sameKey (getD flags 0 false) (getD numbers 2 nan) dt n key d o) where
+  key-is : sameKey (getD flags 0 false) (getD numbers 2 nan) dt (atMost24 (z .count)) key d o ≡ test
+  key-is = sym (test-is ∙ rw n-is refl)
+
+  pub keep-same : test ≡ true → held flags numbers key a column ≡ keepFactors z d o dt (held flags numbers key a column)
+  unfolding keepFactors
+  keep-same e = rw (key-is, e) refl
+
+  module _ (other : test ≡ false) (two₀ : List Bool) (diag₀ next₀ prev₀ dense₀ : List Float) (interchanges₀ : List ℕ)
+      (empty : arrays two₀ diag₀ next₀ prev₀ dense₀ interchanges₀ ≡ emptied (getD flags 0 false) a) (two : List Bool) (diag next prev dense : List Float)
+      (two-is : two ≡ withTerms n (twoNodesOf (z .«building_elements»)) two₀)
+      (chains-is : chains diag next prev ≡ chainsBy n (z .«building_elements») o dt (hCiIn d) (chains diag₀ next₀ prev₀))
+      (dense-is : dense ≡ couplingsBy n (z .«building_elements») (hCiIn d) dense₀)
+      (total convective : Float) (total-is : total ≡ areaElTotal n (z .«building_elements»))
+      (convective-is : convective ≡ convectiveBySum n (z .«building_elements») (hCiIn d))
+      (last : List Float) (last-is : last ≡ columnOf (atMost24 n) dense) (valid : Bool) (diag' dense' : List Float) (interchanges : List ℕ)
+      (columns-is : columns valid diag' dense' interchanges ≡ factorApart (atMost24 n) two diag next prev dense interchanges₀)
+      (key' : List ℕ) (key'-is : key' ≡ keyOf d o) where
+    factors-anew : factors valid two diag' next prev dense' interchanges last ≡ factorsIn z d o dt (emptied (getD flags 0 false) a)
+    factors-anew = rw (← empty, ← n-is, ← chains-is, ← two-is, ← dense-is, ← columns-is, last-is) refl
+
+    pub keep-anew : held (true ∷ valid ∷ []) (total ∷ convective ∷ dt ∷ []) key' (arrays two diag' next prev dense' interchanges) last
+        ≡ keepFactors z d o dt (held flags numbers key a column)
+    unfolding keepFactors
+    keep-anew = rw (key-is, other, ← factors-anew, total-is, convective-is, n-is, key'-is) refl

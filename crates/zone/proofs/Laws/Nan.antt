@@ -8,7 +8,7 @@ use lib.Ieee.Bits.{nanBits-above, nanBits-is}
 use lib.Ieee.Compare.{differs-from-itself, nan-differs}
 use borrow.Author.Tests.{le-ltb, lt-ltb}
 
-pub nan-only : (x : Float) → T (isNan x) → x ≡ nan
+nan-only : (x : Float) → T (isNan x) → x ≡ nan
 unfolding isNan
 nan-only nan t = refl
 nan-only (inf s) t = absurd t

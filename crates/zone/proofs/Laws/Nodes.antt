@@ -148,7 +148,7 @@ module _ (twoNodes : List Bool) where
     unfolding toNodes
     to-nodes-length s = simp length-set (nodes-length s)
 
-    pub to-nodes-behind : (s : List Float) (q : ℕ) → firstNode twoNodes (atMost24 count) < q → q < 121
+    to-nodes-behind : (s : List Float) (q : ℕ) → firstNode twoNodes (atMost24 count) < q → q < 121
         → getD (toNodes count twoNodes s) q nan ≡ zero64
     unfolding toNodes
     to-nodes-behind s q h hq =
@@ -162,7 +162,7 @@ module _ (twoNodes : List Bool) where
         ∙ zeros-at 121 q hq
 
     -- node order to slots and back gives each node's temperature again
-    pub nodes-again : (t : List Float) (q : ℕ) → q ≤ firstNode twoNodes (atMost24 count)
+    nodes-again : (t : List Float) (q : ℕ) → q ≤ firstNode twoNodes (atMost24 count)
         → getD (toNodes count twoNodes (toSlots count twoNodes t)) q nan ≡ getD t q nan
     nodes-again t q h =
         let there : ℕ → Type 0 = λ (x : ℕ). getD (toNodes count twoNodes (toSlots count twoNodes t)) x nan ≡ getD t x nan in

@@ -42,6 +42,7 @@ use Rattle.zone.specs.Inner.Solves.{hourSystem}
 use Rattle.zone.specs.Inner.Prepared.{Prepared, loadOf, lastIn, rateValid, loadIn, solvedIn, preparedWith, prepare}
 use Rattle.zone.proofs.Laws.System.{matrix-is, right-side-is}
 use Rattle.zone.proofs.Laws.Assembled.{denseIn, sidesIn, dense-length, sides-length}
+use Rattle.solver.specs.Numbers as SolveNumber
 
 -- arrays that are assembled, with the columns that are factored
 module _ (s : ZoneTerms) (twoNodes : List Bool) (diag next prev dense b : List Float) (hd : length dense ≡ 625) (hb : length b ≡ 121) where
@@ -69,7 +70,7 @@ module _ (s : ZoneTerms) (twoNodes : List Bool) (diag next prev dense b : List F
   with k = preparedWith s twoNodes next prev (columnOf n dense) b k
 
   columns-divisor : (k : Columns) → k ≡ factorApart n twoNodes diag next prev dense (replicate 25 0) → (v gains fraction : Float) →
-      rateValid (with k) (lastIn (with k) v) ≡ false → solve (at v) (rightSideWith s v gains fraction b) ≡ refused 12 0
+      rateValid (with k) (lastIn (with k) v) ≡ false → solve (at v) (rightSideWith s v gains fraction b) ≡ refused SolveNumber.divisor 0
   columns-divisor (columns valid diag' dense' interchanges) f v gains fraction t =
       load-divisor (at v) dense (columnAt v) valid diag' dense' interchanges _ (beside v) (column-fits v) f refl (rightSideWith s v gains fraction b) t
 
@@ -86,7 +87,7 @@ module _ (s : ZoneTerms) (twoNodes : List Bool) (diag next prev dense b : List F
 
 -- what is assembled, prepared
 assembled-divisor : (a : Assembled) → length (denseIn a) ≡ 625 → length (sidesIn a) ≡ 121 → (v gains fraction : Float) →
-    rateValid (prepare a) (lastIn (prepare a) v) ≡ false → solve (matrixOf a v) (rightSideOf a v gains fraction) ≡ refused 12 0
+    rateValid (prepare a) (lastIn (prepare a) v) ≡ false → solve (matrixOf a v) (rightSideOf a v gains fraction) ≡ refused SolveNumber.divisor 0
 assembled-divisor (assembled s twoNodes diag next prev dense b) hd hb v gains fraction t =
     columns-divisor s twoNodes diag next prev dense b hd hb _ refl v gains fraction t
 
@@ -111,8 +112,8 @@ module _ (z : Zone) (t : List Float) (h : Conditions) where
       rw (← matrix-is standardCoefficients z t h (deltaT h) v, ← right-side-is standardCoefficients z t h (deltaT h) gains fraction v) refl
 
   -- a rate that is not valid
-  pub rate-divisor : (gains fraction ach : Float) → rateValid p (lastIn p (coefficient ach)) ≡ false →
-      temperaturesWith standardCoefficients z t h gains fraction ach ≡ refused 12 0
+  rate-divisor : (gains fraction ach : Float) → rateValid p (lastIn p (coefficient ach)) ≡ false →
+      temperaturesWith standardCoefficients z t h gains fraction ach ≡ refused SolveNumber.divisor 0
   rate-divisor gains fraction ach k =
       calc-is gains fraction ach ∙ assembled-divisor (hourSystem z t h) (dense-length z t h) (sides-length z t h) (coefficient ach) gains fraction k
 
@@ -142,4 +143,4 @@ module _ (z : Zone) (t : List Float) (h : Conditions) where
     where
       by : (valid : Bool) → rateValid p (lastIn p (coefficient ach)) ≡ valid → rateValid p (lastIn p (coefficient ach)) ≡ true
       by true k = k
-      by false k = ok-not-refused x 12 0 (sym e ∙ rate-divisor gains fraction ach k)
+      by false k = ok-not-refused x SolveNumber.divisor 0 (sym e ∙ rate-divisor gains fraction ach k)

@@ -53,6 +53,8 @@ use Rattle.zone.specs.Inner.Demand.{
   demandFromFree,
   demandIn,
 }
+use Rattle.zone.specs.Record.Numbers as Number
+use Rattle.solver.specs.Numbers as SolveNumber
 
 -- what a number beside a value says of the answer
 module _ {A : Type 0} where
@@ -95,7 +97,7 @@ answered (refused n i) last = refl
 
 module _ (p : Prepared) (volume gains fraction ach v : Float) (coefficient : v ≡ calcVentHeatTransferCoeff volume ach)
     (last : List Float) (last-is : last ≡ lastIn p v) (test : Bool) (tested : test ≡ rateValid p last) where
-  pub solved-divisor : test ≡ false → refused 12 0 ≡ solvedIn p volume gains fraction ach
+  pub solved-divisor : test ≡ false → refused SolveNumber.divisor 0 ≡ solvedIn p volume gains fraction ach
   unfolding solvedIn
   solved-divisor k = rw (← coefficient, ← last-is, ← tested, k) refl
 
@@ -230,12 +232,12 @@ module _ (p : Prepared) (volume : Float) (control : List Float → Float) (h : C
       unfolding demandFromFree
       from-towards v w r e w-is q = rw (← chosen, e, ← w-is, q) (answered (loadedDemand p volume control h v w last) last)
 
-    pub cooling-below-heating : lt (h .«temp_setpnt_cool») (h .«temp_setpnt_heat») ≡ true → refused 10 0 ≡ demandIn p volume control h usefulArea
+    pub cooling-below-heating : lt (h .«temp_setpnt_cool») (h .«temp_setpnt_heat») ≡ true → refused Number.coolingBelowHeating 0 ≡ demandIn p volume control h usefulArea
     unfolding demandIn
     cooling-below-heating k = rw k refl
 
     module _ (ten : lt (h .«temp_setpnt_cool») (h .«temp_setpnt_heat») ≡ false) where
-      pub ventilation-below-heating : lt (h .«temp_setpnt_cool_vent») (h .«temp_setpnt_heat») ≡ true → refused 11 0 ≡ demandIn p volume control h usefulArea
+      pub ventilation-below-heating : lt (h .«temp_setpnt_cool_vent») (h .«temp_setpnt_heat») ≡ true → refused Number.ventilationBelowHeating 0 ≡ demandIn p volume control h usefulArea
       unfolding demandIn
       ventilation-below-heating k = rw (ten, k) refl
 

@@ -35,23 +35,25 @@ use Rattle.zone.specs.Physics.Slots.{air}
 use Rattle.zone.specs.Hour.Demand.{deltaT, controlTemperature, achTarget, wanted, interpHeatCoolDemand, temperaturesWith, freeTemperatures, calcCoolingPotentialFromVentilation, demandForLoad, spaceHeatCoolDemand}
 use Rattle.zone.specs.Claims.Reasons.{SetpointsPass, stepMatrix, stepRightSide, SolveReason, byDivisor, byTemperature, Tried, DemandSolve, atTarget, atOpen, between, loaded, DemandReason, byCoolingBelowHeating, byVentilationBelowHeating, inSolve, byNoEffect}
 use Rattle.zone.specs.Calls.StartUp.{startUpConditions, pass}
+use Rattle.zone.specs.Record.Numbers as Number
+use Rattle.solver.specs.Numbers as SolveNumber
 
 module _ {P : ℕ → ℕ → Type 0} where
   -- the zone's 4, 5, the state's 6
-  pub before-refuses : ((n i : ℕ) → ZoneRefusal n i → P n i) → P 6 0 → (z : Zone) (s : State) → RefusesOnly P (zoneAndStateTest z s)
+  pub before-refuses : ((n i : ℕ) → ZoneRefusal n i → P n i) → P Number.stateInvalid 0 → (z : Zone) (s : State) → RefusesOnly P (zoneAndStateTest z s)
   unfolding zoneAndStateTest stateTest
   before-refuses zone six z s =
       bind-refuses _ (refuses-also zone (zone-refusals z)) λ _ _.
-      require-refuses (eqb (s .nodes) (nodeCount z) && allWithinStateBound (take (s .nodes) (s .temps))) 6 0 six
+      require-refuses (eqb (s .nodes) (nodeCount z) && allWithinStateBound (take (s .nodes) (s .temps))) Number.stateInvalid 0 six
 
   -- and the conditions' 7, 8, 9
   pub tested-refuses :
-      ((n i : ℕ) → ZoneRefusal n i → P n i) → P 6 0 → ((n i : ℕ) → ConditionsRefusal n i → P n i)
+      ((n i : ℕ) → ZoneRefusal n i → P n i) → P Number.stateInvalid 0 → ((n i : ℕ) → ConditionsRefusal n i → P n i)
       → (z : Zone) (s : State) (bytes : List ℕ) → RefusesOnly P (tested z s bytes)
   unfolding tested testedHour stateTest
   tested-refuses zone six conditions z s bytes =
       bind-refuses _ (refuses-also zone (zone-refusals z)) λ _ _.
-      test-refuses (eqb (s .nodes) (nodeCount z) && allWithinStateBound (take (s .nodes) (s .temps))) 6 0 _ six λ _.
+      test-refuses (eqb (s .nodes) (nodeCount z) && allWithinStateBound (take (s .nodes) (s .temps))) Number.stateInvalid 0 _ six λ _.
       refuses-also conditions (conditions-refusals z bytes)
 
 -- a test that has to fail, and what comes after it, where it fails
@@ -83,8 +85,8 @@ unfolding calcTemperatures solve
 solve-reasons c z t h gains fraction ach =
     let a = stepMatrix c z t h ach in
     let b = stepRightSide c z t h gains fraction ach in
-    because (allDivisorsValid a) 12 0 _ byDivisor λ d.
-    because (temperaturesValid a (temperaturesOf a b)) 13 0 _ (byTemperature d) λ _.
+    because (allDivisorsValid a) SolveNumber.divisor 0 _ byDivisor λ d.
+    because (temperaturesValid a (temperaturesOf a b)) SolveNumber.temperature 0 _ (byTemperature d) λ _.
     accepts _
 
 module _ (c : Coefficients) (z : Zone) (t : List Float) (h : Conditions) where
@@ -129,11 +131,11 @@ module _ (c : Coefficients) (z : Zone) (t : List Float) (h : Conditions) where
 
 module _ {P : ℕ → ℕ → Type 0} (by-solve : (n i : ℕ) → SolveRefusal n i → P n i) (c : Coefficients) (z : Zone) where
   solve-number : {t : List Float} {h : Conditions} {gains fraction ach : Float} (n i : ℕ) → SolveReason c z t h gains fraction ach n i → P n i
-  solve-number n i (byDivisor _) = by-solve 12 0 solveDivisor
-  solve-number n i (byTemperature _ _) = by-solve 13 0 solveTemperature
+  solve-number n i (byDivisor _) = by-solve SolveNumber.divisor 0 solveDivisor
+  solve-number n i (byTemperature _ _) = by-solve SolveNumber.temperature 0 solveTemperature
 
   -- 10, where it can be, 11, then 12, 13, 14
-  pub demand-refuses : (t : List Float) (h : Conditions) → P 14 0 → (lt (h .«temp_setpnt_cool») (h .«temp_setpnt_heat») ≡ true → P 10 0) → P 11 0
+  pub demand-refuses : (t : List Float) (h : Conditions) → P Number.noEffect 0 → (lt (h .«temp_setpnt_cool») (h .«temp_setpnt_heat») ≡ true → P Number.coolingBelowHeating 0) → P Number.ventilationBelowHeating 0
       → RefusesOnly P (spaceHeatCoolDemand c z t h)
   demand-refuses t h fourteen ten eleven = refuses-also number (demand-reasons c z t h)
     where
@@ -161,12 +163,12 @@ lt-itself (fin false m e) = le-ltb (m * up e * down e) (m * up e * down e) (omeg
 
 -- a pass of start-up: not 10, its two setpoints are one
 pub pass-refuses :
-    {P : ℕ → ℕ → Type 0} → P 11 0 → ((n i : ℕ) → SolveRefusal n i → P n i) → P 14 0
+    {P : ℕ → ℕ → Type 0} → P Number.ventilationBelowHeating 0 → ((n i : ℕ) → SolveRefusal n i → P n i) → P Number.noEffect 0
     → (c : Coefficients) (z : Zone) (t : List Float) → RefusesOnly P (pass c z t)
 unfolding pass startUpConditions
 pass-refuses {P} eleven by-solve fourteen c z t =
     bind-refuses _ (demand-refuses by-solve c z t (startUpConditions z) fourteen no-ten eleven) λ d _.
     refuses-also (solve-number by-solve c z) (solve-reasons c z t (startUpConditions z) _ _ _)
   where
-    no-ten : lt (z .«temp_setpnt_init») (z .«temp_setpnt_init») ≡ true → P 10 0
+    no-ten : lt (z .«temp_setpnt_init») (z .«temp_setpnt_init») ≡ true → P Number.coolingBelowHeating 0
     no-ten e = never (sym (lt-itself (z .«temp_setpnt_init»)) ∙ e)

@@ -14,7 +14,7 @@ use Rattle.zone.specs.Format.Decode.{floatsAt}
 use Rattle.zone.specs.Format.Encode.{floatBytes, rowBytes}
 use Rattle.solver.proofs.Laws.Tests.{and-true}
 
-pub bigEndian-snoc : (n : ℕ) (bs : List ℕ) (b : ℕ) → bigEndianFrom n (bs ++ (b ∷ [])) ≡ bigEndianFrom n bs * 256 + b
+bigEndian-snoc : (n : ℕ) (bs : List ℕ) (b : ℕ) → bigEndianFrom n (bs ++ (b ∷ [])) ≡ bigEndianFrom n bs * 256 + b
 unfolding bigEndianFrom
 bigEndian-snoc n [] b = refl
 bigEndian-snoc n (x ∷ bs) b = bigEndian-snoc (n * 256 + x) bs b
@@ -30,7 +30,7 @@ split k n x bs h e =
     rw (d, m, e)
 
 -- bytes are those of the number that they spell, and it fits them
-pub bytes-back : (k : ℕ) (s : List ℕ) → k ≤ length s → Bytes s → (bytesOf k (bigEndian (take k s)) ≡ take k s) × (bigEndian (take k s) < 256 ^ k)
+bytes-back : (k : ℕ) (s : List ℕ) → k ≤ length s → Bytes s → (bytesOf k (bigEndian (take k s)) ≡ take k s) × (bigEndian (take k s) < 256 ^ k)
 unfolding bigEndianFrom bytesOf
 bytes-back zero s h b = (refl, omega arith)
 bytes-back (suc k) s h b =

@@ -34,15 +34,15 @@ module _ (a b : List ℕ) (n : ℕ) (e : take n a ≡ take n b) (ha : n ≤ leng
   pub num-same : (at k : ℕ) → at + k ≤ n → numAt a at k ≡ numAt b at k
   num-same at k h = ap bigEndian (part-front a n at k ha h ∙ ap (λ (l : List ℕ). take k (drop at l)) e ∙ sym (part-front b n at k hb h))
 
-  pub float-same : (at : ℕ) → at + 8 ≤ n → floatAt a at ≡ floatAt b at
+  float-same : (at : ℕ) → at + 8 ≤ n → floatAt a at ≡ floatAt b at
   float-same at h = ap (ofBits binary64) (num-same at 8 h)
 
-  pub floats-same : (at k : ℕ) → at + 8 * k ≤ n → floatsAt a at k ≡ floatsAt b at k
+  floats-same : (at k : ℕ) → at + 8 * k ≤ n → floatsAt a at k ≡ floatsAt b at k
   unfolding floatsAt
   floats-same at zero h = refl
   floats-same at (suc k) h = rw (float-same at (omega arith), floats-same (at + 8) k (omega arith))
 
-  pub hour-same : (at : ℕ) → at + elementHourSize ≤ n → elementHourAt a at ≡ elementHourAt b at
+  hour-same : (at : ℕ) → at + elementHourSize ≤ n → elementHourAt a at ≡ elementHourAt b at
   hour-same at h =
       rw (
         float-same at (omega arith),
@@ -69,7 +69,7 @@ module _ (a b : List ℕ) (n : ℕ) (e : take n a ≡ take n b) (ha : n ≤ leng
         hour-same (p + elementArrays + 8 * kc + 8 * hc + 8 * t) (omega arith),
       )
 
-  pub element-same : (left i p q : ℕ) → Whole a n left i p q → elementAt a p ≡ elementAt b p
+  element-same : (left i p q : ℕ) → Whole a n left i p q → elementAt a p ≡ elementAt b p
   element-same left i p q w =
       let k = kindAt a p in
       let t = treatmentsAt a p in

@@ -1,5 +1,6 @@
 -- The ways out of the functions of start_up.rt, and its loops.
-use mathlib.Core.Path.{_≡_, refl, sym, ap, _∙_}
+use mathlib.Core.Path.{_≡_, refl, sym, ap, subst, _∙_}
+use lib.Dec.{T}
 use mathlib.Core.Bool.{Bool, true, false, not, _&&_}
 use mathlib.Core.List.{List, [], _∷_, _++_, map}
 use Prim.Native.Nat.{ℕ, _+_, _-_, _<_, _≤_}
@@ -33,15 +34,14 @@ use Rattle.zone.specs.declared.hour.windows.VentilationChoice.{Ventilati
 use Rattle.zone.specs.Calls.State.{slotsOf, stateOf}
 use Rattle.zone.specs.Hour.Demand.{achTarget, controlTemperature, freeTemperatures, temperaturesWith, ventilated, calcCoolingPotentialFromVentilation, wanted, spaceHeatCoolDemand}
 use Rattle.zone.specs.Calls.Hour.{delivered}
-use Rattle.zone.specs.Calls.StartUp.{firstHour, startUpConditions, startState, allClose, close, pass, settle, initNodeTemps}
+use Rattle.zone.specs.Calls.StartUp.{firstHour, startUpConditions, startState, allClose, pass, settle, initNodeTemps}
 use Rattle.zone.specs.Calls.Answers.{startUpReply}
-use Rattle.zone.specs.Inner.Verdict.{verdictRes}
 use Rattle.zone.specs.declared.hour.hour.Meeting.the-variants.{Alone}
 use Rattle.zone.specs.declared.hour.hour.Asked.the-variants as Asked
 use Rattle.zone.specs.Inner.Demand.{answerWith}
-use Rattle.zone.specs.Inner.Hour.{demandSolved, hourSolved}
+use Rattle.zone.specs.Inner.Hour.{demandSolved, hourSolved, ends, stateIn}
 use Rattle.zone.proofs.Laws.Demand.{towards-rate}
-use Rattle.zone.proofs.Laws.Hour.{res-accepted, res-refused}
+use Rattle.zone.specs.Record.Numbers as Number
 
 -- ---- the first hours: one more is stored, all are stored
 
@@ -87,12 +87,12 @@ potential-rate z t h ach free v e =
     let p : ventilated (controlTemperature z free) ach Absent ≡ v = cc in
     sym (ap (λ (y : VentilationChoice). y .«ach_cooling») p)
 
-pub fixed-rate : (z : Zone) (t : List Float) (h : Conditions) (ach : Float) → h .«ach_args» ≡ Cooling ach
+fixed-rate : (z : Zone) (t : List Float) (h : Conditions) (ach : Float) → h .«ach_args» ≡ Cooling ach
     → (d : Demand) → spaceHeatCoolDemand standardCoefficients z t h ≡ ok d → d .«ach_cooling» ≡ ach
 unfolding spaceHeatCoolDemand
 fixed-rate z t h ach fixed d e =
-    let ten = bind-ok (require (not (lt (h .«temp_setpnt_cool») (h .«temp_setpnt_heat»))) 10) _ d e in
-    let eleven = bind-ok (require (not (lt (h .«temp_setpnt_cool_vent») (h .«temp_setpnt_heat»))) 11) _ d (ten .2) in
+    let ten = bind-ok (require (not (lt (h .«temp_setpnt_cool») (h .«temp_setpnt_heat»))) Number.coolingBelowHeating) _ d e in
+    let eleven = bind-ok (require (not (lt (h .«temp_setpnt_cool_vent») (h .«temp_setpnt_heat»))) Number.ventilationBelowHeating) _ d (ten .2) in
     let free = bind-ok (freeTemperatures standardCoefficients z t h (achTarget (h .«ach_args»))) _ d (eleven .2) in
     let v = bind-ok (calcCoolingPotentialFromVentilation standardCoefficients z t h (free .0) (h .«ach_args»)) _ d (free .2) in
     towards-rate z t h (v .0) (wanted (z .«useful_area») h (v .0 .«temp_free»)) d (v .2)
@@ -126,13 +126,6 @@ module _ (z : Zone) (t : List Float) (h : Conditions) (h-is : h ≡ startUpCondi
           refl
       go (refused n i) p = rw (← h-is, p) refl
 
-  module _ (after : List Float) (a : DemandAnswer) (solved : answerWith a after ≡ hourSolved z t h (Asked.Demand Alone) before) where
-    pub pass-refused : (n i : ℕ) → a ≡ DemandAnswer.Refused n i → refused n i ≡ pass standardCoefficients z t
-    pass-refused n i e = rw (pass-solved, ← solved, e) refl
-
-    pub pass-accepted : (d : Demand) → a ≡ DemandAnswer.Accepted d → ok after ≡ pass standardCoefficients z t
-    pass-accepted d e = rw (pass-solved, ← solved, e) refl
-
 -- ---- the passes
 
 pub settle-start : (z : Zone) (limit : ℕ) (t₀ t : List Float) → t ≡ t₀ → settle standardCoefficients z limit t₀ ≡ settle standardCoefficients z (limit - 0) t
@@ -140,23 +133,23 @@ settle-start z limit t₀ t p = let e : limit - 0 ≡ limit = omega arith in rw 
 
 module _ (z : Zone) (limit : ℕ) (t₀ t : List Float) (passes : ℕ)
     (left : settle standardCoefficients z limit t₀ ≡ settle standardCoefficients z (limit - passes) t) where
-  pub settle-at-limit : (r : StartUp) → limit ≤ passes → r ≡ startUpReply (refused 15 0) → r ≡ startUpReply (bind (settle standardCoefficients z limit t₀) λ u. ok (stateOf z u))
+  pub settle-at-limit : (r : StartUp) → limit ≤ passes → r ≡ startUpReply (refused Number.notSettled 0) → r ≡ startUpReply (bind (settle standardCoefficients z limit t₀) λ u. ok (stateOf z u))
   unfolding settle
   settle-at-limit r h p = let e : limit - passes ≡ 0 = omega arith in rw (left, e) p
 
-  module _ (more : passes < limit) (v : Verdict) (after : List Float) (passed : verdictRes v after ≡ pass standardCoefficients z t) where
-    pub settle-refused : (n i : ℕ) (r : StartUp) → v ≡ Verdict.Refused n i → r ≡ startUpReply (refused n i) → r ≡ startUpReply (bind (settle standardCoefficients z limit t₀) λ u. ok (stateOf z u))
+  module _ (more : passes < limit) (h : Conditions) (h-is : h ≡ startUpConditions z) (before after : List Float) where
+    -- its last pass, and one that is not
+    pub settle-ends : (a : DemandAnswer) → answerWith a after ≡ hourSolved z t h (Asked.Demand Alone) before → (last : Bool) → last ≡ ends z t (answerWith a after) → last ≡ true
+        → (r : StartUp) → r ≡ startUpReply (stateIn z (answerWith a t)) → r ≡ startUpReply (bind (settle standardCoefficients z limit t₀) λ u. ok (stateOf z u))
     unfolding settle
-    settle-refused n i r e p = rw (left, one-left limit passes more, res-refused v after (pass standardCoefficients z t) passed n i e) p
+    settle-ends (DemandAnswer.Accepted d) solved last is k r p = rw (left, one-left limit passes more, pass-solved z t h h-is before, ← solved, ← is, k) p
+    settle-ends (DemandAnswer.Refused n i) solved last is k r p = rw (left, one-left limit passes more, pass-solved z t h h-is before, ← solved) p
 
-    module _ (good : v ≡ Verdict.Accepted) (test : Bool) (tested : test ≡ close z t after) where
-      pub settle-settled : (r : StartUp) → test ≡ true → r ≡ startUpReply (ok (stateOf z t)) → r ≡ startUpReply (bind (settle standardCoefficients z limit t₀) λ u. ok (stateOf z u))
-      unfolding settle
-      settle-settled r k p = rw (left, one-left limit passes more, res-accepted v after (pass standardCoefficients z t) passed good, ← tested, k) p
-
-      pub settle-next : test ≡ false → settle standardCoefficients z limit t₀ ≡ settle standardCoefficients z (limit - (passes + 1)) after
-      unfolding settle
-      settle-next k = left ∙ rw (one-left limit passes more, res-accepted v after (pass standardCoefficients z t) passed good, ← tested, k) refl
+    pub settle-next : (a : DemandAnswer) → answerWith a after ≡ hourSolved z t h (Asked.Demand Alone) before → (last : Bool) → last ≡ ends z t (answerWith a after) → last ≡ false
+        → settle standardCoefficients z limit t₀ ≡ settle standardCoefficients z (limit - (passes + 1)) after
+    unfolding settle
+    settle-next (DemandAnswer.Accepted d) solved last is k = left ∙ rw (one-left limit passes more, pass-solved z t h h-is before, ← solved, ← is, k) refl
+    settle-next (DemandAnswer.Refused n i) solved last is k = absurd (subst T (sym is ∙ k) tt)
 
 module _ (z : Zone) (v : Verdict) (zone : v ≡ verdictOf (zoneTest z)) (r : StartUp) where
   pub start-refused : (n i : ℕ) → v ≡ Verdict.Refused n i → r ≡ startUpReply (refused n i) → r ≡ startUpReply (initNodeTemps standardCoefficients z)

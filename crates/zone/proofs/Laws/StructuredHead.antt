@@ -53,7 +53,7 @@ pub record IsStructured (bs : List ℕ) (h : ReadHead Zone) : Type 0 where
   pub structure : structureOf bs ≡ ok (h .length)
   pub zone : h .zone ≡ zoneAt bs
 
-pub is-structured : (bs : List ℕ) (h : ReadHead Zone) → structuredHead bs ≡ ok h → IsStructured bs h
+is-structured : (bs : List ℕ) (h : ReadHead Zone) → structuredHead bs ≡ ok h → IsStructured bs h
 unfolding structuredHead
 is-structured bs h e =
     let a = bind-ok (structureOf bs) _ h e in

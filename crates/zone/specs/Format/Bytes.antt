@@ -21,9 +21,12 @@ bigEndian bs = bigEndianFrom 0 bs
 abbrev pub numAt : List ℕ → (at count : ℕ) → ℕ
 numAt bs at count = bigEndian (take count (drop at bs))
 
+abbrev pub floatSize : ℕ
+floatSize = 8
+
 -- the float whose 64-bit pattern is the eight bytes from at on; each NaN's pattern is `nan`
 abbrev pub floatAt : List ℕ → (at : ℕ) → Float
-floatAt bs at = ofBits binary64 (numAt bs at 8)
+floatAt bs at = ofBits binary64 (numAt bs at floatSize)
 
 -- the lowest `count` bytes of a number, the highest first
 unfoldable pub bytesOf : (count n : ℕ) → List ℕ

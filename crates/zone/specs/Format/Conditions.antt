@@ -6,7 +6,7 @@ use lib.ListN.{getD, length, take, replicate}
 use lib.Dec.{leb, eqb}
 use lib.Ieee.{Float}
 use Rattle.solver.specs.Result.{Result, ok, bind, require}
-use Rattle.zone.specs.Format.Bytes.{numAt, floatAt}
+use Rattle.zone.specs.Format.Bytes.{numAt, floatAt, floatSize}
 use Rattle.zone.specs.Format.Decode.{elementHourAt, noElementHour}
 use Rattle.zone.specs.Check.Ranges.{hourLengthRange, temperatureRange, gainsRange, fractionRange, heatingSetpointRange, setpointRange, rateRange, openWithin}
 use Rattle.zone.specs.Check.ZoneTest.{elementHourInRange, allRequired}
@@ -30,7 +30,7 @@ elementHoursAt bs at (suc n) = elementHourAt bs at ∷ elementHoursAt bs (at + e
 -- the values of conditions for n elements
 unfoldable pub conditionsAt : List ℕ → (n : ℕ) → Conditions
 conditionsAt bs n =
-    let f : ℕ → Float = λ i. floatAt bs (8 * i) in
+    let f : ℕ → Float = λ i. floatAt bs (floatSize * i) in
     record {
       «delta_t_h» = f 0;
       «temp_ext_air» = f 1;
@@ -50,7 +50,7 @@ conditionsAt bs n =
 
 -- code 0 with a second float of all zero bits, or code 1
 abbrev pub rateCodeValid : List ℕ → Bool
-rateCodeValid bs = cond (eqb (getD bs rateCode 0) 0) (eqb (numAt bs secondRate 8) 0) (eqb (getD bs rateCode 0) 1)
+rateCodeValid bs = cond (eqb (getD bs rateCode 0) 0) (eqb (numAt bs secondRate floatSize) 0) (eqb (getD bs rateCode 0) 1)
 
 -- no open bit past the treatments, for the elements whose parts begin at p
 unfoldable pub openBitsValid : List ℕ → (treatments : List ℕ) → (p : ℕ) → Bool

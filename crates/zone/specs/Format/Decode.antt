@@ -6,8 +6,8 @@ use lib.ListN.{getD, replicate}
 use lib.Dec.{eqb}
 use lib.Ieee.{Float}
 use Rattle.solver.specs.F64.{zero64}
-use Rattle.zone.specs.Format.Bytes.{floatAt}
-use Rattle.zone.specs.Format.Layout.{basisIn, countIn, limitIn, zoneFloats, firstElement, elementFloats, elementArrays, openByte}
+use Rattle.zone.specs.Format.Bytes.{numAt, floatAt, floatSize}
+use Rattle.zone.specs.Format.Layout.{basisIn, countIn, limitAt, limitSize, zoneFloats, firstElement, elementFloats, elementArrays, openByte}
 use Rattle.zone.specs.Record.BuildingElement.{numberOfNodes}
 use Rattle.zone.specs.Format.ElementLayout.{hCount, kindAt, treatmentsAt, sizeAt}
 use Rattle.zone.specs.declared.record.building_element.Kind.{Kind}
@@ -20,7 +20,7 @@ use Rattle.zone.specs.declared.record.zone_record.ZoneTemperatureControl
 -- so many floats in a row
 unfoldable pub floatsAt : List ℕ → (at count : ℕ) → List Float
 floatsAt bs at zero = []
-floatsAt bs at (suc n) = floatAt bs at ∷ floatsAt bs (at + 8) n
+floatsAt bs at (suc n) = floatAt bs at ∷ floatsAt bs (at + floatSize) n
 
 -- an array of that size: the floats first, then zeros
 abbrev pub arrayAt : (size : ℕ) → List ℕ → (at count : ℕ) → List Float
@@ -29,7 +29,7 @@ arrayAt size bs at n = floatsAt bs at n ++ replicate (size - n) zero64
 -- an hour's part of an element
 abbrev pub elementHourAt : List ℕ → (at : ℕ) → ElementHour
 elementHourAt bs at =
-    let f : ℕ → Float = λ i. floatAt bs (at + 8 * i) in
+    let f : ℕ → Float = λ i. floatAt bs (at + floatSize * i) in
     record { «temp_ext» = floatAt bs at; «i_sol_dir» = f 1; «i_sol_dif» = f 2; «f_sh_dir» = f 3; «f_sh_dif» = f 4; «treatments_open» = getD bs (at + openByte) 0 }
 
 -- the hour's part of no element: what no bytes are read as
@@ -39,7 +39,7 @@ noElementHour = elementHourAt [] 0
 -- the element at p, of a kind with t treatments, kc of k_pli and hc of h_pli
 abbrev pub elementWith : List ℕ → (p : ℕ) → Kind → (t kc hc : ℕ) → Element
 elementWith bs p k t kc hc =
-    let f : ℕ → Float = λ i. floatAt bs (p + (elementFloats + 8 * i)) in
+    let f : ℕ → Float = λ i. floatAt bs (p + (elementFloats + floatSize * i)) in
     record {
       kind = k;
       treatments = t;
@@ -51,9 +51,9 @@ elementWith bs p k t kc hc =
       «solar_absorption_coeff» = f 5;
       «therm_rad_to_sky» = f 6;
       «k_pli» = arrayAt 5 bs (p + elementArrays) kc;
-      «h_pli» = arrayAt 4 bs (p + elementArrays + 8 * kc) hc;
-      «delta_r» = arrayAt 4 bs (p + elementArrays + 8 * kc + 8 * hc) t;
-      «first_hour» = elementHourAt bs (p + elementArrays + 8 * kc + 8 * hc + 8 * t);
+      «h_pli» = arrayAt 4 bs (p + elementArrays + floatSize * kc) hc;
+      «delta_r» = arrayAt 4 bs (p + elementArrays + floatSize * kc + floatSize * hc) t;
+      «first_hour» = elementHourAt bs (p + elementArrays + floatSize * kc + floatSize * hc + floatSize * t);
     }
 
 abbrev pub elementAt : List ℕ → (p : ℕ) → Element
@@ -75,11 +75,11 @@ basisOf b = cond (eqb b 0) Air Operative
 -- the zone of a head
 unfoldable pub zoneAt : List ℕ → Zone
 zoneAt bs =
-    let f : ℕ → Float = λ i. floatAt bs (zoneFloats + 8 * i) in
+    let f : ℕ → Float = λ i. floatAt bs (zoneFloats + floatSize * i) in
     record {
       «temp_setpnt_basis» = basisOf (basisIn bs);
       count = countIn bs;
-      «start_up_limit» = limitIn bs;
+      «start_up_limit» = numAt bs limitAt limitSize;
       «useful_area» = f 0;
       volume = f 1;
       «tb_heat_trans_coeff» = f 2;

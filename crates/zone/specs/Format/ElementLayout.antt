@@ -5,7 +5,8 @@ use mathlib.Core.List.{List, [], _∷_}
 use lib.ListN.{getD}
 use lib.Dec.{leb, eqb}
 use Rattle.zone.specs.Record.BuildingElement.{isTwoNodes}
-use Rattle.zone.specs.Format.Layout.{floatSize, fiveNodesSize, transparentSize}
+use Rattle.zone.specs.Format.Bytes.{floatSize}
+use Rattle.zone.specs.Format.Layout.{fiveNodesSize, transparentSize}
 use Rattle.zone.specs.declared.record.building_element.Element.{Element}
 use Rattle.zone.specs.declared.record.building_element.Kind.{Kind}
 use Rattle.zone.specs.declared.record.building_element.Kind.the-variants.{Opaque, AdjacentConditionedSpace, AdjacentUnconditionedSpaceSimple, Ground, Transparent, PartyWall}

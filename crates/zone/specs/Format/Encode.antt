@@ -2,12 +2,12 @@
 use Prim.Native.Nat.{ℕ}
 use mathlib.Core.List.{List, [], _∷_, _++_}
 use lib.Ieee.{Float, binary64, toBits}
-use Rattle.zone.specs.Format.Bytes.{bytesOf}
+use Rattle.zone.specs.Format.Bytes.{bytesOf, floatSize}
 use Rattle.zone.specs.declared.record.building_element.Kind.{Kind}
 use Rattle.zone.specs.declared.record.building_element.Kind.the-variants.{Opaque, AdjacentConditionedSpace, AdjacentUnconditionedSpaceSimple, Ground, Transparent, PartyWall}
 
 abbrev pub floatBytes : Float → List ℕ
-floatBytes x = bytesOf 8 (toBits binary64 x)
+floatBytes x = bytesOf floatSize (toBits binary64 x)
 
 -- floats one after the other
 unfoldable pub rowBytes : List Float → List ℕ

@@ -2,14 +2,14 @@
 use Prim.Native.Nat.{ℕ, _+_, _*_, _-_}
 use mathlib.Core.List.{List}
 use lib.ListN.{getD}
-use Rattle.zone.specs.Format.Bytes.{numAt}
-
-abbrev pub floatSize : ℕ
-floatSize = 8
+use Rattle.zone.specs.Format.Bytes.{numAt, floatSize}
 
 -- "Each record: 4-byte length of what follows, then version byte 1."
 abbrev pub lengthSize : ℕ
 lengthSize = 4
+
+abbrev pub version : ℕ
+version = 1
 
 abbrev pub versionAt : ℕ
 versionAt = lengthSize
@@ -44,9 +44,6 @@ basisIn bs = getD bs basisAt 0
 
 abbrev pub countIn : List ℕ → ℕ
 countIn bs = getD bs countAt 0
-
-abbrev pub limitIn : List ℕ → ℕ
-limitIn bs = numAt bs limitAt limitSize
 
 -- of an element: kind, treatment count, seven floats; then k_pli, h_pli, `delta_r` and the first hour's element part
 abbrev pub elementFloats : ℕ

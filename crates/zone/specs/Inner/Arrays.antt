@@ -5,6 +5,7 @@ use mathlib.Core.List.{List, [], _++_}
 use lib.ListN.{getD, length, replicate}
 use lib.Ieee.{Float}
 use Rattle.solver.specs.F64.{zero64}
+use Rattle.zone.specs.Format.Bytes.{floatSize}
 use Rattle.zone.specs.Format.Layout.{elementFloats, elementArrays}
 use Rattle.zone.specs.Format.Decode.{floatsAt, arrayAt, zoneAt}
 use Rattle.zone.specs.Inner.Lent.{counted}
@@ -19,9 +20,9 @@ valuesAt bs p kc hc t =
     let k = p + elementArrays in
     floatsAt bs (p + elementFloats) 7
     ++ (arrayAt 5 bs k kc
-    ++ (arrayAt 4 bs (k + 8 * kc) hc
-    ++ (arrayAt 4 bs (k + 8 * kc + 8 * hc) t
-    ++ floatsAt bs (k + 8 * kc + 8 * hc + 8 * t) 5)))
+    ++ (arrayAt 4 bs (k + floatSize * kc) hc
+    ++ (arrayAt 4 bs (k + floatSize * kc + floatSize * hc) t
+    ++ floatsAt bs (k + floatSize * kc + floatSize * hc + floatSize * t) 5)))
 
 -- what stands beside a refusal
 unfoldable pub noZone : Zone

@@ -22,9 +22,6 @@ use Rattle.zone.specs.Physics.System.{areaOf, twoNodesOf, areaElTotal, s
 use Rattle.zone.specs.Inner.Assembly.{Chains, chains, elementRows, elementRightSides, coupleRow, withGains}
 
 -- of element e
-abbrev pub pitchOf : List Element → ℕ → Float
-pitchOf es e = element es e .pitch
-
 abbrev pub hRiOf : List Element → ℕ → Float
 hRiOf es e = element es e .«h_ri»
 

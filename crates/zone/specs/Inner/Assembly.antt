@@ -9,19 +9,13 @@ use Rattle.solver.specs.Repeat.{repeat}
 use Rattle.solver.specs.Rows.{setEntry}
 use Rattle.zone.specs.declared.record.building_element.Element.{Element}
 use Rattle.zone.specs.declared.record.building_element.ElementHour.{ElementHour}
-use Rattle.zone.specs.declared.record.building_element.Coefficients.{Coefficients}
-use Rattle.zone.specs.Record.BuildingElement.{hCi}
 use Rattle.zone.specs.declared.physics.equations.Rows.{Rows}
-use Rattle.zone.specs.Physics.Slots.{air, innerSurface, elementSlots, setSlots, element, elementHour}
+use Rattle.zone.specs.Physics.Slots.{innerSurface, elementSlots, setSlots, element, elementHour}
 use Rattle.zone.specs.Physics.Equations.{rowsOf, rightSidesOf}
 
 -- the number of an array that belongs to element e
 abbrev pub at : List Float → ℕ → Float
 at a e = getD a e nan
-
--- h_ci of element e, from the temperatures before the step
-abbrev pub hCiBy : Coefficients → (pitch : ℕ → Float) → List Float → ℕ → Float
-hCiBy c pitch t e = hCi c (pitch e) (air t) (innerSurface t e)
 
 -- its share of the total area
 abbrev pub shareBy : (area : ℕ → Float) (total : Float) → ℕ → Float

@@ -1,9 +1,10 @@
 -- An hour's calculations, as the code has them: a given load, or the demand and the last calculation where it is met. answer-solved (proofs/Laws/PreparedDemand.antt)
 -- ties `answerIn` to `hourSolved`, and Laws/Hour.antt and StartUp.antt tie that to the calls.
+use mathlib.Core.Bool.{Bool, true}
 use mathlib.Core.List.{List}
 use lib.Ieee.{Float}
 use Rattle.solver.specs.F64.{_+ᶠ_, zero64}
-use Rattle.solver.specs.Result.{Result, ok, bind}
+use Rattle.solver.specs.Result.{Result, ok, refused, bind}
 use Rattle.solver.specs.Inner.Factored.{solvedRes}
 use Rattle.zone.specs.declared.record.zone_record.Zone.{Zone}
 use Rattle.zone.specs.declared.format.conditions.Conditions.{Conditions}
@@ -17,8 +18,12 @@ use Rattle.zone.specs.declared.hour.hour.MetLoad.{MetLoad}
 use Rattle.zone.specs.declared.hour.hour.MetLoad.the-variants.{NoLoad, Load}
 use Rattle.zone.specs.Record.BuildingElement.{standardCoefficients}
 use Rattle.zone.specs.Physics.Ventilation.{calcVentHeatTransferCoeff}
-use Rattle.zone.specs.Hour.Demand.{gainsHeatCool, temperaturesWith, spaceHeatCoolDemand, ventilated, demandRecord}
-use Rattle.zone.specs.Calls.Hour.{delivered, convectiveShare}
+use Rattle.zone.specs.Physics.HeatBalance.{heatBalance}
+use Rattle.zone.specs.Hour.Demand.{deltaT, gainsHeatCool, temperaturesWith, spaceHeatCoolDemand, ventilated, demandRecord}
+use Rattle.zone.specs.declared.calls.state.State.{State}
+use Rattle.zone.specs.Calls.State.{stateOf}
+use Rattle.zone.specs.Calls.Hour.{delivered, convectiveShare, HourResult}
+use Rattle.zone.specs.Calls.StartUp.{close}
 use Rattle.zone.specs.Inner.Prepared.{Prepared, loadIn, solvedIn}
 use Rattle.zone.specs.Inner.Demand.{demandIn}
 
@@ -76,3 +81,20 @@ module _ (z : Zone) (t : List Float) (h : Conditions) where
   abbrev pub hourSolved : Asked → (before : List Float) → Result (Demand × List Float)
   hourSolved (Asked.Demand meeting) before = demandSolved meeting before
   hourSolved (Asked.Update «gains_heat_cool» «f_hc_c» ach) before = updateSolved «gains_heat_cool» «f_hc_c» ach
+
+-- a pass of start-up, from the temperatures t, is the last where it is refused or settles
+abbrev pub ends : Zone → (t : List Float) → Result (Demand × List Float) → Bool
+ends z t (ok u) = close z t (u .1)
+ends z t (refused number index) = true
+
+-- the state of the temperatures beside a demand
+abbrev pub stateIn : Zone → Result (Demand × List Float) → Result State
+stateIn z x = bind x λ u. ok (stateOf z (u .1))
+
+-- the hour step, from the demand and the temperatures after it
+abbrev pub stepped : Zone → (t : List Float) → Conditions → Demand × List Float → Result HourResult
+stepped z t h u =
+    let d = u .0 in
+    let w = delivered h d in
+    let g = gainsHeatCool h +ᶠ w in
+    ok (record { demand = d; state = stateOf z (u .1); balance = heatBalance standardCoefficients z t h (deltaT h) g (convectiveShare h w g) (d .«ach_cooling») (u .1) })

@@ -19,10 +19,35 @@ unfoldable pub counted : {A : Type 0} → (ℕ → A) → (from count : ℕ) →
 counted f from zero = []
 counted f from (suc n) = f from ∷ counted f (from + 1) n
 
+-- value i of element e; its arrays and its first hour
+abbrev pub valueIn : (values : List Float) (e i : ℕ) → Float
+valueIn values e i = getD values (25 * e + i) nan
+
+abbrev pub kPliIn : (values : List Float) (e : ℕ) → List Float
+kPliIn values e = let v = valueIn values e in v 7 ∷ v 8 ∷ v 9 ∷ v 10 ∷ v 11 ∷ []
+
+abbrev pub hPliIn : (values : List Float) (e : ℕ) → List Float
+hPliIn values e = let v = valueIn values e in v 12 ∷ v 13 ∷ v 14 ∷ v 15 ∷ []
+
+abbrev pub deltaRIn : (values : List Float) (e : ℕ) → List Float
+deltaRIn values e = let v = valueIn values e in v 16 ∷ v 17 ∷ v 18 ∷ v 19 ∷ []
+
+abbrev pub firstHourIn : (codes : List ℕ) (values : List Float) (e : ℕ) → ElementHour
+firstHourIn codes values e =
+    let v = valueIn values e in
+    record {
+      «temp_ext» = v 20;
+      «i_sol_dir» = v 21;
+      «i_sol_dif» = v 22;
+      «f_sh_dir» = v 23;
+      «f_sh_dif» = v 24;
+      «treatments_open» = getD codes (3 * e + 2) 0;
+    }
+
 -- element e, of a kind with t treatments
 abbrev pub elementAs : Kind → (t : ℕ) (codes : List ℕ) (values : List Float) (e : ℕ) → Element
 elementAs kind t codes values e =
-    let v : ℕ → Float = λ i. getD values (25 * e + i) nan in
+    let v = valueIn values e in
     record {
       kind = kind;
       treatments = t;
@@ -33,18 +58,10 @@ elementAs kind t codes values e =
       «h_ri» = v 4;
       «solar_absorption_coeff» = v 5;
       «therm_rad_to_sky» = v 6;
-      «k_pli» = v 7 ∷ v 8 ∷ v 9 ∷ v 10 ∷ v 11 ∷ [];
-      «h_pli» = v 12 ∷ v 13 ∷ v 14 ∷ v 15 ∷ [];
-      «delta_r» = v 16 ∷ v 17 ∷ v 18 ∷ v 19 ∷ [];
-      «first_hour» =
-          record {
-            «temp_ext» = v 20;
-            «i_sol_dir» = v 21;
-            «i_sol_dif» = v 22;
-            «f_sh_dir» = v 23;
-            «f_sh_dif» = v 24;
-            «treatments_open» = getD codes (3 * e + 2) 0;
-          };
+      «k_pli» = kPliIn values e;
+      «h_pli» = hPliIn values e;
+      «delta_r» = deltaRIn values e;
+      «first_hour» = firstHourIn codes values e;
     }
 
 -- element e
@@ -74,10 +91,13 @@ zoneOf z es =
 abbrev pub zoneIn : ZoneFront → (codes : List ℕ) (values : List Float) → Zone
 zoneIn z codes values = zoneOf z (elementsIn codes values)
 
--- an hour's part of element e
+-- number i of an hour's part of element e, and the part
+abbrev pub partIn : (parts : List Float) (e i : ℕ) → Float
+partIn parts e i = getD parts (5 * e + i) nan
+
 unfoldable pub elementHourIn : (parts : List Float) (opens : List ℕ) (e : ℕ) → ElementHour
 elementHourIn parts opens e =
-    let v : ℕ → Float = λ i. getD parts (5 * e + i) nan in
+    let v = partIn parts e in
     record {
       «temp_ext» = getD parts (5 * e) nan;
       «i_sol_dir» = v 1;

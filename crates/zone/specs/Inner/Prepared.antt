@@ -19,6 +19,7 @@ use Rattle.zone.specs.Physics.Ventilation.{calcVentHeatTransferCoeff}
 use Rattle.zone.specs.declared.format.conditions.Conditions.{Conditions}
 use Rattle.zone.specs.Hour.Demand.{gainsHeatCool, fracConvGainsHeatCool}
 use Rattle.zone.specs.Inner.Assembled.{Assembled, assembled, zoneDiagonalFrom, gainsPerAreaFrom, zoneRightSideFrom}
+use Rattle.solver.specs.Numbers as SolveNumber
 
 -- the zone's terms; whether the divisors of the factored columns are valid; which elements have two nodes; the adjusted diagonals and the coefficients of
 -- the next slots; the factored columns with their interchanges; the last column, but for the zone's own coefficient; the reduced right side, and what the
@@ -62,7 +63,7 @@ unfoldable pub solvedIn : Prepared → (volume «gains_heat_cool» «f_hc_c» ac
 solvedIn p volume «gains_heat_cool» «f_hc_c» ach =
     let v = calcVentHeatTransferCoeff volume ach in
     let last = lastIn p v in
-    bind (require (rateValid p last) 12) λ _.
+    bind (require (rateValid p last) SolveNumber.divisor) λ _.
     bind (solvedRes (loadIn p last v «gains_heat_cool» «f_hc_c»)) λ temps.
     ok (temps, last)
 

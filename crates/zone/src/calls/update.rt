@@ -80,32 +80,33 @@ impl State {
             &mut after,
         );
         match solved {
-            DemandAnswer::Refused { number, index } => refuse(self, number, index),
-            DemandAnswer::Accepted(_) => {
-                let c = standard_coefficients();
-                let delta_t = delta_t_of(h);
-                let balance = heat_balance(
-                    c,
-                    z,
-                    codes,
-                    values,
-                    &before,
-                    h,
-                    parts,
-                    opens,
-                    delta_t,
-                    gains_heat_cool,
-                    frac_convective,
-                    ach,
-                    &after,
-                );
-                let state = state_of(z, codes, values, &after);
-                let answer = UpdateAnswer::Accepted(balance);
-                UpdateReply {
-                    answer: answer,
-                    state: state,
-                }
+            DemandAnswer::Refused { number, index } => {
+                return refuse(self, number, index);
             }
+            DemandAnswer::Accepted(_) => {}
+        }
+        let c = standard_coefficients();
+        let delta_t = delta_t_of(h);
+        let balance = heat_balance(
+            c,
+            z,
+            codes,
+            values,
+            &before,
+            h,
+            parts,
+            opens,
+            delta_t,
+            gains_heat_cool,
+            frac_convective,
+            ach,
+            &after,
+        );
+        let state = state_of(z, codes, values, &after);
+        let answer = UpdateAnswer::Accepted(balance);
+        UpdateReply {
+            answer: answer,
+            state: state,
         }
     }
 
@@ -127,24 +128,24 @@ impl State {
         let read = tested(z, codes, values, self, conditions, &mut parts, &mut opens);
         let verdict = read.verdict;
         match verdict {
-            Verdict::Refused { number, index } => refuse(self, number, index),
-            Verdict::Accepted => {
-                if load_in_range(gains_heat_cool, frac_convective, ach) {
-                    let h = read.front;
-                    return self.step(
-                        z,
-                        codes,
-                        values,
-                        h,
-                        &parts,
-                        &opens,
-                        gains_heat_cool,
-                        frac_convective,
-                        ach,
-                    );
-                }
-                refuse(self, CONDITIONS_VALUE, 0)
+            Verdict::Refused { number, index } => {
+                return refuse(self, number, index);
             }
+            Verdict::Accepted => {}
         }
+        if load_in_range(gains_heat_cool, frac_convective, ach) {
+            return self.step(
+                z,
+                codes,
+                values,
+                read.front,
+                &parts,
+                &opens,
+                gains_heat_cool,
+                frac_convective,
+                ach,
+            );
+        }
+        refuse(self, CONDITIONS_VALUE, 0)
     }
 }

@@ -11,6 +11,7 @@ use crate::format::layout::BRIDGES_AT;
 use crate::format::layout::COUNT_AT;
 use crate::format::layout::ELEMENT_ARRAYS;
 use crate::format::layout::FIRST_ELEMENT;
+use crate::format::layout::FLOAT_SIZE;
 use crate::format::layout::LIMIT_AT;
 use crate::format::layout::OPEN_BYTE;
 use crate::format::layout::TEMP_EXT_AIR_INIT_AT;
@@ -32,6 +33,7 @@ ghost use lib.ListN.{length, replicate, take, drop, set};
 ghost use Rattle.solver.specs.F64.{zero64};
 ghost use Rattle.solver.specs.Result.{ok};
 ghost use Rattle.zone.specs.Inner.Lent.{elementsIn};
+ghost use Rattle.zone.specs.Format.Bytes.{floatSize};
 ghost use Rattle.zone.specs.Format.Layout.{firstElement, elementArrays, elementHourSize};
 ghost use Rattle.zone.specs.Format.ElementLayout.{kindValidAt, sizeAt};
 ghost use Rattle.zone.specs.Format.Decode.{floatsAt, elementAt, elementsAt, basisOf, zoneAt, noElement};
@@ -41,28 +43,28 @@ ghost use Rattle.zone.specs.Inner.Arrays.{valuesAt, frontOf, NoElements,
 
 // The `count` floats from `at` on, into the places from `to` on.
 pub fn floats_to(out: &mut [f64], to: usize, s: &[u8], at: usize, count: usize)
-    requires { ⌜ (to + count ≤ length (now out)) × (at + 8 * count ≤ length (now s)) ⌝ }
+    requires { ⌜ (to + count ≤ length (now out)) × (at + floatSize * count ≤ length (now s)) ⌝ }
     ensures { λ _. ⌜ now (out .exit) ≡ take to (now (out .entry)) ++ (floatsAt (now (s .entry)) at count ++ drop (to + count) (now (out .entry))) ⌝ }
 {
     let mut i: usize = 0;
     let mut p = at;
     while i < count {
         out[to + i] = read_f64_be(s, p);
-        p = p + 8;
+        p = p + FLOAT_SIZE;
         i = i + 1;
     }
 }
 
 // The 25 values of the element at `p`, with `kc` of k_pli, `hc` of h_pli and `t` treatments, into place `e`, from which on only zeros stand.
 fn values_to(values: &mut [f64; 600], e: usize, s: &[u8], p: usize, kc: usize, hc: usize, t: usize)
-    requires { ⌜ (e < 24) × (p + (elementArrays + 8 * kc + 8 * hc + 8 * t + elementHourSize) ≤ length (now s)) × (kc ≤ 5) × (hc ≤ 4) × (t ≤ 4) × (drop (25 * e) (now values) ≡ replicate (600 - 25 * e) zero64) ⌝ }
+    requires { ⌜ (e < 24) × (p + (elementArrays + floatSize * kc + floatSize * hc + floatSize * t + elementHourSize) ≤ length (now s)) × (kc ≤ 5) × (hc ≤ 4) × (t ≤ 4) × (drop (25 * e) (now values) ≡ replicate (600 - 25 * e) zero64) ⌝ }
     ensures { λ _. ⌜ now (values .exit) ≡ take (25 * e) (now (values .entry)) ++ (valuesAt (now (s .entry)) p kc hc t ++ drop (25 * e + 25) (now (values .entry))) ⌝ }
 {
     let a = VALUES * e;
     let at_k = p + ELEMENT_ARRAYS;
-    let at_h = at_k + 8 * kc;
-    let at_delta = at_h + 8 * hc;
-    let at_hour = at_delta + 8 * t;
+    let at_h = at_k + FLOAT_SIZE * kc;
+    let at_delta = at_h + FLOAT_SIZE * hc;
+    let at_hour = at_delta + FLOAT_SIZE * t;
     floats_to(values, a, s, p + AREA, 7);
     floats_to(values, a + 7, s, at_k, kc);
     floats_to(values, a + 12, s, at_h, hc);
@@ -75,13 +77,15 @@ fn element_to(s: &[u8], p: usize, e: usize, codes: &mut [u8; 72], values: &mut [
     requires { ⌜ (e < 24) × (p + 2 ≤ length (now s)) × (kindValidAt (now s) p ≡ true) × (p + sizeAt (now s) p ≤ length (now s)) × (drop (25 * e) (now values) ≡ replicate (600 - 25 * e) zero64) × ZoneSized (now codes) (now values) ⌝ }
     ensures { λ _. ⌜ (elementsIn (now (codes .exit)) (now (values .exit)) ≡ set (elementsIn (now (codes .entry)) (now (values .entry))) e (elementAt (now (s .entry)) p)) × (drop (25 * (e + 1)) (now (values .exit)) ≡ replicate (600 - 25 * (e + 1)) zero64) × ZoneSized (now (codes .exit)) (now (values .exit)) ⌝ }
 {
-    let kind = kind_of(s[p]);
-    let t = count_of(s[p + TREATMENTS]);
+    let number = s[p];
+    let treatments = s[p + TREATMENTS];
+    let kind = kind_of(number);
+    let t = count_of(treatments);
     let kc = number_of_nodes(kind);
     let hc = h_count(kind);
-    let at_hour = p + ELEMENT_ARRAYS + 8 * kc + 8 * hc + 8 * t;
-    codes[CODES * e] = s[p];
-    codes[CODES * e + 1] = s[p + TREATMENTS];
+    let at_hour = p + ELEMENT_ARRAYS + FLOAT_SIZE * kc + FLOAT_SIZE * hc + FLOAT_SIZE * t;
+    codes[CODES * e] = number;
+    codes[CODES * e + 1] = treatments;
     codes[CODES * e + 2] = s[at_hour + OPEN_BYTE];
     values_to(values, e, s, p, kc, hc, t);
 }

@@ -1,6 +1,5 @@
 // The values that stand in the bytes of an hour's conditions.
 use crate::format::bytes::read_f64_be;
-use crate::format::bytes::read_f64s_be;
 use crate::format::conditions::AirChangesPerHourArgument;
 use crate::format::conditions::HourFront;
 use crate::format::decode::floats_to;
@@ -11,8 +10,9 @@ use crate::format::layout::RATE_CODE;
 use crate::record::arrays::PARTS;
 ghost use mathlib.Core.Path.{_≡_};
 ghost use mathlib.Core.List.{_++_};
-ghost use Prim.Native.Nat.{_+_, _-_, _≤_};
+ghost use Prim.Native.Nat.{_+_, _-_, _*_, _≤_, _<_};
 ghost use lib.ListN.{length, replicate};
+ghost use Rattle.zone.specs.Format.Bytes.{floatAt, floatSize};
 ghost use Rattle.zone.specs.Format.Layout.{firstElementHour, conditionsLength};
 ghost use Rattle.zone.specs.Format.Decode.{noElementHour};
 ghost use Rattle.zone.specs.Format.Conditions.{achArgsAt, elementHoursAt, conditionsAt};
@@ -49,28 +49,33 @@ pub fn parts_to(s: &[u8], n: usize, parts: &mut [f64; 120], opens: &mut [u8; 24]
     }
 }
 
+// Float `i` of the twelve that come first.
+fn front_float(s: &[u8], i: usize) -> f64
+    requires { ⌜ (i < 12) × (firstElementHour ≤ length (now s)) ⌝ }
+    ensures { λ r. ⌜ r ≡ floatAt (now (s .entry)) (floatSize * i) ⌝ }
+{
+    read_f64_be(s, 8 * i)
+}
+
 // The conditions beside the elements' parts.
 pub fn hour_front_at(s: &[u8]) -> HourFront
     requires { ⌜ firstElementHour ≤ length (now s) ⌝ }
     ensures { λ r. ⌜ r ≡ hourFrontOf (conditionsAt (now (s .entry)) 0) ⌝ }
 {
-    let mut row = [0.0f64; 12];
-    read_f64s_be(&mut row, s, 0, 12);
-    let ach_args = ach_args_at(s, RATE_CODE);
     HourFront {
-        delta_t_h: row[0],
-        temp_ext_air: row[1],
-        gains_internal: row[2],
-        gains_solar: row[3],
-        frac_convective_heat: row[4],
-        frac_convective_cool: row[5],
-        temp_setpnt_heat: row[6],
-        temp_setpnt_cool: row[7],
-        temp_setpnt_cool_vent: row[8],
-        avg_air_supply_temp: row[9],
-        gains_heat_cool_convective: row[10],
-        gains_heat_cool_radiative: row[11],
-        ach_args: ach_args,
+        delta_t_h: front_float(s, 0),
+        temp_ext_air: front_float(s, 1),
+        gains_internal: front_float(s, 2),
+        gains_solar: front_float(s, 3),
+        frac_convective_heat: front_float(s, 4),
+        frac_convective_cool: front_float(s, 5),
+        temp_setpnt_heat: front_float(s, 6),
+        temp_setpnt_cool: front_float(s, 7),
+        temp_setpnt_cool_vent: front_float(s, 8),
+        avg_air_supply_temp: front_float(s, 9),
+        gains_heat_cool_convective: front_float(s, 10),
+        gains_heat_cool_radiative: front_float(s, 11),
+        ach_args: ach_args_at(s, RATE_CODE),
     }
 }
 

@@ -25,14 +25,14 @@ use crate::record::numbers::STRUCTURE;
 use crate::record::zone_record::Verdict;
 use crate::record::zone_record::ZoneFront;
 ghost use mathlib.Core.Path.{_≡_};
-ghost use Prim.Native.Nat.{_+_, _-_, _≤_, _<_};
+ghost use Prim.Native.Nat.{ℕ, _+_, _-_, _≤_, _<_};
 ghost use lib.ListN.{length};
 ghost use Rattle.solver.specs.Result.{ok, refused};
 ghost use Rattle.zone.specs.Format.Layout.{lengthSize, shortestLength, firstElement};
 ghost use Rattle.zone.specs.Inner.Format.{kindValid, structureWithin, extentAnswer};
 ghost use Rattle.zone.specs.Inner.Arrays.{noZone};
 ghost use Rattle.zone.specs.Format.Head.{elementsEnd, structureOf};
-ghost use Rattle.zone.specs.Inner.Head.{structuredHead, headIn};
+ghost use Rattle.zone.specs.Inner.Head.{structuredHead, headIn, RefusedHead};
 ghost use Rattle.zone.specs.Inner.Arrays.{frontOf};
 ghost use Rattle.zone.specs.declared.record.zone_record.Verdict as Verdict;
 
@@ -155,17 +155,18 @@ fn refuse(number: u32, index: usize) -> Head
     }
 }
 
-// A byte string as a head, its elements into arrays that are lent: 1 to 4. Its values are judged by those who use them.
+// A byte string as a head, its elements into arrays that are lent: 1 to 4, which leave the arrays as they were. Its values are judged by those who use
+// them.
 pub fn read_head(bytes: &[u8], codes: &mut [u8; 72], values: &mut [f64; 600]) -> Head
-    ensures { λ r. ⌜ headIn r (now (codes .exit)) (now (values .exit)) ≡ structuredHead (now (bytes .entry)) ⌝ }
+    ensures { λ r. ⌜ (headIn r (now (codes .exit)) (now (values .exit)) ≡ structuredHead (now (bytes .entry))) × ((number index : ℕ) → structuredHead (now (bytes .entry)) ≡ refused number index → RefusedHead r (now (codes .entry)) (now (values .entry)) (now (codes .exit)) (now (values .exit))) ⌝ }
 {
-    *codes = [0; 72];
-    *values = [0.0; 600];
     let structure = structure_of(bytes);
     match structure {
         Extent::Refused { number, index } => refuse(number, index),
         Extent::End(end) => {
             let zone = front_at(bytes);
+            *codes = [0; 72];
+            *values = [0.0; 600];
             elements_to(bytes, end, zone.count, codes, values);
             let verdict = Verdict::Accepted;
             Head {

@@ -44,11 +44,11 @@ fn cool_by_windows(
     inner: &[f64; 24],
     area: &[f64; 24],
     last: &mut [f64; 25],
+    temps: &mut [f64; 121],
 ) -> VentilationAnswer
     ensures { λ r. ⌜ ventilationWith r (now (last .exit)) ≡ coolByWindows (prepared terms valid (now («two_nodes» .entry)) (now (diag .entry)) (now (next .entry)) (now (dense .entry)) (now (interchanges .entry)) (now (column .entry)) (now (b .entry)) (now (inner .entry))) (z .volume) (controlBy (z .«temp_setpnt_basis») (z .count) (now (area .entry)) (terms .«area_el_total»)) (hourOf h []) target «temp_free» ach trigger (now (last .entry)) ⌝ }
 {
     let mut extra = [0.0; 25];
-    let mut temps = [0.0; 121];
     let number = free_temperatures(
         z.volume,
         h,
@@ -64,13 +64,13 @@ fn cool_by_windows(
         b,
         inner,
         &mut extra,
-        &mut temps,
+        temps,
     );
     if number != 0 {
         return VentilationAnswer::Refused { number, index: 0 };
     }
     let basis = z.temp_setpnt_basis;
-    let temp_extra = control_temperature(basis, z.count, area, terms.area_el_total, &temps);
+    let temp_extra = control_temperature(basis, z.count, area, terms.area_el_total, temps);
     if above_cooling_setpoint(temp_extra, h.temp_setpnt_cool) {
         return VentilationAnswer::Accepted(VentilationChoice {
             temp_free,
@@ -105,6 +105,7 @@ fn with_choice(
     inner: &[f64; 24],
     area: &[f64; 24],
     last: &mut [f64; 25],
+    temps: &mut [f64; 121],
 ) -> VentilationAnswer
     ensures { λ r. ⌜ ventilationWith r (now (last .exit)) ≡ withChoice (prepared terms valid (now («two_nodes» .entry)) (now (diag .entry)) (now (next .entry)) (now (dense .entry)) (now (interchanges .entry)) (now (column .entry)) (now (b .entry)) (now (inner .entry))) (z .volume) (controlBy (z .«temp_setpnt_basis») (z .count) (now (area .entry)) (terms .«area_el_total»)) (hourOf h []) target windows free «vent_max» (now (last .entry)) ⌝ }
 {
@@ -137,6 +138,7 @@ fn with_choice(
             inner,
             area,
             last,
+            temps,
         );
     }
     VentilationAnswer::Accepted(VentilationChoice {
@@ -164,11 +166,11 @@ fn choose_rate(
     inner: &[f64; 24],
     area: &[f64; 24],
     last: &mut [f64; 25],
+    temps: &mut [f64; 121],
 ) -> VentilationAnswer
     ensures { λ r. ⌜ ventilationWith r (now (last .exit)) ≡ chooseRate (prepared terms valid (now («two_nodes» .entry)) (now (diag .entry)) (now (next .entry)) (now (dense .entry)) (now (interchanges .entry)) (now (column .entry)) (now (b .entry)) (now (inner .entry))) (z .volume) (controlBy (z .«temp_setpnt_basis») (z .count) (now (area .entry)) (terms .«area_el_total»)) (hourOf h []) target windows free (now (last .entry)) ⌝ }
 {
     let mut open = [0.0; 25];
-    let mut temps = [0.0; 121];
     let number = free_temperatures(
         z.volume,
         h,
@@ -184,13 +186,13 @@ fn choose_rate(
         b,
         inner,
         &mut open,
-        &mut temps,
+        temps,
     );
     if number != 0 {
         return VentilationAnswer::Refused { number, index: 0 };
     }
     let basis = z.temp_setpnt_basis;
-    let vent_max = zone_temperatures(basis, z.count, area, terms.area_el_total, &temps);
+    let vent_max = zone_temperatures(basis, z.count, area, terms.area_el_total, temps);
     with_choice(
         z,
         h,
@@ -210,6 +212,7 @@ fn choose_rate(
         inner,
         area,
         last,
+        temps,
     )
 }
 
@@ -230,6 +233,7 @@ pub fn calc_cooling_potential_from_ventilation(
     inner: &[f64; 24],
     area: &[f64; 24],
     last: &mut [f64; 25],
+    temps: &mut [f64; 121],
 ) -> VentilationAnswer
     ensures { λ r. ⌜ ventilationWith r (now (last .exit)) ≡ coolingPotential (prepared terms valid (now («two_nodes» .entry)) (now (diag .entry)) (now (next .entry)) (now (dense .entry)) (now (interchanges .entry)) (now (column .entry)) (now (b .entry)) (now (inner .entry))) (z .volume) (controlBy (z .«temp_setpnt_basis») (z .count) (now (area .entry)) (terms .«area_el_total»)) (hourOf h []) free (h .«ach_args») (now (last .entry)) ⌝ }
 {
@@ -260,6 +264,7 @@ pub fn calc_cooling_potential_from_ventilation(
                     inner,
                     area,
                     last,
+                    temps,
                 );
             }
             VentilationAnswer::Accepted(VentilationChoice {

@@ -51,13 +51,13 @@ fn loaded_demand(
     inner: &[f64; 24],
     area: &[f64; 24],
     last: &[f64; 25],
+    temps: &mut [f64; 121],
 ) -> DemandAnswer
     ensures { λ r. ⌜ r ≡ demandAnswer (loadedDemand (prepared terms valid (now («two_nodes» .entry)) (now (diag .entry)) (now (next .entry)) (now (dense .entry)) (now (interchanges .entry)) (now (column .entry)) (now (b .entry)) (now (inner .entry))) (z .volume) (controlBy (z .«temp_setpnt_basis») (z .count) (now (area .entry)) (terms .«area_el_total»)) (hourOf h []) v (Toward setpoint load fraction) (now (last .entry))) ⌝ }
 {
     let gains = gains_heat_cool_of(h) + load;
     let frac = frac_upper(h, load, fraction);
     let h_ve = calc_vent_heat_transfer_coeff(z.volume, v.ach_cooling);
-    let mut temps = [0.0; 121];
     let number = solve_load(
         terms,
         h_ve,
@@ -71,13 +71,13 @@ fn loaded_demand(
         b,
         inner,
         last,
-        &mut temps,
+        temps,
     );
     if number != 0 {
         return DemandAnswer::Refused { number, index: 0 };
     }
     let basis = z.temp_setpnt_basis;
-    let temp_upper = control_temperature(basis, z.count, area, terms.area_el_total, &temps);
+    let temp_upper = control_temperature(basis, z.count, area, terms.area_el_total, temps);
     let kwh = interp_heat_cool_demand(h.delta_t_h, setpoint, load, v.temp_free, temp_upper);
     match kwh {
         Interpolated::Refused { number, index } => DemandAnswer::Refused { number, index },
@@ -102,6 +102,7 @@ fn demand_for_load(
     inner: &[f64; 24],
     area: &[f64; 24],
     last: &[f64; 25],
+    temps: &mut [f64; 121],
 ) -> DemandAnswer
     ensures { λ r. ⌜ r ≡ demandAnswer (loadedDemand (prepared terms valid (now («two_nodes» .entry)) (now (diag .entry)) (now (next .entry)) (now (dense .entry)) (now (interchanges .entry)) (now (column .entry)) (now (b .entry)) (now (inner .entry))) (z .volume) (controlBy (z .«temp_setpnt_basis») (z .count) (now (area .entry)) (terms .«area_el_total»)) (hourOf h []) v w (now (last .entry))) ⌝ }
 {
@@ -130,6 +131,7 @@ fn demand_for_load(
             inner,
             area,
             last,
+            temps,
         ),
     }
 }
@@ -150,6 +152,7 @@ fn demand_from_free(
     inner: &[f64; 24],
     area: &[f64; 24],
     last: &mut [f64; 25],
+    temps: &mut [f64; 121],
 ) -> DemandAnswer
     ensures { λ r. ⌜ answerWith r (now (last .exit)) ≡ demandFromFree (prepared terms valid (now («two_nodes» .entry)) (now (diag .entry)) (now (next .entry)) (now (dense .entry)) (now (interchanges .entry)) (now (column .entry)) (now (b .entry)) (now (inner .entry))) (z .volume) (controlBy (z .«temp_setpnt_basis») (z .count) (now (area .entry)) (terms .«area_el_total»)) (hourOf h []) (z .«useful_area») free (now (last .entry)) ⌝ }
 {
@@ -169,6 +172,7 @@ fn demand_from_free(
         inner,
         area,
         last,
+        temps,
     );
     match ventilated {
         VentilationAnswer::Refused { number, index } => DemandAnswer::Refused { number, index },
@@ -191,6 +195,7 @@ fn demand_from_free(
                 inner,
                 area,
                 last,
+                temps,
             )
         }
     }
@@ -221,6 +226,7 @@ pub fn hour_demand(
     inner: &[f64; 24],
     area: &[f64; 24],
     last: &mut [f64; 25],
+    temps: &mut [f64; 121],
 ) -> DemandAnswer
     ensures { λ r. ⌜ answerWith r (now (last .exit)) ≡ demandIn (prepared terms valid (now («two_nodes» .entry)) (now (diag .entry)) (now (next .entry)) (now (dense .entry)) (now (interchanges .entry)) (now (column .entry)) (now (b .entry)) (now (inner .entry))) (z .volume) (controlBy (z .«temp_setpnt_basis») (z .count) (now (area .entry)) (terms .«area_el_total»)) (hourOf h []) (z .«useful_area») ⌝ }
 {
@@ -238,7 +244,6 @@ pub fn hour_demand(
     }
     let ach_args = h.ach_args;
     let target = ach_target(ach_args);
-    let mut temps = [0.0; 121];
     let number = free_temperatures(
         z.volume,
         h,
@@ -254,13 +259,13 @@ pub fn hour_demand(
         b,
         inner,
         last,
-        &mut temps,
+        temps,
     );
     if number != 0 {
         return DemandAnswer::Refused { number, index: 0 };
     }
     let basis = z.temp_setpnt_basis;
-    let indoor = zone_temperatures(basis, z.count, area, terms.area_el_total, &temps);
+    let indoor = zone_temperatures(basis, z.count, area, terms.area_el_total, temps);
     demand_from_free(
         z,
         h,
@@ -277,5 +282,6 @@ pub fn hour_demand(
         inner,
         area,
         last,
+        temps,
     )
 }

@@ -114,6 +114,7 @@ fn demand_met(
     ensures { λ r. ⌜ answerWith r (now (after .exit)) ≡ demandMetIn (prepared terms valid (now («two_nodes» .entry)) (now (diag .entry)) (now (next .entry)) (now (dense .entry)) (now (interchanges .entry)) (now (column .entry)) (now (b .entry)) (now (inner .entry))) (z .volume) (controlBy (z .«temp_setpnt_basis») (z .count) (now (area .entry)) (terms .«area_el_total»)) (hourOf h []) (z .«useful_area») meeting (now (after .entry)) ⌝ }
 {
     let mut last = [0.0; 25];
+    let mut temps = [0.0; 121];
     let demand = hour_demand(
         z,
         h,
@@ -129,6 +130,7 @@ fn demand_met(
         inner,
         area,
         &mut last,
+        &mut temps,
     );
     match demand {
         DemandAnswer::Refused { number, index } => DemandAnswer::Refused { number, index },

@@ -3,21 +3,17 @@
 use crate::physics::assembly::assemble_elements;
 use crate::physics::slots::at_most_24;
 use crate::record::arrays::element_of;
-use crate::record::building_element::Coefficients;
 use crate::record::building_element::direction_code;
 use crate::record::building_element::heat_flow_direction;
+use crate::record::building_element::standard_coefficients;
 use crate::record::zone_record::ZoneFront;
 use solver::factor_columns;
 use solver::last_column;
 ghost use mathlib.Core.Path.{_≡_};
-ghost use mathlib.Core.Bool.{Bool, true, false};
 ghost use Prim.Native.Nat.{_≤_};
-ghost use lib.Dec.{T};
-ghost use lib.ListN.{replicate, getD};
-ghost use lib.Ieee.{binary64, toBits, fits};
-ghost use Rattle.zone.specs.Inner.Lent.{elementsIn, zoneIn};
-ghost use Rattle.zone.specs.Physics.Slots.{withTerms};
-ghost use Rattle.zone.specs.Inner.Kept.{directionAt, SameKey, factors, Cleared, Kept, FactorsOf};
+ghost use lib.Ieee.{binary64, toBits};
+ghost use Rattle.zone.specs.Inner.Lent.{zoneIn};
+ghost use Rattle.zone.specs.Inner.Kept.{directionsOf, sameKey, keyOf, arrays, emptied, held, noneHeld, keepFactors};
 
 // The one pattern that all NaNs have here.
 const NAN_BITS: u64 = 9221120237041090560;
@@ -31,15 +27,15 @@ fn bits_of(x: f64) -> u64
 
 // The directions of heat flow, from the temperatures before the step.
 pub fn directions_of(
-    c: Coefficients,
-    n: usize,
+    z: ZoneFront,
     codes: &[u8; 72],
     values: &[f64; 600],
     t: &[f64; 121],
 ) -> [u8; 24]
-    requires { ⌜ n ≤ 24 ⌝ }
-    ensures { λ r. ⌜ r ≡ withTerms n (directionAt c (elementsIn (now (codes .entry)) (now (values .entry))) (now (t .entry))) (replicate 24 0) ⌝ }
+    ensures { λ r. ⌜ r ≡ directionsOf (zoneIn z (now (codes .entry)) (now (values .entry))) (now (t .entry)) ⌝ }
 {
+    let c = standard_coefficients();
+    let n = at_most_24(z.count);
     let mut directions = [0; 24];
     let mut e = 0;
     while e < n {
@@ -54,34 +50,47 @@ pub fn directions_of(
 // Whether something is held, and of the same timestep, directions and open treatments.
 fn same_key(
     held: bool,
-    kept_bits: u64,
-    bits: u64,
+    kept_delta_t: f64,
+    delta_t: f64,
     n: usize,
-    kept_directions: &[u8; 24],
+    key: &[u8; 48],
     directions: &[u8; 24],
-    kept_opens: &[u8; 24],
     opens: &[u8; 24],
 ) -> bool
     requires { ⌜ n ≤ 24 ⌝ }
-    ensures { λ r. ⌜ (r ≡ true → SameKey held «kept_bits» bits n (now («kept_directions» .entry)) (now (directions .entry)) (now («kept_opens» .entry)) (now (opens .entry))) ⌝ }
+    ensures { λ r. ⌜ r ≡ sameKey held «kept_delta_t» «delta_t» n (now (key .entry)) (now (directions .entry)) (now (opens .entry)) ⌝ }
 {
     if !held {
         return false;
     }
-    if kept_bits != bits {
+    if bits_of(kept_delta_t) != bits_of(delta_t) {
         return false;
     }
     let mut e = 0;
     while e < n {
-        if kept_directions[e] != directions[e] {
+        if key[e] != directions[e] {
             return false;
         }
-        if kept_opens[e] != opens[e] {
+        if key[24 + e] != opens[e] {
             return false;
         }
         e += 1;
     }
     true
+}
+
+// The directions, and behind them the open treatments.
+fn key_of(directions: &[u8; 24], opens: &[u8; 24]) -> [u8; 48]
+    ensures { λ r. ⌜ r ≡ keyOf (now (directions .entry)) (now (opens .entry)) ⌝ }
+{
+    let mut key = [0; 48];
+    let mut e = 0;
+    while e < 24 {
+        key[e] = directions[e];
+        key[24 + e] = opens[e];
+        e += 1;
+    }
+    key
 }
 
 // Arrays that hold something are made empty.
@@ -94,8 +103,8 @@ fn clear(
     dense: &mut [f64; 625],
     interchanges: &mut [usize; 25],
 )
-    ensures { λ _. ⌜ ((held ≡ false → Cleared (now («two_nodes» .entry)) (now (diag .entry)) (now (next .entry)) (now (prev .entry)) (now (dense .entry)) (now (interchanges .entry)))
-        → Cleared (now («two_nodes» .exit)) (now (diag .exit)) (now (next .exit)) (now (prev .exit)) (now (dense .exit)) (now (interchanges .exit))) ⌝ }
+    ensures { λ _. ⌜ arrays (now («two_nodes» .exit)) (now (diag .exit)) (now (next .exit)) (now (prev .exit)) (now (dense .exit)) (now (interchanges .exit))
+        ≡ emptied held (arrays (now («two_nodes» .entry)) (now (diag .entry)) (now (next .entry)) (now (prev .entry)) (now (dense .entry)) (now (interchanges .entry))) ⌝ }
 {
     if held {
         *two_nodes = [false; 24];
@@ -107,19 +116,11 @@ fn clear(
     }
 }
 
-// The hour's matrix but its last column, factored in the arrays, unless they hold it.
-pub fn keep_factors(
-    z: ZoneFront,
-    codes: &[u8; 72],
-    values: &[f64; 600],
-    directions: &[u8; 24],
-    opens: &[u8; 24],
-    delta_t: f64,
+// The arrays of no matrix.
+pub fn hold_none(
     flags: &mut [bool; 2],
-    step: &mut [u64; 1],
-    sums: &mut [f64; 2],
-    kept_directions: &mut [u8; 24],
-    kept_opens: &mut [u8; 24],
+    numbers: &mut [f64; 3],
+    key: &mut [u8; 48],
     two_nodes: &mut [bool; 24],
     diag: &mut [f64; 120],
     next: &mut [f64; 120],
@@ -128,24 +129,45 @@ pub fn keep_factors(
     interchanges: &mut [usize; 25],
     column: &mut [f64; 25],
 )
-    requires { ⌜ T (fits binary64 «delta_t») ⌝ }
-    ensures { λ _. ⌜ (Kept (zoneIn z (now (codes .entry)) (now (values .entry))) (now (flags .entry)) (now (step .entry)) (now (sums .entry)) (now («kept_directions» .entry)) (now («kept_opens» .entry)) (now («two_nodes» .entry)) (now (diag .entry)) (now (next .entry)) (now (prev .entry)) (now (dense .entry)) (now (interchanges .entry)) (now (column .entry))
-        → Kept (zoneIn z (now (codes .entry)) (now (values .entry))) (now (flags .exit)) (now (step .exit)) (now (sums .exit)) (now («kept_directions» .exit)) (now («kept_opens» .exit)) (now («two_nodes» .exit)) (now (diag .exit)) (now (next .exit)) (now (prev .exit)) (now (dense .exit)) (now (interchanges .exit)) (now (column .exit))
-        × FactorsOf (zoneIn z (now (codes .entry)) (now (values .entry))) (now (directions .entry)) (now (opens .entry)) «delta_t» (factors (getD (now (flags .exit)) 1 false) (now («two_nodes» .exit)) (now (diag .exit)) (now (next .exit)) (now (prev .exit)) (now (dense .exit)) (now (interchanges .exit)) (now (column .exit))) (now (sums .exit))) ⌝ }
+    ensures { λ _. ⌜ held (now (flags .exit)) (now (numbers .exit)) (now (key .exit)) (arrays (now («two_nodes» .exit)) (now (diag .exit)) (now (next .exit)) (now (prev .exit)) (now (dense .exit)) (now (interchanges .exit))) (now (column .exit)) ≡ noneHeld ⌝ }
+{
+    *flags = [false; 2];
+    *numbers = [0.0; 3];
+    *key = [0; 48];
+    *two_nodes = [false; 24];
+    *diag = [0.0; 120];
+    *next = [0.0; 120];
+    *prev = [0.0; 120];
+    *dense = [0.0; 625];
+    *interchanges = [0; 25];
+    *column = [0.0; 25];
+}
+
+// The hour's matrix but its last column, factored in the arrays, unless they hold it. `numbers` are the sums over the elements and the timestep.
+pub fn keep_factors(
+    z: ZoneFront,
+    codes: &[u8; 72],
+    values: &[f64; 600],
+    directions: &[u8; 24],
+    opens: &[u8; 24],
+    delta_t: f64,
+    flags: &mut [bool; 2],
+    numbers: &mut [f64; 3],
+    key: &mut [u8; 48],
+    two_nodes: &mut [bool; 24],
+    diag: &mut [f64; 120],
+    next: &mut [f64; 120],
+    prev: &mut [f64; 120],
+    dense: &mut [f64; 625],
+    interchanges: &mut [usize; 25],
+    column: &mut [f64; 25],
+)
+    ensures { λ _. ⌜ held (now (flags .exit)) (now (numbers .exit)) (now (key .exit)) (arrays (now («two_nodes» .exit)) (now (diag .exit)) (now (next .exit)) (now (prev .exit)) (now (dense .exit)) (now (interchanges .exit))) (now (column .exit))
+        ≡ keepFactors (zoneIn z (now (codes .entry)) (now (values .entry))) (now (directions .entry)) (now (opens .entry)) «delta_t» (held (now (flags .entry)) (now (numbers .entry)) (now (key .entry)) (arrays (now («two_nodes» .entry)) (now (diag .entry)) (now (next .entry)) (now (prev .entry)) (now (dense .entry)) (now (interchanges .entry))) (now (column .entry))) ⌝ }
 {
     let n = at_most_24(z.count);
-    let bits = bits_of(delta_t);
     let held = flags[0];
-    if same_key(
-        held,
-        step[0],
-        bits,
-        n,
-        kept_directions,
-        directions,
-        kept_opens,
-        opens,
-    ) {
+    if same_key(held, numbers[2], delta_t, n, key, directions, opens) {
         return;
     }
     clear(held, two_nodes, diag, next, prev, dense, interchanges);
@@ -166,8 +188,6 @@ pub fn keep_factors(
     *column = last;
     let valid = factor_columns(n, two_nodes, diag, next, prev, dense, interchanges);
     *flags = [true, valid];
-    *step = [bits];
-    *sums = [total.area_el_total, total.convective];
-    *kept_directions = *directions;
-    *kept_opens = *opens;
+    *numbers = [total.area_el_total, total.convective, delta_t];
+    *key = key_of(directions, opens);
 }

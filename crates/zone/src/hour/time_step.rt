@@ -30,23 +30,23 @@ pub struct ZoneTerms {
     pub f_sol_c: f64,
 }
 
-// From the sums over the elements.
+// From the kept numbers, whose first two are the sums over the elements.
 pub fn terms_of(
     c: Coefficients,
     z: ZoneFront,
     hour: HourFront,
     delta_t: f64,
     t: &[f64; 121],
-    sums: &[f64; 2],
+    numbers: &[f64; 3],
 ) -> ZoneTerms
-    ensures { λ r. ⌜ r ≡ termsBy c (zoneOf z []) (hourOf hour []) «delta_t» (now (t .entry)) (now (sums .entry)) ⌝ }
+    ensures { λ r. ⌜ r ≡ termsBy c (zoneOf z []) (hourOf hour []) «delta_t» (now (t .entry)) (now (numbers .entry)) ⌝ }
 {
     let c_int = c.k_m_int * z.useful_area;
     ZoneTerms {
         n: at_most_24(z.count),
-        area_el_total: sums[0],
+        area_el_total: numbers[0],
         c_int_per_delta_t: c_int / delta_t,
-        convective: sums[1],
+        convective: numbers[1],
         tb_heat_trans_coeff: z.tb_heat_trans_coeff,
         temp_int_air: t[120],
         temp_ext_air: hour.temp_ext_air,

@@ -18,15 +18,19 @@ fn rows_five(e: Element, delta_t: f64, h_ci: f64, share: f64) -> Rows
 {
     let k_pli = e.k_pli;
     let h_pli = e.h_pli;
+    let h0 = h_pli[0];
+    let h1 = h_pli[1];
+    let h2 = h_pli[2];
+    let h3 = h_pli[3];
     let diag = [
-        k_pli[0] / delta_t + e.h_ce + e.h_re + h_pli[0],
-        k_pli[1] / delta_t + h_pli[1] + h_pli[0],
-        k_pli[2] / delta_t + h_pli[2] + h_pli[1],
-        k_pli[3] / delta_t + h_pli[3] + h_pli[2],
-        k_pli[4] / delta_t + h_ci + e.h_ri * 1.0 + h_pli[3] - share * e.h_ri,
+        k_pli[0] / delta_t + e.h_ce + e.h_re + h0,
+        k_pli[1] / delta_t + h1 + h0,
+        k_pli[2] / delta_t + h2 + h1,
+        k_pli[3] / delta_t + h3 + h2,
+        k_pli[4] / delta_t + h_ci + e.h_ri * 1.0 + h3 - share * e.h_ri,
     ];
-    let next = [-h_pli[0], -h_pli[1], -h_pli[2], -h_pli[3], 0.0];
-    let prev = [0.0, -h_pli[0], -h_pli[1], -h_pli[2], -h_pli[3]];
+    let next = [-h0, -h1, -h2, -h3, 0.0];
+    let prev = [0.0, -h0, -h1, -h2, -h3];
     Rows { diag, next, prev }
 }
 

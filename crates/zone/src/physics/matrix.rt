@@ -143,9 +143,10 @@ fn couple_row(
     ensures { λ _. ⌜ now (m .exit)
         ≡ coupleRow n (at (now (area .entry))) (at (now («h_ri» .entry))) (at (now («h_ci» .entry))) (at (now (share .entry))) i (now (m .entry)) ⌝ }
 {
+    let h = h_ci[i];
     couplings(n, share, h_ri[i], i, m);
-    set_entry(m, i, n, -h_ci[i]);
-    set_entry(m, n, i, -area[i] * h_ci[i]);
+    set_entry(m, i, n, -h);
+    set_entry(m, n, i, -area[i] * h);
 }
 
 pub fn couple_rows(

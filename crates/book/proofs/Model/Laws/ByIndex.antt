@@ -60,7 +60,7 @@ module _ (L : Interface) (W : Laws L) (z : L .Zone) where
   behind : (bs : List ℕ) (k : ℕ) → k < length (cs bs) → cs (restAt L z bs k) ≡ getD (cs bs) k [] ∷ drop (suc k) (cs bs)
   behind bs k lt = rest-at bs k ∙ drop-cons (cs bs) k [] lt
 
-  pub entry-at : (bs : List ℕ) (k : ℕ) → k < length (cs bs) → entryAt L z bs k ≡ getD (cs bs) k []
+  entry-at : (bs : List ℕ) (k : ℕ) → k < length (cs bs) → entryAt L z bs k ≡ getD (cs bs) k []
   unfolding entryAt
   entry-at bs k lt = here (restAt L z bs k) (getD (cs bs) k []) (drop (suc k) (cs bs)) (behind bs k lt) .1
 
@@ -73,7 +73,7 @@ module _ (L : Interface) (W : Laws L) (z : L .Zone) where
       go none e rec = rw e (omega arith)
       go (some n) e rec = rw e (omega (arith, rec n))
 
-  pub number-is : (bs : List ℕ) → numberOfEntries L z bs ≡ length (cs bs)
+  number-is : (bs : List ℕ) → numberOfEntries L z bs ≡ length (cs bs)
   unfolding numberOfEntries wholeEntries
   number-is bs =
       first-is (length bs) (length (cs bs)) (λ k. eqb (firstEntryLength L z (restAt L z bs k)) 0) (at-most (length bs) bs)
@@ -81,7 +81,7 @@ module _ (L : Interface) (W : Laws L) (z : L .Zone) where
       ne-eqb (firstEntryLength L z (restAt L z bs k)) 0 (λ e. omega arith))
       (λ lt. eq-eqb _ _ (not-here (restAt L z bs (length (cs bs))) (rest-at bs (length (cs bs)) ∙ drop-length (cs bs))))
 
-  pub items-before : (bs : List ℕ) (k : ℕ) → k ≤ length (cs bs) → itemsBefore L z bs k ≡ map (L .itemOf z) (take k (cs bs))
+  items-before : (bs : List ℕ) (k : ℕ) → k ≤ length (cs bs) → itemsBefore L z bs k ≡ map (L .itemOf z) (take k (cs bs))
   unfolding itemsBefore
   items-before bs zero h = refl
   items-before bs (suc k) h =

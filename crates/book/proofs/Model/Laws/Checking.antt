@@ -20,7 +20,7 @@ use Rattle.book.proofs.Model.Laws.Bytes.{true-not-false, equal-self, eq
 use Rattle.book.proofs.Model.Laws.Entries.{Entries, bytesOf, entries-cons}
 
 module _ (L : Interface) where
-  pub check-ok : (k : ℕ) (c : List ℕ) (r : Result (Written (L .State))) (t : L .State) → checkEntry L k c r ≡ ok t → r ≡ ok (record { bytes = c; after = t })
+  check-ok : (k : ℕ) (c : List ℕ) (r : Result (Written (L .State))) (t : L .State) → checkEntry L k c r ≡ ok t → r ≡ ok (record { bytes = c; after = t })
   check-ok k c (ok e) t h = go (equalBytes (e .bytes) c) refl h
     where
       go : (b : Bool) → equalBytes (e .bytes) c ≡ b → cond b (ok (e .after)) (refused falseEntry k) ≡ ok t → ok e ≡ ok (record { bytes = c; after = t })
@@ -29,7 +29,7 @@ module _ (L : Interface) where
   check-ok k c (refused n j) t h = cc
 
   -- refused: 18 at its index, and the step does not give this entry
-  pub check-refused : (k : ℕ) (d : List ℕ) (r : Result (Written (L .State))) (c j : ℕ) → checkEntry L k d r ≡ refused c j
+  check-refused : (k : ℕ) (d : List ℕ) (r : Result (Written (L .State))) (c j : ℕ) → checkEntry L k d r ≡ refused c j
       → (c ≡ falseEntry) × (j ≡ k) × ((t : L .State) → r ≡ ok (record { bytes = d; after = t }) → ⊥)
   check-refused k d (refused n i) c j h = (cc, cc, λ t e. ok-not-refused (record { bytes = d; after = t }) n i (sym e))
   check-refused k d (ok e) c j h = go (equalBytes (e .bytes) d) refl h
@@ -74,7 +74,7 @@ module _ (L : Interface) where
         values = (λ i. record { state = lastState (b .0) (r .es); count = n i; used = w i }) ∙ r .values;
       }
 
-  pub check-accepts : (z : L .Zone) (k : ℕ) (s : L .State) (u : ℕ) (cs : List (List ℕ)) (es : Entries L)
+  check-accepts : (z : L .Zone) (k : ℕ) (s : L .State) (u : ℕ) (cs : List (List ℕ)) (es : Entries L)
       → entriesOf L z k s (map (L .itemOf z) cs) ≡ ok es → bytesOf es ≡ cs → k + length cs ≤ L .limit
       → checkEntries L z k s u cs ≡ ok (record { state = lastState s es; count = k + length cs; used = u + length (concat cs) })
   unfolding entriesOf checkEntries

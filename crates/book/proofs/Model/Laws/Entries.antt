@@ -58,7 +58,7 @@ module _ (L : Interface) where
       let b = bind-ok (entriesOf L z (k + 1) (a .0 .after) is) _ es (a .2) in
       record { e = a .0; stepped = a .1; others = b .0; rest = b .1; joined = ok-inj (b .2) }
 
-  pub cons-entries : (z : L .Zone) (k : ℕ) (s : L .State) (i : L .Item) (is : List (L .Item)) (e : Written (L .State)) (es : Entries)
+  cons-entries : (z : L .Zone) (k : ℕ) (s : L .State) (i : L .Item) (is : List (L .Item)) (e : Written (L .State)) (es : Entries)
       → L .step z k s i ≡ ok e → entriesOf L z (k + 1) (e .after) is ≡ ok es → entriesOf L z k s (i ∷ is) ≡ ok (entry i e ∷ es)
   unfolding entriesOf
   cons-entries z k s i is e es p q = bind-is _ _ _ _ p (bind-is _ _ _ _ q refl)

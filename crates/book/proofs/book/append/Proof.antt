@@ -12,5 +12,5 @@ returns c = search append-zone
 pub append-spec : {M : Type 1} → statement M
 append-spec =
     tie.close
-    (tie.spec (λ c κs. search needs) (λ c. search needs) (λ c κs. search needs) (λ c. search needs)
+    (tie.spec (λ c κs. tt) (λ c. search needs) (λ c κs. tt) (λ c. search needs)
     append-hour-requires returns (λ c. search needs) (λ c. search needs))

@@ -22,5 +22,5 @@ returns-2 c = search append-cases
 pub append-entry-spec : {M : Type 1} → statement M
 append-entry-spec =
     tie.close
-    (tie.spec entry-length-requires (λ c κs. search needs) put-entry-requires (λ c. search needs) add-accept-2
-    (λ c κs. search needs) (λ c κs. search needs) (λ c. search needs) returns returns-2)
+    (tie.spec entry-length-requires (λ c κs. tt) put-entry-requires (λ c. search needs) add-accept-2
+    (λ c κs. tt) (λ c κs. tt) (λ c. search needs) returns returns-2)

@@ -22,7 +22,7 @@ returns-4 c = search begin-cases
 pub begin-spec : {M : Type 1} → statement M
 begin-spec =
     tie.close
-    (tie.spec (λ c κs. search needs) (λ c. search needs) (λ c κs. search needs) (λ c. search needs)
-    (λ c κs. search needs) (λ c. search needs) (λ c κs. search needs) (λ c. search needs)
-    (λ c κs. search needs) returns copy-requires (λ c κs. search needs) returns-2 returns-3
+    (tie.spec (λ c κs. tt) (λ c. search needs) (λ c κs. tt) (λ c. search needs)
+    (λ c κs. tt) (λ c. search needs) (λ c κs. tt) (λ c. search needs)
+    (λ c κs. tt) returns copy-requires (λ c κs. tt) returns-2 returns-3
     (λ c. search needs) returns-4)

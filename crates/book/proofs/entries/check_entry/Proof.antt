@@ -1,4 +1,4 @@
-use Rattle.zone.proofs.Promise.{tested-few}
+use Rattle.zone.proofs.Promise.{tested-few, next-kept}
 use Rattle.book.proofs.Laws.Entry.{whole-few}
 use Rattle.book.proofs.Calls.{hour-size, hour-written}
 use Rattle.book.proofs.TakeUp.{entry-cases}
@@ -6,39 +6,48 @@ use borrow.Author.Needs.{needs}
 use Rattle.book.proofs.entries.check_entry.Statement.{statement}
 use Rattle.book.proofs.entries.check_entry.Tie as tie
 
+-- h: back at the hour step; l: at the length of the conditions; s: at the start
 is-entry-requires : tie.Need-is-entry-requires
 is-entry-requires c κs =
-    let s = c .before .before .before .before .before .before .before .before .before .before .before .before .before .before .before .before .before .before .before .before .before in
-    let hour = c .before .before .before .before .before .next-hour .ensures (s .pre .2) .1 in
-    let size = c .before .before .before .before .before .before .before .before .before .before .before .before .before .before .before .before .before .before .before .conditions-length .ensures in
+    let h = c .before .before .before .before .before in
+    let l = h .before .before .before .before .before .before .before .before .before .before .before .before in
+    let s = l .before .before in
+    let hour = next-kept _ _ _ _ _ _ _ (h .next-hour-kept .ensures) (s .pre .2) .1 in
+    let size = l .conditions-length .ensures in
     let given = c .before .before .before .a .given .1 in
     let tested = s .pre .0 in
     let whole = s .pre .1 in
-    (search (tested-few, tested), search (hour-size, hour, size, given, tested, whole), search (hour, size, given, tested, whole), hour-written _ _ _ tested _ _ _ hour _ given, search (tested-few, whole-few, tested, whole))
+    (search (tested-few, tested), search (hour-size, hour, given, tested), search whole, hour-written _ _ _ tested _ _ _ hour _ given, search (tested-few, whole-few, tested))
 
 returns : tie.Need-returns
 returns c =
-    let s = c .before .before .before .before .before .before .before .before .before .before .before .before .before .before .before .before .before .before .before in
-    let kept = c .before .before .before .next-hour .ensures (s .pre .2) in
-    (search (entry-cases, kept .1, s .pre .0, c .before .before .before .before .before .before .before .before .before .before .before .before .before .before .before .before .before .conditions-length .ensures, c .before .enum-told .given .1, c .false-entry .ensures), kept .0)
+    let h = c .before .before .before in
+    let l = h .before .before .before .before .before .before .before .before .before .before .before .before in
+    let s = l .before .before in
+    let kept = next-kept _ _ _ _ _ _ _ (h .next-hour-kept .ensures) (s .pre .2) in
+    (search (entry-cases, kept .1, s .pre .0, l .conditions-length .ensures, c .before .enum-told .given .1, c .false-entry .ensures), kept .0)
 
 returns-2 : tie.Need-returns-2
 returns-2 c =
-    let s = c .before .before .before .before .before .before .before .before .before .before .before .before .before .before .before .before .before .before .before .before .before .before .before in
-    let kept = c .before .before .before .before .before .before .before .next-hour .ensures (s .pre .2) in
-    (search (entry-cases, kept .1, s .pre .0, c .before .before .before .before .before .before .before .before .before .before .before .before .before .before .before .before .before .before .before .before .before .conditions-length .ensures, c .before .before .before .before .before .a .given .1, c .before .is-entry .ensures, c .if1 .taken), kept .0)
+    let h = c .before .before .before .before .before .before .before in
+    let l = h .before .before .before .before .before .before .before .before .before .before .before .before in
+    let s = l .before .before in
+    let kept = next-kept _ _ _ _ _ _ _ (h .next-hour-kept .ensures) (s .pre .2) in
+    (search (entry-cases, kept .1, s .pre .0, l .conditions-length .ensures, c .before .before .before .before .before .a .given .1, c .before .is-entry .ensures, c .if1 .taken), kept .0)
 
 returns-3 : tie.Need-returns-3
 returns-3 c =
-    let s = c .before .before .before .before .before .before .before .before .before .before .before .before .before .before .before .before .before .before .before .before .before .before .before .before in
-    let kept = c .before .before .before .before .before .before .before .before .next-hour .ensures (s .pre .2) in
-    (search (entry-cases, kept .1, s .pre .0, c .before .before .before .before .before .before .before .before .before .before .before .before .before .before .before .before .before .before .before .before .before .before .conditions-length .ensures, c .before .before .before .before .before .before .a .given .1, c .before .before .is-entry .ensures, c .before .if1 .left, c .false-entry2 .ensures), kept .0)
+    let h = c .before .before .before .before .before .before .before .before in
+    let l = h .before .before .before .before .before .before .before .before .before .before .before .before in
+    let s = l .before .before in
+    let kept = next-kept _ _ _ _ _ _ _ (h .next-hour-kept .ensures) (s .pre .2) in
+    (search (entry-cases, kept .1, s .pre .0, l .conditions-length .ensures, c .before .before .before .before .before .before .a .given .1, c .before .before .is-entry .ensures, c .before .if1 .left, c .false-entry2 .ensures), kept .0)
 
 pub check-entry-spec : {M : Type 1} → statement M
 check-entry-spec =
     tie.close
     (tie.spec (λ c κs. search tested-few) (λ c. search (needs, tested-few)) (λ c. search (needs, tested-few)) (λ c. search needs)
-    (λ c. search needs) (λ c κs. search needs) (λ c. search needs) (λ c κs. search needs)
+    (λ c. search needs) (λ c κs. tt) (λ c. search needs) (λ c κs. tt)
     (λ c. search needs) (λ c. search needs) (λ c. search needs)
-    (λ c. search (needs, c .before .before .before .before .before .before .before .before .before .before .before .before .before .before .before .before .before .before .conditions-length .ensures, c .before .before .before .before .before .before .before .before .before .before .before .before .before .before .before .before .before .before .before .before .pre .1)) is-entry-requires
-    (λ c κs. search needs) returns returns-2 returns-3)
+    (λ c. let l = c .before .before .before .before .before .before .before .before .before .before .before .before .before .before .before .before in search (needs, l .conditions-length .ensures, l .before .before .pre .1)) is-entry-requires
+    (λ c κs. tt) returns returns-2 returns-3)

@@ -26,5 +26,5 @@ pub chain-divisors-valid-spec : {M : Type 1} → statement M
 chain-divisors-valid-spec =
     tie.close
     (tie.spec Inv-loop μ-loop (λ c κs. search needs) (λ c. refl) (λ c. search needs) (λ c. search needs)
-    (λ c. search needs) (λ c. search needs) (λ c κs. search needs) (λ c. search needs) (λ c. search needs)
+    (λ c. search needs) (λ c. search needs) (λ c κs. tt) (λ c. search needs) (λ c. search needs)
     (λ c. search (needs, all-turn)) returns)

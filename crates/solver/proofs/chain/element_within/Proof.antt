@@ -26,5 +26,5 @@ pub element-within-spec : {M : Type 1} → statement M
 element-within-spec =
     tie.close
     (tie.spec Inv-loop μ-loop (λ c κs. search needs) (λ c. refl) (λ c. search needs) (λ c. search needs)
-    (λ c. search needs) (λ c. search needs) (λ c κs. search needs) (λ c. search needs) (λ c. search needs)
+    (λ c. search needs) (λ c. search needs) (λ c κs. tt) (λ c. search needs) (λ c. search needs)
     (λ c. search (needs, all-turn)) returns)

@@ -24,5 +24,5 @@ returns c = rw (← c .before .before .within-state-bound .ensures) (search (nee
 pub nodes-within-spec : {M : Type 1} → statement M
 nodes-within-spec =
     tie.close
-    (tie.spec Inv-loop μ-loop (λ c. search needs) (λ c κs. search needs) (λ c. refl) (λ c κs. search needs)
+    (tie.spec Inv-loop μ-loop (λ c. search needs) (λ c κs. tt) (λ c. refl) (λ c κs. search needs)
     (λ c. search needs) (λ c. search needs) loop-again returns)

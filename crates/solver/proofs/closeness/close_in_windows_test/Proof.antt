@@ -1,7 +1,6 @@
 use lib.Ieee.{ofBits}
 use Rattle.solver.specs.F64.{decimal}
 use Rattle.solver.specs.Closeness.{closeInWindowsTest}
-use borrow.Author.Needs.{needs}
 use Rattle.solver.proofs.closeness.close_in_windows_test.Statement.{statement}
 use Rattle.solver.proofs.closeness.close_in_windows_test.Tie as tie
 
@@ -11,4 +10,4 @@ unfolding closeInWindowsTest ofBits decimal
 returns c = c .relative-eq .ensures
 
 pub close-in-windows-test-spec : {M : Type 1} → statement M
-close-in-windows-test-spec = tie.close (tie.spec (λ c κs. search needs) returns)
+close-in-windows-test-spec = tie.close (tie.spec (λ c κs. tt) returns)

@@ -1,7 +1,6 @@
 use lib.Ieee.{ofBits}
 use Rattle.solver.specs.F64.{decimal}
 use Rattle.solver.specs.Closeness.{isclose}
-use borrow.Author.Needs.{needs}
 use Rattle.solver.proofs.closeness.isclose.Statement.{statement}
 use Rattle.solver.proofs.closeness.isclose.Tie as tie
 
@@ -11,4 +10,4 @@ unfolding isclose ofBits decimal
 returns c = c .relative-eq .ensures
 
 pub isclose-spec : {M : Type 1} → statement M
-isclose-spec = tie.close (tie.spec (λ c κs. search needs) returns)
+isclose-spec = tie.close (tie.spec (λ c κs. tt) returns)

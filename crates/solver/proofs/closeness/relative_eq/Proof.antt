@@ -1,6 +1,5 @@
 use borrow.Author.Tests.{not-true, not-false}
 use Rattle.solver.specs.Closeness.{relativeEq}
-use borrow.Author.Needs.{needs}
 use Rattle.solver.proofs.closeness.relative_eq.Statement.{statement}
 use Rattle.solver.proofs.closeness.relative_eq.Tie as tie
 
@@ -55,5 +54,5 @@ returns-5 c =
 pub relative-eq-spec : {M : Type 1} → statement M
 relative-eq-spec =
     tie.close
-    (tie.spec returns (λ c κs. search needs) returns-2 (λ c κs. search needs) returns-3 (λ c κs. search needs)
-    returns-4 (λ c κs. search needs) (λ c κs. search needs) (λ c κs. search needs) returns-5)
+    (tie.spec returns (λ c κs. tt) returns-2 (λ c κs. tt) returns-3 (λ c κs. tt)
+    returns-4 (λ c κs. tt) (λ c κs. tt) (λ c κs. tt) returns-5)

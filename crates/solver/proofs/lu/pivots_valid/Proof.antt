@@ -28,5 +28,5 @@ returns c = search (needs, all-end)
 pub pivots-valid-spec : {M : Type 1} → statement M
 pivots-valid-spec =
     tie.close
-    (tie.spec Inv-loop μ-loop (λ c. refl) (λ c κs. search needs) (λ c κs. search needs) (λ c. search needs)
+    (tie.spec Inv-loop μ-loop (λ c. refl) (λ c κs. search needs) (λ c κs. tt) (λ c. search needs)
     (λ c. search needs) loop-again returns)

@@ -49,5 +49,5 @@ pub pivot-row-spec : {M : Type 1} → statement M
 pivot-row-spec =
     tie.close
     (tie.spec Inv-loop μ-loop (λ c. search needs) (λ c. search needs) (λ c. search needs) (λ c. search needs)
-    (λ c κs. search needs) loop-holds (λ c. search needs) (λ c. search needs) (λ c. search needs)
-    (λ c. search needs) (λ c κs. search needs) (λ c. search needs) (λ c. search needs) loop-again returns)
+    (λ c κs. tt) loop-holds (λ c. search needs) (λ c. search needs) (λ c. search needs)
+    (λ c. search needs) (λ c κs. tt) (λ c. search needs) (λ c. search needs) loop-again returns)

@@ -12,7 +12,7 @@ pub factor-columns-spec : {M : Type 1} → statement M
 factor-columns-spec =
     tie.close
     (tie.spec
-    (λ c κs. search needs)
+    (λ c κs. tt)
     (λ c κs. search needs)
     (λ c κs. search needs)
     (λ c κs. search needs)

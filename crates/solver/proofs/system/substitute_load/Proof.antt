@@ -11,7 +11,7 @@ pub substitute-load-spec : {M : Type 1} → statement M
 substitute-load-spec =
     tie.close
     (tie.spec
-    (λ c κs. search needs)
+    (λ c κs. tt)
     (λ c κs. search needs)
     (λ c κs. search needs)
     returns)

@@ -11,7 +11,7 @@ pub substitute-reduced-spec : {M : Type 1} → statement M
 substitute-reduced-spec =
     tie.close
     (tie.spec
-    (λ c κs. search needs)
+    (λ c κs. tt)
     (λ c κs. search needs)
     (λ c κs. search needs)
     returns)

@@ -1,8 +1,11 @@
-use Rattle.zone.proofs.Laws.StartUp.{settle-start, settle-at-limit, settle-refused, settle-settled, settle-next}
+use Rattle.zone.proofs.Laws.Kept.{open-in, none-kept-in}
+use Rattle.zone.proofs.Laws.KeptHour.{kept-hour}
+use Rattle.zone.proofs.Laws.StartUp.{settle-start, settle-at-limit, settle-ends, settle-next}
 use Rattle.zone.proofs.Laws.FirstHours.{start-conditions}
 use Rattle.zone.specs.Calls.StartUp.{startUpConditions, startState, settle}
 use Rattle.zone.specs.Calls.State.{slotsOf}
-use Rattle.zone.specs.Inner.Lent.{zoneIn, conditionsIn}
+use Rattle.zone.specs.Inner.Lent.{elementsIn, zoneIn, conditionsIn}
+use Rattle.zone.specs.Inner.Kept.{arrays, held, Kept}
 use Rattle.zone.specs.Record.BuildingElement.{standardCoefficients}
 use native.Mathlib.Omega.{arith}
 use mathlib.Core.Path.{_≡_, refl}
@@ -12,38 +15,62 @@ use Rattle.zone.proofs.calls.start_up.settle.Statement.{statement}
 use Rattle.zone.proofs.calls.start_up.settle.Tie as tie
 
 abbrev Inv-loop : tie.InvT-loop
-Inv-loop z codes values h parts opens limit t₀ passes₀ t passes =
+Inv-loop z codes values flags₀ numbers₀ key₀ two-nodes₀ diag₀ next₀ prev₀ dense₀ interchanges₀ column₀ h parts opens t₀ after₀ passes₀ flags numbers key two-nodes diag next prev dense interchanges column t after passes =
     let zone = zoneIn z codes values in
     (conditionsIn h parts opens ≡ startUpConditions zone)
-    × (limit ≡ z .«start_up_limit»)
+    × Kept zone (held flags numbers key (arrays two-nodes diag next prev dense interchanges) column)
     × (settle standardCoefficients zone (z .«start_up_limit») (slotsOf zone (startState zone)) ≡ settle standardCoefficients zone (z .«start_up_limit» - passes) t)
 
 abbrev μ-loop : tie.MeasureT-loop
-μ-loop z codes values h parts opens limit t₀ passes₀ t passes = limit - passes
+μ-loop z codes values flags₀ numbers₀ key₀ two-nodes₀ diag₀ next₀ prev₀ dense₀ interchanges₀ column₀ h parts opens t₀ after₀ passes₀ flags numbers key two-nodes diag next prev dense interchanges column t after passes =
+    z .«start_up_limit» - passes
 
 loop-holds : tie.Need-loop-holds Inv-loop μ-loop
-loop-holds c = (start-conditions _ _ _ _ (c .before .before .before .before .start-up-conditions .ensures) (c .before .first-hours .ensures), refl, settle-start _ _ _ _ (c .start-slots .ensures))
+loop-holds c =
+    let s = c .before .before .before .before .before in (
+      start-conditions _ _ _ _ (c .before .before .before .before .start-up-conditions .ensures) (c .before .first-hours .ensures),
+      none-kept-in (zoneIn (s .args .z) (s .args .codes .now) (s .args .values .now)) _ (s .pre),
+      settle-start _ _ _ _ (c .start-slots .ensures),
+    )
 
-pass-requires : tie.Need-pass-requires Inv-loop μ-loop
-pass-requires c κs = c .before .before .before .loop .inv .0
-
+-- back at a pass, and at the test of the limit
 loop-again : tie.Need-loop-again Inv-loop μ-loop
-loop-again c = let l = c .before .before .before .before .before .before .before .before .before .loop in
-    (l .inv .0, l .inv .1, settle-next _ _ _ _ _ (l .inv .2) (omega (arith, l .inv .1, c .before .before .before .before .before .before .before .before .if1 .left)) _ _ (c .before .before .before .before .before .pass .ensures) (c .before .before .enum-told .given .1) _ (c .before .close .ensures) (c .if2 .left))
+loop-again c =
+    let p = c .before .before .before .before in
+    let l = p .before .before .before .before .before .before .before .before .before .before .before .before .before .before .before in
+    let v = l .before .before .loop in
+    let i = v .inv in
+    let e = p .hour-kept .ensures in
+    let a = l .before .before .before .before .before .before .before .before .args in
+    let f =
+    kept-hour (a .z) (elementsIn (a .codes .now) (a .values .now)) (v .t) _ _ _ (open-in _ _) _ (v .after)
+    (held (v .flags) (v .numbers) (v .key) (arrays (v .two-nodes) (v .diag) (v .next) (v .prev) (v .dense) (v .interchanges)) (v .column)) _ (e .0) _ (e .1) (i .1) in
+    (i .0, f .0, settle-next (zoneIn (a .z) (a .codes .now) (a .values .now)) _ _ (v .t) (v .passes) (i .2) (l .if1 .left) _ (i .0) (v .after) _ (p .hour-kept .result) (f .1) _ (c .before .ends .ensures) (c .if2 .left))
 
 returns : tie.Need-returns Inv-loop μ-loop
-returns c = let l = c .before .before .loop in settle-at-limit _ _ _ _ _ (l .inv .2) _ (omega (arith, l .inv .1, c .before .if1 .taken)) (c .no-state .ensures)
+returns c = settle-at-limit _ _ _ _ _ (c .before .before .before .loop .inv .2) _ (c .before .if1 .taken) (c .no-state .ensures)
 
 returns-2 : tie.Need-returns-2 Inv-loop μ-loop
-returns-2 c = let l = c .before .before .before .before .before .before .before .before .before .loop in settle-refused _ _ _ _ _ (l .inv .2) (omega (arith, l .inv .1, c .before .before .before .before .before .before .before .before .if1 .left)) _ _ (c .before .before .before .before .before .pass .ensures) _ _ _ (c .before .before .verdict .given .1) (c .no-state2 .ensures)
-
-returns-3 : tie.Need-returns-3 Inv-loop μ-loop
-returns-3 c = let l = c .before .before .before .before .before .before .before .before .before .before .loop in settle-settled _ _ _ _ _ (l .inv .2) (omega (arith, l .inv .1, c .before .before .before .before .before .before .before .before .before .if1 .left)) _ _ (c .before .before .before .before .before .before .pass .ensures) (c .before .before .before .enum-told .given .1) _ (c .before .before .close .ensures) _ (c .before .if2 .taken) (c .settled .ensures)
+returns-2 c =
+    let e = c .before .before .before in
+    let p = e .before .before .before in
+    let l = p .before .before .before .before .before .before .before .before .before .before .before .before .before .before .before in
+    let v = l .before .before .loop in
+    let i = v .inv in
+    let h = p .hour-kept .ensures in
+    let a = l .before .before .before .before .before .before .before .before .args in
+    let f =
+    kept-hour (a .z) (elementsIn (a .codes .now) (a .values .now)) (v .t) _ _ _ (open-in _ _) _ (v .after)
+    (held (v .flags) (v .numbers) (v .key) (arrays (v .two-nodes) (v .diag) (v .next) (v .prev) (v .dense) (v .interchanges)) (v .column)) _ (h .0) _ (h .1) (i .1) in
+    settle-ends (zoneIn (a .z) (a .codes .now) (a .values .now)) _ _ (v .t) (v .passes) (i .2) (l .if1 .left) _ (i .0) (v .after) _ (p .hour-kept .result) (f .1) _ (e .ends .ensures) (c .before .before .if2 .taken) _ (c .settled .ensures)
 
 add-passes : tie.Need-add-passes Inv-loop μ-loop
-add-passes c = search (needs, c .before .before .before .before .before .before .before .before .if1 .left, c .before .before .before .before .before .before .before .before .before .before .before .before .before .before .before .good .0)
+add-passes c =
+    let l = c .before .before .before .before .before .before .before .before .before .before .before .before .before .before .before .before .before .before .before in
+    search (needs, l .if1 .left, l .before .before .before .before .before .before .before .before .good .0)
 
 pub settle-spec : {M : Type 1} → statement M
 settle-spec =
     tie.close
-    (tie.spec Inv-loop μ-loop (λ c κs. search needs) (λ c κs. record { of-parts = refl; of-opens = refl }) (λ c κs. search needs) loop-holds (λ c κs. search needs) pass-requires (λ c. search needs) (λ c κs. search needs) (λ c. search needs) (λ c κs. search needs) (λ c κs. search needs) add-passes (λ c. omega arith) loop-again returns returns-2 returns-3)
+    (tie.spec Inv-loop μ-loop (λ c κs. tt) (λ c κs. record { of-parts = refl; of-opens = refl }) (λ c κs. tt) loop-holds
+    (λ c κs. tt) (λ c κs. tt) (λ c κs. tt) (λ c κs. tt) add-passes (λ c. omega arith) loop-again returns returns-2)

@@ -1,5 +1,4 @@
 use mathlib.Core.Path.{refl}
-use borrow.Author.Needs.{needs}
 use Rattle.zone.proofs.calls.update.load_in_range.Statement.{statement}
 use Rattle.zone.proofs.calls.update.load_in_range.Tie as tie
 
@@ -9,4 +8,4 @@ returns c = rw (c .before .before .gains-in-range .ensures, c .before .fraction-
 pub load-in-range-spec : {M : Type 1} → statement M
 load-in-range-spec =
     tie.close
-    (tie.spec (λ c κs. search needs) (λ c κs. search needs) (λ c κs. search needs) returns)
+    (tie.spec (λ c κs. tt) (λ c κs. tt) (λ c κs. tt) returns)

@@ -22,11 +22,11 @@ loop-holds c = (omega arith, refl)
 
 loop-again : tie.Need-loop-again Inv-loop μ-loop
 loop-again c = let l = c .before .before .before .before .loop in let a = c .before .before .before .before .before .before .args in
-    (omega arith, l .inv .1 ∙ one-in withinStateBound (now (a .t)) (l .i) (a .n) (omega arith) (omega arith) (cc))
+    (omega arith, l .inv .1 ∙ one-in withinStateBound (now (a .t)) (l .i) (a .n) (omega arith) (omega arith) (sym (c .before .within-state-bound .ensures) ∙ c .if1 .taken))
 
 returns : tie.Need-returns Inv-loop μ-loop
 returns c = let l = c .before .before .before .before .loop in let a = c .before .before .before .before .before .before .args in
-    sym (l .inv .1 ∙ one-out withinStateBound (now (a .t)) (l .i) (a .n) (omega arith) (omega arith) (cc))
+    sym (l .inv .1 ∙ one-out withinStateBound (now (a .t)) (l .i) (a .n) (omega arith) (omega arith) (sym (c .before .within-state-bound .ensures) ∙ c .if1 .left))
 
 returns-2 : tie.Need-returns-2 Inv-loop μ-loop
 unfolding allIn
@@ -36,5 +36,5 @@ returns-2 c = let l = c .before .loop in let a = c .before .before .before .args
 pub first-within-state-bound-spec : {M : Type 1} → statement M
 first-within-state-bound-spec =
     tie.close
-    (tie.spec Inv-loop μ-loop loop-holds (λ c. search needs) (λ c. search needs) (λ c κs. search needs)
+    (tie.spec Inv-loop μ-loop loop-holds (λ c. search needs) (λ c. search needs) (λ c κs. tt)
     (λ c. search needs) (λ c. omega arith) loop-again returns returns-2)

@@ -9,4 +9,4 @@ returns c = rw (c .all-within-state-bound .ensures, c .before .before .node-coun
 pub state-valid-spec : {M : Type 1} → statement M
 state-valid-spec =
     tie.close
-    (tie.spec (λ c κs. search needs) (λ c. search needs) (λ c κs. search needs) returns)
+    (tie.spec (λ c κs. tt) (λ c. search needs) (λ c κs. tt) returns)

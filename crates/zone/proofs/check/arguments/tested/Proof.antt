@@ -13,5 +13,5 @@ returns-2 c = c .tested-hour .ensures ∙ sym (tested-on _ _ _ (c .before .befor
 pub tested-spec : {M : Type 1} → statement M
 tested-spec =
     tie.close
-    (tie.spec (λ c κs. search needs) (λ c. search needs) (λ c κs. search needs) (λ c. search needs)
+    (tie.spec (λ c κs. tt) (λ c. search needs) (λ c κs. tt) (λ c. search needs)
     (λ c κs. search needs) returns returns-2)

@@ -15,4 +15,4 @@ returns-3 c = state-refused _ _ _ (c .before .before .before .before .zone-test 
 pub zone-and-state-test-spec : {M : Type 1} → statement M
 zone-and-state-test-spec =
     tie.close
-    (tie.spec (λ c κs. search needs) (λ c. search needs) (λ c. search needs) (λ c κs. search needs) returns returns-2 returns-3)
+    (tie.spec (λ c κs. tt) (λ c. search needs) (λ c. search needs) (λ c κs. tt) returns returns-2 returns-3)

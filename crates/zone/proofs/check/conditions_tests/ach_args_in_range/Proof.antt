@@ -11,5 +11,5 @@ returns-2 c = rw (c .before .rate-in-range2 .ensures, c .rate-in-range3 .ensures
 pub ach-args-in-range-spec : {M : Type 1} → statement M
 ach-args-in-range-spec =
     tie.close
-    (tie.spec (λ c. search needs) (λ c κs. search needs) (λ c. search needs) (λ c κs. search needs)
-    (λ c κs. search needs) returns returns-2)
+    (tie.spec (λ c. search needs) (λ c κs. tt) (λ c. search needs) (λ c κs. tt)
+    (λ c κs. tt) returns returns-2)

@@ -60,6 +60,6 @@ returns-3 c = rw (sym (c .before .front-in-range .ensures) ∙ c .if1 .left)
 pub conditions-test-spec : {M : Type 1} → statement M
 conditions-test-spec =
     tie.close
-    (tie.spec Inv-loop μ-loop (λ c κs. search needs) loop-holds (λ c κs. omega arith)
-    (λ c κs. search needs) (λ c. search needs) (λ c. omega arith) loop-again (λ c. search needs) returns
+    (tie.spec Inv-loop μ-loop (λ c κs. tt) loop-holds (λ c κs. omega arith)
+    (λ c κs. tt) (λ c. search needs) (λ c. omega arith) loop-again (λ c. search needs) returns
     returns-2 returns-3)

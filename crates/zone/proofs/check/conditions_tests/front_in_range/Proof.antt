@@ -1,4 +1,3 @@
-use borrow.Author.Needs.{needs}
 use Rattle.zone.proofs.check.conditions_tests.front_in_range.Statement.{statement}
 use Rattle.zone.proofs.check.conditions_tests.front_in_range.Tie as tie
 
@@ -8,4 +7,4 @@ returns c = rw (c .before .before .hour-and-gains-in-range .ensures, c .before .
 pub front-in-range-spec : {M : Type 1} → statement M
 front-in-range-spec =
     tie.close
-    (tie.spec (λ c κs. search needs) (λ c κs. search needs) (λ c κs. search needs) returns)
+    (tie.spec (λ c κs. tt) (λ c κs. tt) (λ c κs. tt) returns)

@@ -1,5 +1,4 @@
 use Rattle.zone.specs.Format.Conditions.{hourAndGainsInRange}
-use borrow.Author.Needs.{needs}
 use Rattle.zone.proofs.check.conditions_tests.hour_and_gains_in_range.Statement.{statement}
 use Rattle.zone.proofs.check.conditions_tests.hour_and_gains_in_range.Tie as tie
 
@@ -10,5 +9,5 @@ returns c = rw (c .before .before .before .before .before .hour-length-in-range 
 pub hour-and-gains-in-range-spec : {M : Type 1} → statement M
 hour-and-gains-in-range-spec =
     tie.close
-    (tie.spec (λ c κs. search needs) (λ c κs. search needs) (λ c κs. search needs) (λ c κs. search needs)
-    (λ c κs. search needs) (λ c κs. search needs) returns)
+    (tie.spec (λ c κs. tt) (λ c κs. tt) (λ c κs. tt) (λ c κs. tt)
+    (λ c κs. tt) (λ c κs. tt) returns)

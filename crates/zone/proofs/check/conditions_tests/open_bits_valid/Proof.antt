@@ -49,5 +49,5 @@ pub open-bits-valid-spec : {M : Type 1} → statement M
 open-bits-valid-spec =
     tie.close
     (tie.spec Inv-loop μ-loop loop-holds (λ c. omega arith) (λ c. omega arith) (λ c. search needs)
-    (λ c κs. search needs) (λ c. omega arith) (λ c. omega arith) (λ c κs. search needs) (λ c. omega arith)
+    (λ c κs. tt) (λ c. omega arith) (λ c. omega arith) (λ c κs. tt) (λ c. omega arith)
     (λ c. search needs) (λ c. omega arith) loop-again returns returns-2)

@@ -1,7 +1,6 @@
 use lib.Ieee.{ofBits}
 use Rattle.solver.specs.F64.{decimal}
 use Rattle.zone.specs.Check.Ranges.{deltaRRange}
-use borrow.Author.Needs.{needs}
 use Rattle.zone.proofs.check.ranges.delta_r_in_range.Statement.{statement}
 use Rattle.zone.proofs.check.ranges.delta_r_in_range.Tie as tie
 
@@ -10,4 +9,4 @@ unfolding deltaRRange ofBits decimal
 returns c = c .all-inside .ensures
 
 pub delta-r-in-range-spec : {M : Type 1} → statement M
-delta-r-in-range-spec = tie.close (tie.spec (λ c κs. search needs) returns)
+delta-r-in-range-spec = tie.close (tie.spec (λ c κs. tt) returns)

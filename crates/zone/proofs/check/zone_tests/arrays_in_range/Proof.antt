@@ -10,5 +10,5 @@ returns c = rw (c .before .before .before .before .k-pli-in-range .ensures, c .b
 pub arrays-in-range-spec : {M : Type 1} → statement M
 arrays-in-range-spec =
     tie.close
-    (tie.spec (λ c. search needs) (λ c κs. search needs) (λ c. search needs) (λ c κs. search needs)
-    (λ c. search needs) (λ c κs. search needs) returns)
+    (tie.spec (λ c. search needs) (λ c κs. tt) (λ c. search needs) (λ c κs. tt)
+    (λ c. search needs) (λ c κs. tt) returns)

@@ -65,5 +65,5 @@ returns-3 c = let l = c .before .loop in let s = c .before .before .before .befo
 pub counts-test-spec : {M : Type 1} → statement M
 counts-test-spec =
     tie.close
-    (tie.spec Inv-loop μ-loop (λ c κs. search needs) returns loop-holds (λ c κs. omega arith) (λ c κs. search needs)
+    (tie.spec Inv-loop μ-loop (λ c κs. tt) returns loop-holds (λ c κs. omega arith) (λ c κs. tt)
     (λ c. search needs) returns-2 (λ c. search needs) (λ c. omega arith) loop-again returns-3)

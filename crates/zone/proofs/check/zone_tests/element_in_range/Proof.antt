@@ -1,6 +1,5 @@
 use Rattle.zone.specs.Check.ZoneTest.{elementInRange}
 use Rattle.zone.specs.Inner.Check.{arraysInRange, tailInRange}
-use borrow.Author.Needs.{needs}
 use Rattle.zone.proofs.check.zone_tests.element_in_range.Statement.{statement}
 use Rattle.zone.proofs.check.zone_tests.element_in_range.Tie as tie
 
@@ -11,5 +10,5 @@ returns c = rw (c .before .before .before .before .before .before .before .area-
 pub element-in-range-spec : {M : Type 1} → statement M
 element-in-range-spec =
     tie.close
-    (tie.spec (λ c κs. search needs) (λ c κs. search needs) (λ c κs. search needs) (λ c κs. search needs)
-    (λ c κs. search needs) (λ c κs. search needs) (λ c κs. search needs) (λ c κs. search needs) returns)
+    (tie.spec (λ c κs. tt) (λ c κs. tt) (λ c κs. tt) (λ c κs. tt)
+    (λ c κs. tt) (λ c κs. tt) (λ c κs. tt) (λ c κs. tt) returns)

@@ -26,5 +26,5 @@ returns-2 c = rw (verdict-accepted (countsTest (zone (c .before .before .before 
 pub zone-test-spec : {M : Type 1} → statement M
 zone-test-spec =
     tie.close
-    (tie.spec (λ c κs. search needs) (λ c. search needs) (λ c. search needs) values-test-requires returns
+    (tie.spec (λ c κs. tt) (λ c. search needs) (λ c. search needs) values-test-requires returns
     returns-2)

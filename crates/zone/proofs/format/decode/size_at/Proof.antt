@@ -8,5 +8,5 @@ returns c = rw (c .element-size .ensures, c .before .count-of .ensures .0, c .be
 pub size-at-spec : {M : Type 1} → statement M
 size-at-spec =
     tie.close
-    (tie.spec (λ c. search needs) (λ c κs. search needs) (λ c. search needs) (λ c. search needs)
-    (λ c κs. search needs) (λ c κs. search needs) returns)
+    (tie.spec (λ c. search needs) (λ c κs. tt) (λ c. search needs) (λ c. search needs)
+    (λ c κs. tt) (λ c κs. search needs) returns)

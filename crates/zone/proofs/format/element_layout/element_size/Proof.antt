@@ -10,4 +10,4 @@ returns-2 c = rw (← c .before .is-two-nodes .ensures, c .if1 .left)
 
 pub element-size-spec : {M : Type 1} → statement M
 element-size-spec =
-    tie.close (tie.spec (λ c κs. search needs) (λ c. search needs) (λ c. search needs) returns returns-2)
+    tie.close (tie.spec (λ c κs. tt) (λ c. search needs) (λ c. search needs) returns returns-2)

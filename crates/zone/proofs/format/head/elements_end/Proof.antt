@@ -55,8 +55,8 @@ returns-4 c = let l = c .before .loop in let a = c .before .before .before .args
 pub elements-end-spec : {M : Type 1} → statement M
 elements-end-spec =
     tie.close
-    (tie.spec Inv-loop μ-loop loop-holds (λ c. omega arith) (λ c κs. search needs) returns (λ c. search needs)
-    (λ c. search needs) (λ c. search needs) (λ c κs. search needs) (λ c κs. search needs)
-    (λ c κs. search needs) (λ c κs. search needs) (λ c. search needs) (λ c κs. search needs) returns-2
+    (tie.spec Inv-loop μ-loop loop-holds (λ c. omega arith) (λ c κs. tt) returns (λ c. search needs)
+    (λ c. search needs) (λ c. search needs) (λ c κs. tt) (λ c κs. tt)
+    (λ c κs. tt) (λ c κs. search needs) (λ c. search needs) (λ c κs. tt) returns-2
     (λ c. search needs) (λ c. search needs) (λ c. omega arith) loop-again (λ c. search needs) returns-3
     returns-4)

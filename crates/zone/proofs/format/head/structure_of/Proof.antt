@@ -30,5 +30,5 @@ returns-4 c = let e = c .before .before .before .read-u32-be in let s = now (c .
 pub structure-of-spec : {M : Type 1} → statement M
 structure-of-spec =
     tie.close
-    (tie.spec (λ c κs. search needs) returns (λ c κs. search needs) (λ c κs. search needs) returns-2
-    (λ c. search needs) (λ c κs. search needs) returns-3 structure-within-requires returns-4)
+    (tie.spec (λ c κs. tt) returns (λ c κs. search needs) (λ c κs. tt) returns-2
+    (λ c. search needs) (λ c κs. tt) returns-3 structure-within-requires returns-4)

@@ -27,6 +27,6 @@ returns-4 c = let a = c .before .before .before .before .before .before .before 
 pub read-conditions-spec : {M : Type 1} → statement M
 read-conditions-spec =
     tie.close
-    (tie.spec (λ c κs. search needs) returns (λ c. search needs) (λ c. search needs) (λ c κs. search needs)
+    (tie.spec (λ c κs. tt) returns (λ c. search needs) (λ c. search needs) (λ c κs. tt)
     returns-2 (λ c κs. search needs) (λ c κs. search needs) (λ c κs. search needs) returns-3
-    (λ c κs. search needs) returns-4)
+    (λ c κs. tt) returns-4)

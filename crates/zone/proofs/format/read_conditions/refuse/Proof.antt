@@ -1,4 +1,3 @@
-use borrow.Author.Needs.{needs}
 use Rattle.zone.proofs.format.read_conditions.refuse.Statement.{statement}
 use Rattle.zone.proofs.format.read_conditions.refuse.Tie as tie
 
@@ -6,4 +5,4 @@ returns : tie.Need-returns
 returns c = rw (c .no-hour-front .ensures)
 
 pub refuse-spec : {M : Type 1} → statement M
-refuse-spec = tie.close (tie.spec (λ c κs. search needs) returns)
+refuse-spec = tie.close (tie.spec (λ c κs. tt) returns)

@@ -28,4 +28,4 @@ pub tested-at-spec : {M : Type 1} → statement M
 tested-at-spec =
     tie.close
     (tie.spec (λ c κs. search needs) (λ c κs. search needs) (λ c κs. search needs) (λ c. search needs) (λ c. search needs)
-    (λ c κs. search needs) returns returns-2)
+    (λ c κs. tt) returns returns-2)

@@ -4,7 +4,7 @@ use Rattle.zone.proofs.hour.cooling_potential.calc_cooling_potential_fr
 use Rattle.zone.proofs.hour.cooling_potential.calc_cooling_potential_from_ventilation.Tie as tie
 
 returns : tie.Need-returns
-returns c = potential-choice _ _ _ _ _ _ _ _ _ (c .before .before .before .before .ach-args2 .given .1) _ (c .before .before .if1 .taken) (c .choose-rate .ensures)
+returns c = potential-choice _ _ _ _ _ _ _ _ _ (c .before .before .before .before .before .ach-args2 .given .1) _ (c .before .before .before .if1 .taken) (c .choose-rate .ensures)
 
 returns-2 : tie.Need-returns-2
 returns-2 c = potential-fixed _ _ _ _ _ _ _ _ (c .before .ach-args .given .1)
@@ -15,4 +15,4 @@ returns-3 c = potential-same _ _ _ _ _ _ _ _ _ (c .before .before .ach-args2 .gi
 pub calc-cooling-potential-from-ventilation-spec : {M : Type 1} → statement M
 calc-cooling-potential-from-ventilation-spec =
     tie.close
-    (tie.spec (λ c. search needs) (λ c. search needs) (λ c κs. search needs) returns returns-2 returns-3)
+    (tie.spec (λ c. search needs) (λ c. search needs) (λ c κs. tt) returns returns-2 returns-3)

@@ -1,5 +1,4 @@
 use Rattle.zone.proofs.Laws.PreparedParts.{cool-refused, cool-target, cool-chosen}
-use borrow.Author.Needs.{needs}
 use Rattle.zone.proofs.hour.cooling_potential.cool_by_windows.Statement.{statement}
 use Rattle.zone.proofs.hour.cooling_potential.cool_by_windows.Tie as tie
 
@@ -15,4 +14,4 @@ returns-3 c = cool-chosen _ _ _ _ _ _ _ _ _ _ _ _ (c .before .before .before .be
 pub cool-by-windows-spec : {M : Type 1} → statement M
 cool-by-windows-spec =
     tie.close
-    (tie.spec (λ c κs. search needs) returns (λ c κs. search needs) (λ c κs. search needs) returns-2 returns-3)
+    (tie.spec (λ c κs. tt) returns (λ c κs. tt) (λ c κs. tt) returns-2 returns-3)

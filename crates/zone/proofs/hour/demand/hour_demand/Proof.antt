@@ -1,5 +1,4 @@
 use Rattle.zone.proofs.Laws.PreparedParts.{cooling-below-heating, ventilation-below-heating, free-refused, free-demand}
-use borrow.Author.Needs.{needs}
 use Rattle.zone.proofs.hour.demand.hour_demand.Statement.{statement}
 use Rattle.zone.proofs.hour.demand.hour_demand.Tie as tie
 
@@ -13,9 +12,9 @@ returns-3 : tie.Need-returns-3
 returns-3 c = free-refused _ _ _ _ _ (c .before .before .before .before .before .before .before .if1 .left) (c .before .before .before .before .before .if2 .left) _ (c .before .before .before .before .ach-target .ensures) _ _ _ (c .before .free-temperatures .ensures) (c .if3 .taken)
 
 returns-4 : tie.Need-returns-4
-returns-4 c = free-demand _ _ _ _ _ (c .before .before .before .before .before .before .before .before .before .before .before .if1 .left) (c .before .before .before .before .before .before .before .before .before .if2 .left) _ (c .before .before .before .before .before .before .before .before .ach-target .ensures) _ _ _ (c .before .before .before .before .before .free-temperatures .ensures) _ _ (c .before .before .before .before .if3 .left) (c .before .before .zone-temperatures .ensures) (c .demand-from-free .ensures)
+returns-4 c = free-demand _ _ _ _ _ (c .before .before .before .before .before .before .before .before .before .before .before .before .if1 .left) (c .before .before .before .before .before .before .before .before .before .before .if2 .left) _ (c .before .before .before .before .before .before .before .before .before .ach-target .ensures) _ _ _ (c .before .before .before .before .before .before .free-temperatures .ensures) _ _ (c .before .before .before .before .before .if3 .left) (c .before .before .before .zone-temperatures .ensures) (c .demand-from-free .ensures)
 
 pub hour-demand-spec : {M : Type 1} → statement M
 hour-demand-spec =
     tie.close
-    (tie.spec returns returns-2 (λ c κs. search needs) (λ c κs. search needs) returns-3 (λ c κs. search needs) (λ c κs. search needs) returns-4)
+    (tie.spec returns returns-2 (λ c κs. tt) (λ c κs. tt) returns-3 (λ c κs. tt) (λ c κs. tt) returns-4)

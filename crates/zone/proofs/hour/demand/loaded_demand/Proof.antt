@@ -15,4 +15,4 @@ returns-3 c = loaded-by _ _ _ _ _ _ _ _ _ _ _ _ (c .before .before .before .befo
 pub loaded-demand-spec : {M : Type 1} → statement M
 loaded-demand-spec =
     tie.close
-    (tie.spec (λ c κs. search needs) (λ c κs. search needs) (λ c κs. search needs) (λ c κs. search needs) returns (λ c κs. search needs) (λ c κs. search needs) (λ c. search needs) (λ c. search needs) (λ c κs. search needs) returns-2 returns-3)
+    (tie.spec (λ c κs. tt) (λ c κs. tt) (λ c κs. tt) (λ c κs. tt) returns (λ c κs. tt) (λ c κs. tt) (λ c. search needs) (λ c. search needs) (λ c κs. tt) returns-2 returns-3)

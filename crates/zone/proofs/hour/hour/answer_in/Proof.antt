@@ -12,4 +12,4 @@ returns-2 c = asked-update _ _ _ _ _ _ _ _ _ _ _ (c .before .before .before .ask
 pub answer-in-spec : {M : Type 1} → statement M
 answer-in-spec =
     tie.close
-    (tie.spec (λ c. search needs) (λ c κs. search needs) (λ c. search needs) (λ c κs. search needs) returns returns-2)
+    (tie.spec (λ c. search needs) (λ c κs. tt) (λ c. search needs) (λ c κs. tt) returns returns-2)

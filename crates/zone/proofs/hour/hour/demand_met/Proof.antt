@@ -18,4 +18,4 @@ returns-4 c = met _ _ _ _ _ _ _ _ _ (c .before .before .before .before .before .
 pub demand-met-spec : {M : Type 1} → statement M
 demand-met-spec =
     tie.close
-    (tie.spec (λ c κs. search needs) (λ c. search needs) (λ c. search needs) (λ c κs. search needs) (λ c. search needs) (λ c. search needs) (λ c κs. search needs) (λ c κs. search needs) returns returns-2 returns-3 returns-4)
+    (tie.spec (λ c κs. tt) (λ c. search needs) (λ c. search needs) (λ c κs. tt) (λ c. search needs) (λ c. search needs) (λ c κs. tt) (λ c κs. tt) returns returns-2 returns-3 returns-4)

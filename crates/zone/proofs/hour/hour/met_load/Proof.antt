@@ -15,4 +15,4 @@ returns-3 c = rw (c .enum-told3 .given .1, ← c .before .before .delivered-of .
 pub met-load-spec : {M : Type 1} → statement M
 met-load-spec =
     tie.close
-    (tie.spec (λ c κs. search needs) (λ c. search needs) (λ c. search needs) (λ c κs. search needs) (λ c κs. search needs) (λ c. search needs) returns returns-2 returns-3)
+    (tie.spec (λ c κs. tt) (λ c. search needs) (λ c. search needs) (λ c κs. tt) (λ c κs. tt) (λ c. search needs) returns returns-2 returns-3)

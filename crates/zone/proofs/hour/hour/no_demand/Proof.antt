@@ -1,5 +1,4 @@
 use Rattle.zone.specs.Inner.Hour.{noDemand}
-use borrow.Author.Needs.{needs}
 use Rattle.zone.proofs.hour.hour.no_demand.Statement.{statement}
 use Rattle.zone.proofs.hour.hour.no_demand.Tie as tie
 
@@ -8,4 +7,4 @@ unfolding noDemand
 returns c = c .demand-record .ensures
 
 pub no-demand-spec : {M : Type 1} → statement M
-no-demand-spec = tie.close (tie.spec (λ c κs. search needs) returns)
+no-demand-spec = tie.close (tie.spec (λ c κs. tt) returns)

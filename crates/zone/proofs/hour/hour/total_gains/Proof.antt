@@ -1,5 +1,4 @@
 use mathlib.Core.Path.{refl}
-use borrow.Author.Needs.{needs}
 use Rattle.zone.proofs.hour.hour.total_gains.Statement.{statement}
 use Rattle.zone.proofs.hour.hour.total_gains.Tie as tie
 
@@ -7,4 +6,4 @@ returns : tie.Need-returns
 returns c = rw (c .gains-heat-cool-of .ensures) refl
 
 pub total-gains-spec : {M : Type 1} → statement M
-total-gains-spec = tie.close (tie.spec (λ c κs. search needs) returns)
+total-gains-spec = tie.close (tie.spec (λ c κs. tt) returns)

@@ -10,10 +10,10 @@ use Rattle.zone.proofs.hour.kept.directions_of.Statement.{statement}
 use Rattle.zone.proofs.hour.kept.directions_of.Tie as tie
 
 abbrev Inv-loop : tie.InvT-loop
-Inv-loop c n codes values t directions₀ e₀ directions e = repeat e n (setTerm (directionAt c (elementsIn codes values) t)) directions ≡ repeat 0 n (setTerm (directionAt c (elementsIn codes values) t)) directions₀
+Inv-loop codes values t c n directions₀ e₀ directions e = repeat e n (setTerm (directionAt c (elementsIn codes values) t)) directions ≡ repeat 0 n (setTerm (directionAt c (elementsIn codes values) t)) directions₀
 
 abbrev μ-loop : tie.MeasureT-loop
-μ-loop c n codes values t directions₀ e₀ directions e = n - e
+μ-loop codes values t c n directions₀ e₀ directions e = n - e
 
 loop-again : tie.Need-loop-again Inv-loop μ-loop
 loop-again c =
@@ -23,11 +23,13 @@ loop-again c =
 
 returns : tie.Need-returns Inv-loop μ-loop
 unfolding withTerms
-returns c = repeat-end _ _ _ _ _ (c .loop-test .left) (c .before .loop .inv)
+returns c =
+    let n = c .before .before in
+    rw (← n .before .standard-coefficients .ensures, ← n .at-most-24 .ensures .0) (repeat-end _ _ _ _ _ (c .loop-test .left) (c .before .loop .inv))
 
 pub directions-of-spec : {M : Type 1} → statement M
 directions-of-spec =
     tie.close
-    (tie.spec Inv-loop μ-loop (λ c. refl) (λ c κs. search needs) (λ c. search needs) (λ c. search needs)
-    (λ c. search needs) (λ c. search needs) (λ c. search needs) (λ c κs. search needs) (λ c κs. search needs)
+    (tie.spec Inv-loop μ-loop (λ c κs. tt) (λ c κs. tt) (λ c. refl) (λ c κs. search needs) (λ c. search needs) (λ c. search needs)
+    (λ c. search needs) (λ c. search needs) (λ c. search needs) (λ c κs. tt) (λ c κs. tt)
     (λ c. search needs) (λ c. search needs) (λ c. search needs) loop-again returns)

@@ -1,6 +1,5 @@
 use Rattle.zone.specs.Hour.Demand.{fracUpper}
 use mathlib.Core.Path.{refl}
-use borrow.Author.Needs.{needs}
 use Rattle.zone.proofs.hour.load.frac_upper.Statement.{statement}
 use Rattle.zone.proofs.hour.load.frac_upper.Tie as tie
 
@@ -10,4 +9,4 @@ returns c = rw (c .before .gains-heat-cool-of .ensures, c .frac-conv-gains-heat-
 
 pub frac-upper-spec : {M : Type 1} → statement M
 frac-upper-spec =
-    tie.close (tie.spec (λ c κs. search needs) (λ c κs. search needs) returns)
+    tie.close (tie.spec (λ c κs. tt) (λ c κs. tt) returns)

@@ -1,6 +1,5 @@
 use Rattle.zone.specs.Hour.Demand.{interpHeatCoolDemand}
 use mathlib.Core.Path.{refl}
-use borrow.Author.Needs.{needs}
 use Rattle.zone.proofs.hour.load.interp_heat_cool_demand.Statement.{statement}
 use Rattle.zone.proofs.hour.load.interp_heat_cool_demand.Tie as tie
 
@@ -19,5 +18,5 @@ returns-3 c = rw (← c .before .before .before .before .close-in-demand .ensure
 pub interp-heat-cool-demand-spec : {M : Type 1} → statement M
 interp-heat-cool-demand-spec =
     tie.close
-    (tie.spec (λ c κs. search needs) returns (λ c κs. search needs) returns-2 (λ c κs. search needs)
+    (tie.spec (λ c κs. tt) returns (λ c κs. tt) returns-2 (λ c κs. tt)
     returns-3)

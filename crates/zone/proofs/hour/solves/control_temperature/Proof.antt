@@ -12,4 +12,4 @@ returns-2 c = c .temp-operative-by-temp-vector .ensures ∙ rw (c .before .enum-
 pub control-temperature-spec : {M : Type 1} → statement M
 control-temperature-spec =
     tie.close
-    (tie.spec (λ c. search needs) (λ c. search needs) (λ c. search needs) (λ c κs. search needs) returns returns-2)
+    (tie.spec (λ c. search needs) (λ c. search needs) (λ c. search needs) (λ c κs. tt) returns returns-2)

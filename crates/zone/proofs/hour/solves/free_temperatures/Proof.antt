@@ -1,5 +1,4 @@
 use Rattle.zone.proofs.Laws.PreparedParts.{free-by}
-use borrow.Author.Needs.{needs}
 use Rattle.zone.proofs.hour.solves.free_temperatures.Statement.{statement}
 use Rattle.zone.proofs.hour.solves.free_temperatures.Tie as tie
 
@@ -9,4 +8,4 @@ returns c = free-by _ _ _ _ _ _ _ (c .before .before .before .before .gains-heat
 pub free-temperatures-spec : {M : Type 1} → statement M
 free-temperatures-spec =
     tie.close
-    (tie.spec (λ c κs. search needs) (λ c κs. search needs) (λ c κs. search needs) returns)
+    (tie.spec (λ c κs. tt) (λ c κs. tt) (λ c κs. tt) returns)

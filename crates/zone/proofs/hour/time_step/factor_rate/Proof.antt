@@ -10,5 +10,5 @@ returns c = let made = c .factor-last .ensures in
 pub factor-rate-spec : {M : Type 1} → statement M
 factor-rate-spec =
     tie.close
-    (tie.spec (λ c κs. search needs) (λ c κs. search needs) (λ c. search needs) (λ c. search needs)
-    (λ c κs. search needs) returns)
+    (tie.spec (λ c κs. tt) (λ c κs. tt) (λ c. search needs) (λ c. search needs)
+    (λ c κs. tt) returns)

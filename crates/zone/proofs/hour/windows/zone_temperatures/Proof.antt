@@ -8,4 +8,4 @@ returns c = rw (c .before .control-temperature .ensures) refl
 
 pub zone-temperatures-spec : {M : Type 1} → statement M
 zone-temperatures-spec =
-    tie.close (tie.spec (λ c κs. search needs) (λ c. search needs) returns)
+    tie.close (tie.spec (λ c κs. tt) (λ c. search needs) returns)

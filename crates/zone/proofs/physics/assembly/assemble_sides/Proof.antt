@@ -17,10 +17,13 @@ abbrev μ-loop : tie.MeasureT-loop
 
 loop-again : tie.Need-loop-again Inv-loop μ-loop
 unfolding elementRightSides
-loop-again c =
-    repeat-turn _ _ _ _ _ _ (c .before .before .before .before .before .before .before .loop-test .taken)
-    (rw (c .set-slots .ensures, c .before .before .before .right-sides-of .ensures, c .before .before .before .before .element-slots .ensures, c .before .before .before .before .before .before .element-of .ensures, c .before .before .before .before .before .element-hour-of .ensures) refl)
-    (c .before .before .before .before .before .before .before .before .loop .inv)
+loop-again c = let r = c .before .before .before in
+    let el = r .before .before .before in
+    let l = el .before .before .loop in
+    let a = el .before .before .before .args in
+    repeat-turn (elementRightSides (elementsIn (a .codes .now) (a .values .now)) (elementHoursIn (a .parts .now) (a .opens .now)) (a .delta-t) (a .t .now)) (l .e) (a .n) (l .b) _ _ (el .before .loop-test .taken)
+    (rw (c .set-slots .ensures, r .right-sides-of .ensures, r .before .element-slots .ensures, el .element-of .ensures, r .before .before .element-hour-of .ensures) refl)
+    (l .inv)
 
 returns : tie.Need-returns Inv-loop μ-loop
 unfolding elementSides
@@ -30,4 +33,4 @@ pub assemble-sides-spec : {M : Type 1} → statement M
 assemble-sides-spec =
     tie.close
     (tie.spec Inv-loop μ-loop (λ c. refl) (λ c κs. search needs) (λ c κs. search needs) (λ c κs. search needs)
-    (λ c κs. search needs) (λ c κs. search needs) (λ c. search needs) (λ c. search needs) loop-again returns)
+    (λ c κs. tt) (λ c κs. search needs) (λ c. search needs) (λ c. search needs) loop-again returns)

@@ -25,6 +25,6 @@ pub convective-loss-spec : {M : Type 1} → statement M
 convective-loss-spec =
     tie.close
     (tie.spec Inv-loop μ-loop (λ c. refl) (λ c κs. search needs) (λ c. search needs) (λ c. search needs)
-    (λ c. search needs) (λ c. search needs) (λ c. search needs) (λ c κs. search needs)
+    (λ c. search needs) (λ c. search needs) (λ c. search needs) (λ c κs. tt)
     (λ c. search needs) (λ c. search needs) (λ c. search needs) (λ c. search needs) (λ c. search needs)
     (λ c. search needs) (λ c. search needs) loop-again returns)

@@ -1,23 +1,40 @@
-use mathlib.Core.Path.{refl}
-use Rattle.zone.specs.Inner.Lent.{zoneIn, conditionsIn}
-use Rattle.zone.specs.Physics.HeatBalance.{heatBalance}
+use mathlib.Core.Path.{_∙_}
+use mathlib.Core.List.{[]}
+use Rattle.solver.specs.Sums.{sumFrom0, terms}
+use Rattle.zone.specs.Inner.Lent.{elementsIn, zoneIn, hourOf, conditionsIn}
+use Rattle.zone.specs.Inner.FabricSums.{externalBoundaryFrom}
+use Rattle.zone.specs.Physics.Slots.{air}
+use Rattle.zone.specs.Physics.System.{cInt}
+use Rattle.zone.specs.Physics.HeatBalance.{airNode, convectiveLossAt, internalBoundary, externalBoundary, heatBalance}
 use Rattle.zone.proofs.Laws.Balance.{external-is}
 use borrow.Author.Needs.{needs}
 use Rattle.zone.proofs.physics.balance.heat_balance.Statement.{statement}
 use Rattle.zone.proofs.physics.balance.heat_balance.Tie as tie
 
+-- boundary by boundary
 returns : tie.Need-returns
 unfolding heatBalance
-returns c = let air = c .before .before .before .before in
-    let h-ve = air .before .before .before .before .before in
-    let n = h-ve .before in
+returns c = let at-air = c .before .before .before .before in
+    let at-h-ve = at-air .before .before .before .before .before in
+    let n = at-h-ve .before in
     let a = n .before .args in
-    let external = external-is (zoneIn (a .z) (a .codes .now) (a .values .now)) (conditionsIn (a .hour) (a .parts .now) (a .opens .now)) (a .vector-x .now) _ (air .air-node .result) (a .gains-heat-cool) (n .at-most-24 .ensures .0) in
-    rw (c .external-boundary .ensures, c .before .internal-boundary .ensures, c .before .before .fabric-sums .ensures, external, c .before .before .before .convective-loss .ensures, air .air-node .ensures, h-ve .calc-vent-heat-transfer-coeff .ensures, n .at-most-24 .ensures .0) refl
+    let z = zoneIn (a .z) (a .codes .now) (a .values .now) in
+    let hour = conditionsIn (a .hour) (a .parts .now) (a .opens .now) in
+    let x = a .vector-x .now in
+    let g = a .gains-heat-cool in
+    let node = at-air .air-node .result in
+    let air-is = at-air .air-node .ensures ∙ (λ i. airNode (a .c) (cInt (a .c) z) (at-h-ve .calc-vent-heat-transfer-coeff .ensures i) (a .z .«tb_heat_trans_coeff») hour (a .delta-t) g (a .f-hc-c) (air (a .temp-prev .now)) (air x)) in
+    let convective = c .before .before .before .convective-loss .ensures ∙ (λ i. sumFrom0 (terms 0 (n .at-most-24 .ensures .0 i) (convectiveLossAt (a .c) (elementsIn (a .codes .now) (a .values .now)) (a .temp-prev .now) x))) in
+    let internal = c .before .internal-boundary .ensures ∙ (λ i. internalBoundary (a .c) (convective i) hour g (a .f-hc-c)) in
+    let external = c .external-boundary .ensures
+    ∙ (λ i. externalBoundaryFrom (c .before .before .fabric-sums .ensures i) node (hourOf (a .hour) []) g)
+    ∙ external-is z hour x (n .at-most-24 .result) node g (n .at-most-24 .ensures .0)
+    ∙ (λ i. externalBoundary z hour x (air-is i) g) in
+    λ i. record { «air_node» = air-is i; «internal_boundary» = internal i; «external_boundary» = external i }
 
 pub heat-balance-spec : {M : Type 1} → statement M
 heat-balance-spec =
     tie.close
-    (tie.spec (λ c κs. search needs) (λ c κs. search needs) (λ c. search needs) (λ c. search needs)
-    (λ c κs. search needs) (λ c κs. search needs) (λ c κs. search needs) (λ c κs. search needs)
-    (λ c κs. search needs) returns)
+    (tie.spec (λ c κs. tt) (λ c κs. tt) (λ c. search needs) (λ c. search needs)
+    (λ c κs. tt) (λ c κs. search needs) (λ c κs. search needs) (λ c κs. tt)
+    (λ c κs. tt) returns)

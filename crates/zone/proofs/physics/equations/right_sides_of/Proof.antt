@@ -1,5 +1,4 @@
 use Rattle.zone.specs.Physics.Equations.{rightSidesOf}
-use borrow.Author.Needs.{needs}
 use Rattle.zone.proofs.physics.equations.right_sides_of.Statement.{statement}
 use Rattle.zone.proofs.physics.equations.right_sides_of.Tie as tie
 
@@ -14,4 +13,4 @@ returns-2 c = rw (← c .before .before .is-two-nodes .ensures, c .before .if1 .
 pub right-sides-of-spec : {M : Type 1} → statement M
 right-sides-of-spec =
     tie.close
-    (tie.spec (λ c κs. search needs) (λ c κs. search needs) returns (λ c κs. search needs) returns-2)
+    (tie.spec (λ c κs. tt) (λ c κs. tt) returns (λ c κs. tt) returns-2)

@@ -14,5 +14,5 @@ returns-2 c = rw (← c .before .before .is-two-nodes .ensures, c .before .if1 .
 pub rows-of-spec : {M : Type 1} → statement M
 rows-of-spec =
     tie.close
-    (tie.spec (λ c κs. search needs) (λ c. search needs) (λ c κs. search needs) (λ c κs. search needs) returns
-    (λ c κs. search needs) returns-2)
+    (tie.spec (λ c κs. tt) (λ c. search needs) (λ c κs. tt) (λ c κs. tt) returns
+    (λ c κs. tt) returns-2)

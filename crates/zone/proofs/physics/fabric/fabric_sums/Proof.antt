@@ -27,6 +27,6 @@ returns c = let s = c .before .before .before in
 pub fabric-sums-spec : {M : Type 1} → statement M
 fabric-sums-spec =
     tie.close
-    (tie.spec Inv-loop μ-loop (λ c κs. search needs) (λ c. refl) (λ c κs. search needs) (λ c κs. search needs)
-    (λ c κs. search needs) (λ c κs. search needs) (λ c κs. search needs) (λ c. search needs) (λ c. search needs)
+    (tie.spec Inv-loop μ-loop (λ c κs. tt) (λ c. refl) (λ c κs. search needs) (λ c κs. search needs)
+    (λ c κs. tt) (λ c κs. search needs) (λ c κs. tt) (λ c. search needs) (λ c. search needs)
     loop-again returns)

@@ -16,6 +16,6 @@ abbrev μ-loop : tie.MeasureT-loop
 pub area-total-spec : {M : Type 1} → statement M
 area-total-spec =
     tie.close
-    (tie.spec Inv-loop μ-loop (λ c κs. search needs) (λ c. refl) (λ c. search needs) (λ c. search needs)
-    (λ c κs. search needs) (λ c. search needs) (λ c. search needs) (λ c. search (needs, sum2-turn)) (λ c κs. search needs)
+    (tie.spec Inv-loop μ-loop (λ c κs. tt) (λ c. refl) (λ c. search needs) (λ c. search needs)
+    (λ c κs. tt) (λ c. search needs) (λ c. search needs) (λ c. search (needs, sum2-turn)) (λ c κs. tt)
     (λ c. search (needs, sum2-end)))

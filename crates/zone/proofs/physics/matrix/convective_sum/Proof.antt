@@ -16,6 +16,6 @@ abbrev μ-loop : tie.MeasureT-loop
 pub convective-sum-spec : {M : Type 1} → statement M
 convective-sum-spec =
     tie.close
-    (tie.spec Inv-loop μ-loop (λ c κs. search needs) (λ c. refl) (λ c. search needs) (λ c. search needs)
-    (λ c. search needs) (λ c. search needs) (λ c κs. search needs) (λ c. search needs) (λ c. search needs)
-    (λ c. search (needs, sum2-turn)) (λ c κs. search needs) (λ c. search (needs, sum2-end)))
+    (tie.spec Inv-loop μ-loop (λ c κs. tt) (λ c. refl) (λ c. search needs) (λ c. search needs)
+    (λ c. search needs) (λ c. search needs) (λ c κs. tt) (λ c. search needs) (λ c. search needs)
+    (λ c. search (needs, sum2-turn)) (λ c κs. tt) (λ c. search (needs, sum2-end)))

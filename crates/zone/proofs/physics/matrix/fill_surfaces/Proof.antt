@@ -37,4 +37,4 @@ pub fill-surfaces-spec : {M : Type 1} → statement M
 fill-surfaces-spec =
     tie.close
     (tie.spec Inv-loop μ-loop (λ c. (refl, refl, refl)) (λ c κs. search needs) (λ c. search needs) (λ c. search needs)
-    (λ c. search needs) (λ c. search needs) (λ c κs. search needs) (λ c. search needs) (λ c. search needs) (λ c. search needs) loop-again returns)
+    (λ c. search needs) (λ c. search needs) (λ c κs. tt) (λ c. search needs) (λ c. search needs) (λ c. search needs) loop-again returns)

@@ -25,5 +25,5 @@ returns c = repeat-end _ _ _ _ _ (c .loop-test .left) (c .before .loop .inv)
 pub h-ci-of-spec : {M : Type 1} → statement M
 h-ci-of-spec =
     tie.close
-    (tie.spec Inv-loop μ-loop (λ c κs. search needs) (λ c. refl) (λ c. search needs) (λ c κs. search needs) (λ c. search needs)
+    (tie.spec Inv-loop μ-loop (λ c κs. tt) (λ c. refl) (λ c. search needs) (λ c κs. tt) (λ c. search needs)
     (λ c. search needs) (λ c. search needs) (λ c. search needs) loop-again returns)

@@ -27,5 +27,5 @@ returns c = repeat-end _ _ _ _ _ (c .loop-test .left) (c .before .loop .inv)
 pub fill-two-nodes-spec : {M : Type 1} → statement M
 fill-two-nodes-spec =
     tie.close
-    (tie.spec Inv-loop μ-loop (λ c. refl) (λ c κs. search needs) (λ c κs. search needs)
+    (tie.spec Inv-loop μ-loop (λ c. refl) (λ c κs. search needs) (λ c κs. tt)
     (λ c. search needs) (λ c. search needs) (λ c. search needs) loop-again returns)

@@ -46,7 +46,7 @@ returns c = let l = c .before .before .loop in
 pub to-slots-spec : {M : Type 1} → statement M
 to-slots-spec =
     tie.close
-    (tie.spec Inv-loop μ-loop (λ c κs. search needs) loop-holds (λ c. search needs) (λ c κs. search needs)
+    (tie.spec Inv-loop μ-loop (λ c κs. tt) loop-holds (λ c. search needs) (λ c κs. tt)
     (λ c. search needs) (λ c. search needs) (λ c. search needs) (λ c κs. search needs) (λ c. search needs)
     (λ c. search needs) (λ c. search needs) loop-again (λ c. search needs) (λ c. search needs)
     (λ c. search needs) returns)

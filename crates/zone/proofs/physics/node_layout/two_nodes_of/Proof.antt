@@ -9,4 +9,4 @@ unfolding zoneTwoNodes
 returns c = rw (c .fill-two-nodes .ensures, c .before .at-most-24 .ensures .0) refl
 
 pub two-nodes-of-spec : {M : Type 1} → statement M
-two-nodes-of-spec = tie.close (tie.spec (λ c κs. search needs) (λ c κs. search needs) returns)
+two-nodes-of-spec = tie.close (tie.spec (λ c κs. tt) (λ c κs. search needs) returns)

@@ -13,5 +13,5 @@ returns c = let a = c .before .before .before .before .before .before .args in
 pub temp-operative-spec : {M : Type 1} → statement M
 temp-operative-spec =
     tie.close
-    (tie.spec (λ c κs. search needs) (λ c κs. search needs) (λ c κs. search needs) (λ c κs. search needs)
+    (tie.spec (λ c κs. tt) (λ c κs. tt) (λ c κs. search needs) (λ c κs. tt)
     returns)

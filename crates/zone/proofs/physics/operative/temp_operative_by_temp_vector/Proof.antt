@@ -11,5 +11,5 @@ returns c = rw (c .mean-of .ensures, c .before .radiant-sum .ensures, c .before 
 pub temp-operative-by-temp-vector-spec : {M : Type 1} → statement M
 temp-operative-by-temp-vector-spec =
     tie.close
-    (tie.spec (λ c κs. search needs) (λ c. search needs) (λ c κs. search needs) (λ c κs. search needs)
+    (tie.spec (λ c κs. tt) (λ c. search needs) (λ c κs. search needs) (λ c κs. tt)
     returns)

@@ -1,5 +1,4 @@
 use Rattle.zone.specs.Physics.Ventilation.{achReqToReachTemperature}
-use borrow.Author.Needs.{needs}
 use Rattle.zone.proofs.physics.ventilation.ach_req_to_reach_temperature.Statement.{statement}
 use Rattle.zone.proofs.physics.ventilation.ach_req_to_reach_temperature.Tie as tie
 
@@ -18,5 +17,5 @@ returns-3 c = rw (c .before .before .before .before .if1 .left, c .before .befor
 pub ach-req-to-reach-temperature-spec : {M : Type 1} → statement M
 ach-req-to-reach-temperature-spec =
     tie.close
-    (tie.spec returns returns-2 (λ c κs. search needs) (λ c κs. search needs) (λ c κs. search needs)
+    (tie.spec returns returns-2 (λ c κs. tt) (λ c κs. tt) (λ c κs. tt)
     returns-3)

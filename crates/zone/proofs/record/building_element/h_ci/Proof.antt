@@ -35,5 +35,5 @@ returns-3 c = sym (ap (hCiOf _) (c .enum-told3 .given .1)) ∙ ap (hCiOf _) (c .
 pub h-ci-spec : {M : Type 1} → statement M
 h-ci-spec =
     tie.close
-    (tie.spec (λ c κs. search needs) (λ c. search needs) (λ c. search needs) (λ c. search needs) returns
+    (tie.spec (λ c κs. tt) (λ c. search needs) (λ c. search needs) (λ c. search needs) returns
     returns-2 returns-3)

@@ -44,5 +44,5 @@ returns c = let l = c .before .loop in let s = c .before .before .before in let 
 pub h-pli-transparent-spec : {M : Type 1} → statement M
 h-pli-transparent-spec =
     tie.close
-    (tie.spec Inv-loop μ-loop (λ c κs. search needs) loop-holds (λ c. search needs) (λ c. search needs)
+    (tie.spec Inv-loop μ-loop (λ c κs. tt) loop-holds (λ c. search needs) (λ c. search needs)
     (λ c. search needs) (λ c. search needs) loop-again returns)

@@ -47,5 +47,5 @@ returns c = let l = c .before .loop in
 pub node-count-spec : {M : Type 1} → statement M
 node-count-spec =
     tie.close
-    (tie.spec Inv-loop μ-loop (λ c κs. search needs) loop-holds (λ c κs. search needs) (λ c κs. search needs)
+    (tie.spec Inv-loop μ-loop (λ c κs. tt) loop-holds (λ c κs. search needs) (λ c κs. tt)
     add-total (λ c. search needs) (λ c. search needs) loop-again returns)

@@ -8,9 +8,10 @@ returns : tie.Need-returns
 returns c = asked-refused _ _ _ _ _ (c .before .before .before .before .tested .ensures) _ _ _ (c .before .before .verdict .given .1) (c .refuse-demand .ensures)
 
 returns-2 : tie.Need-returns-2
-returns-2 c = asked-accepted _ _ _ _ _ (c .before .before .before .before .before .before .before .before .before .tested .ensures) (c .before .before .before .before .before .before .before .enum-told .given .1) _ _ _ _ (c .before .before .before .before .before .slots-of .ensures) (c .hour-in .ensures)
+returns-2 c = let t = c .before .before .before .before .before in
+    asked-accepted _ _ _ _ _ (t .before .before .before .tested .ensures) (t .before .enum-told .given .1) _ _ _ _ (t .slots-of .ensures) (c .hour-in .ensures)
 
 pub space-heat-cool-demand-spec : {M : Type 1} → statement M
 space-heat-cool-demand-spec =
     tie.close
-    (tie.spec (λ c κs. record { no-parts = refl; no-opens = refl }) (λ c. search needs) (λ c κs. search needs) (λ c. search needs) (λ c κs. search needs) (λ c κs. search needs) returns returns-2)
+    (tie.spec (λ c κs. record { no-parts = refl; no-opens = refl }) (λ c. search needs) (λ c κs. tt) returns (λ c. search needs) (λ c κs. tt) (λ c κs. tt) returns-2)

@@ -12,4 +12,4 @@ returns-2 c = operative-accepted _ _ _ (c .before .before .before .before .befor
 pub temp-operative-spec : {M : Type 1} → statement M
 temp-operative-spec =
     tie.close
-    (tie.spec (λ c κs. search needs) (λ c. search needs) (λ c. search needs) (λ c κs. search needs) (λ c κs. search needs) returns returns-2)
+    (tie.spec (λ c κs. tt) (λ c. search needs) (λ c. search needs) (λ c κs. tt) (λ c κs. tt) returns returns-2)

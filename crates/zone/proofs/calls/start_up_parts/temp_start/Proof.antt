@@ -1,8 +1,8 @@
 use Rattle.solver.specs.F64.{decimal}
 use lib.Ieee.{ofBits}
 use mathlib.Core.Path.{refl}
-use Rattle.zone.proofs.calls.start_up.temp_start.Statement.{statement}
-use Rattle.zone.proofs.calls.start_up.temp_start.Tie as tie
+use Rattle.zone.proofs.calls.start_up_parts.temp_start.Statement.{statement}
+use Rattle.zone.proofs.calls.start_up_parts.temp_start.Tie as tie
 
 returns : tie.Need-returns
 unfolding ofBits decimal

@@ -2,8 +2,8 @@ use Rattle.zone.specs.Calls.StartUp.{startUpConditions}
 use Rattle.solver.specs.F64.{decimal}
 use lib.Ieee.{ofBits}
 use mathlib.Core.Path.{refl}
-use Rattle.zone.proofs.calls.start_up.start_up_conditions.Statement.{statement}
-use Rattle.zone.proofs.calls.start_up.start_up_conditions.Tie as tie
+use Rattle.zone.proofs.calls.start_up_parts.start_up_conditions.Statement.{statement}
+use Rattle.zone.proofs.calls.start_up_parts.start_up_conditions.Tie as tie
 
 returns : tie.Need-returns
 unfolding startUpConditions ofBits decimal

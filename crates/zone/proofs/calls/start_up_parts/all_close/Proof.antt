@@ -6,8 +6,8 @@ use denote.Ref.{now}
 use borrow.Author.Needs.{needs}
 use Rattle.zone.specs.Calls.StartUp.{allClose}
 use Rattle.zone.proofs.Laws.StartUp.{close-next, close-not, close-first, close-second}
-use Rattle.zone.proofs.calls.start_up.all_close.Statement.{statement}
-use Rattle.zone.proofs.calls.start_up.all_close.Tie as tie
+use Rattle.zone.proofs.calls.start_up_parts.all_close.Statement.{statement}
+use Rattle.zone.proofs.calls.start_up_parts.all_close.Tie as tie
 
 abbrev Inv-loop : tie.InvT-loop
 Inv-loop a b i₀ i = allClose a b ≡ allClose (drop i a) (drop i b)
@@ -35,5 +35,5 @@ pub all-close-spec : {M : Type 1} → statement M
 all-close-spec =
     tie.close
     (tie.spec Inv-loop μ-loop (λ c. refl) returns (λ c. search needs) (λ c. search needs) (λ c. search needs)
-    shared-slice-read-isclose-2 (λ c κs. search needs) (λ c. search needs) (λ c. omega arith)
+    shared-slice-read-isclose-2 (λ c κs. tt) (λ c. search needs) (λ c. omega arith)
     loop-again returns-2 returns-3)

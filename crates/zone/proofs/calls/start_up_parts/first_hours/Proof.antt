@@ -13,8 +13,8 @@ use Rattle.zone.specs.Calls.StartUp.{firstHour}
 use Rattle.zone.proofs.Laws.Counted.{counted-length}
 use Rattle.zone.proofs.Laws.FirstHours.{part-set, part-set-sized}
 use Rattle.zone.proofs.Laws.StartUp.{first-next, first-done}
-use Rattle.zone.proofs.calls.start_up.first_hours.Statement.{statement}
-use Rattle.zone.proofs.calls.start_up.first_hours.Tie as tie
+use Rattle.zone.proofs.calls.start_up_parts.first_hours.Statement.{statement}
+use Rattle.zone.proofs.calls.start_up_parts.first_hours.Tie as tie
 
 abbrev Inv-loop : tie.InvT-loop
 Inv-loop codes values parts₀ opens₀ i₀ parts opens i =
