@@ -1,4 +1,4 @@
--- One column of the factorisation with the last column apart (specs/Columns.antt): it is not read, and what happens to it is a step of a forward substitution.
+-- One column of the factorisation with the last column apart (specs/Inner/Columns.antt): it is not read, and what happens to it is a step of a forward substitution.
 use mathlib.Core.Path.{_≡_, refl, sym, ap, _∙_}
 use mathlib.Core.Logic.{⊎-elim}
 use mathlib.Core.List.{List}

@@ -1,4 +1,4 @@
--- The last column of the dense matrix apart (specs/Columns.antt): the factorisation of the columns before it does not read it, and `luFactor` makes of
+-- The last column of the dense matrix apart (specs/Inner/Columns.antt): the factorisation of the columns before it does not read it, and `luFactor` makes of
 -- it what interchanges and forward substitution make of a right side, bit for bit.
 use mathlib.Core.Path.{_≡_, refl, ap, _∙_}
 use mathlib.Core.List.{List}

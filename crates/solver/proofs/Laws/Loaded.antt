@@ -1,4 +1,4 @@
--- A load is added at the inner surfaces and the air alone: it may be added once the chains are reduced (specs/Reduced.antt).
+-- A load is added at the inner surfaces and the air alone: it may be added once the chains are reduced (specs/Inner/Reduced.antt).
 use mathlib.Core.Path.{_≡_, refl, sym, ap, _∙_}
 use mathlib.Core.Bool.{Bool, false}
 use mathlib.Core.List.{List}

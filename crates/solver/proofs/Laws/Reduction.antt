@@ -1,4 +1,4 @@
--- The reduction of a right side with the last step of each chain apart (specs/Reduced.antt).
+-- The reduction of a right side with the last step of each chain apart (specs/Inner/Reduced.antt).
 use mathlib.Core.Path.{_≡_, refl, sym, ap, _∙_}
 use mathlib.Core.Bool.{Bool, true, false, cond}
 use mathlib.Core.List.{List}

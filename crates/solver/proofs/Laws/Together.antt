@@ -1,4 +1,4 @@
--- `fastSolver` in the parts of specs/Apart.antt: the columns before the last factored once, the last column for each rate, the right side reduced once,
+-- `fastSolver` in the parts of specs/Inner/Apart.antt: the columns before the last factored once, the last column for each rate, the right side reduced once,
 -- and each load gathered and substituted.
 use mathlib.Core.Path.{_≡_, refl, sym, ap, _∙_}
 use mathlib.Core.Logic.{⊎-elim}

@@ -1,4 +1,5 @@
--- Factors that are kept: the same directions, open treatments and timestep give the same, and the hour's own give its system's.
+-- Factors that are kept: the same directions, open treatments and timestep give the same, and the hour's own give its system's. What is
+-- held after an hour, and what `keep_factors` leaves.
 use mathlib.Core.Path.{_≡_, refl, sym, ap, subst, _∙_}
 use mathlib.Core.Bool.{Bool, true, false, cond, not, _&&_, _||_}
 use mathlib.Core.List.{List, [], _∷_}

@@ -1,4 +1,4 @@
--- An hour's factors and right side are what `prepare` makes of its system.
+-- An hour from what the lent arrays hold; and where that is the zone's own, it is what `prepare` makes of the hour's system.
 use mathlib.Core.Path.{_≡_, refl, sym, ap, _∙_}
 use mathlib.Core.Bool.{Bool, false}
 use mathlib.Core.List.{List, []}

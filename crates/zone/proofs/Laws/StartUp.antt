@@ -39,7 +39,7 @@ use Rattle.zone.specs.Calls.Answers.{startUpReply}
 use Rattle.zone.specs.declared.hour.hour.Meeting.the-variants.{Alone}
 use Rattle.zone.specs.declared.hour.hour.Asked.the-variants as Asked
 use Rattle.zone.specs.Inner.Demand.{answerWith}
-use Rattle.zone.specs.Inner.Hour.{demandSolved, hourSolved, ends, stateIn}
+use Rattle.zone.specs.Inner.Hour.{demandSolved, hourSolved, ends, settledState}
 use Rattle.zone.proofs.Laws.Demand.{towards-rate}
 use Rattle.zone.specs.Record.Numbers as Number
 
@@ -140,7 +140,7 @@ module _ (z : Zone) (limit : ℕ) (t₀ t : List Float) (passes : ℕ)
   module _ (more : passes < limit) (h : Conditions) (h-is : h ≡ startUpConditions z) (before after : List Float) where
     -- its last pass, and one that is not
     pub settle-ends : (a : DemandAnswer) → answerWith a after ≡ hourSolved z t h (Asked.Demand Alone) before → (last : Bool) → last ≡ ends z t (answerWith a after) → last ≡ true
-        → (r : StartUp) → r ≡ startUpReply (stateIn z (answerWith a t)) → r ≡ startUpReply (bind (settle standardCoefficients z limit t₀) λ u. ok (stateOf z u))
+        → (r : StartUp) → r ≡ startUpReply (settledState z (answerWith a t)) → r ≡ startUpReply (bind (settle standardCoefficients z limit t₀) λ u. ok (stateOf z u))
     unfolding settle
     settle-ends (DemandAnswer.Accepted d) solved last is k r p = rw (left, one-left limit passes more, pass-solved z t h h-is before, ← solved, ← is, k) p
     settle-ends (DemandAnswer.Refused n i) solved last is k r p = rw (left, one-left limit passes more, pass-solved z t h h-is before, ← solved) p

@@ -88,8 +88,8 @@ ends z t (ok u) = close z t (u .1)
 ends z t (refused number index) = true
 
 -- the state of the temperatures beside a demand
-abbrev pub stateIn : Zone → Result (Demand × List Float) → Result State
-stateIn z x = bind x λ u. ok (stateOf z (u .1))
+abbrev pub settledState : Zone → Result (Demand × List Float) → Result State
+settledState z x = bind x λ u. ok (stateOf z (u .1))
 
 -- the hour step, from the demand and the temperatures after it
 abbrev pub stepped : Zone → (t : List Float) → Conditions → Demand × List Float → Result HourResult

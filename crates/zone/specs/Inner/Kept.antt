@@ -1,5 +1,5 @@
 -- A factored matrix that is kept from hour to hour. It depends on the zone, the directions of heat flow, the open treatments and the timestep, and where
--- these are the same it is the next hour's. Laws/Kept.antt ties it to `prepare` of the hour's system.
+-- these are the same it is the next hour's. next-kept (proofs/Laws/NextKept.antt) says where an hour from what is held is the hour of the definitions.
 use mathlib.Core.Path.{_≡_}
 use mathlib.Core.Bool.{Bool, true, false, cond, _&&_}
 use mathlib.Core.List.{List, [], _∷_}

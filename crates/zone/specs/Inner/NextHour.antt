@@ -1,4 +1,4 @@
--- What the book asks of the zone. next-then (proofs/Laws/NextHour.antt) ties it to `hourStep`.
+-- What the book asks of the zone. next-then (proofs/Laws/NextHour.antt) ties it to `hourStep`, next-kept (NextKept.antt) an hour with a matrix that is held to it.
 use Prim.Native.Nat.{ℕ}
 use mathlib.Core.List.{List}
 use lib.ListN.{replicate}

@@ -19,7 +19,7 @@ ghost use mathlib.Core.Path.{_≡_};
 ghost use Rattle.solver.specs.Result.{ok, refused, bind};
 ghost use Rattle.zone.specs.Inner.Lent.{zoneIn};
 ghost use Rattle.zone.specs.Inner.Demand.{answerWith};
-ghost use Rattle.zone.specs.Inner.Hour.{ends, stateIn};
+ghost use Rattle.zone.specs.Inner.Hour.{ends, settledState};
 ghost use Rattle.zone.specs.Inner.Kept.{arrays, held, noneHeld};
 ghost use Rattle.zone.specs.Record.BuildingElement.{standardCoefficients};
 ghost use Rattle.zone.specs.Calls.State.{slotsOf, stateOf};
@@ -66,7 +66,7 @@ fn settled(
     demand: DemandAnswer,
     t: &[f64; 121],
 ) -> StartUp
-    ensures { λ r. ⌜ r ≡ startUpReply (stateIn (zoneIn z (now (codes .entry)) (now (values .entry))) (answerWith demand (now (t .entry)))) ⌝ }
+    ensures { λ r. ⌜ r ≡ startUpReply (settledState (zoneIn z (now (codes .entry)) (now (values .entry))) (answerWith demand (now (t .entry)))) ⌝ }
 {
     match demand {
         DemandAnswer::Refused { number, index } => no_state(number, index),

@@ -1,5 +1,7 @@
 // The factored matrix of an hour, kept in arrays that are lent: the next hour's is the same where the timestep, the directions of heat flow and the open
-// treatments are, and then it is neither assembled nor factored again.
+// treatments are, and then it is neither assembled nor factored again. The ten arrays: `flags`, whether a matrix is held and whether its divisors are valid;
+// `numbers`, the elements' area, their area × h_ci and the timestep; `key`, the directions and from place 24 on the open treatments; `two_nodes`, `diag`, `next`,
+// `prev`, `dense` and `interchanges`, the factored columns; `column`, the last one as it was assembled.
 use crate::physics::assembly::assemble_elements;
 use crate::physics::slots::at_most_24;
 use crate::record::arrays::element_of;
