@@ -1,6 +1,7 @@
 /* Hour steps of a house of 24 five-node elements in one winter hour, for counting instructions:
  *     instructions STEPS WINDOWS      (WINDOWS 0: a fixed rate, 1: target and windows open)
- * The house is that of bench/src/houses.rs; each step starts from the temperatures that the one before left. */
+ * The house is that of bench/src/houses.rs; each step has entry version 1 and starts from the temperatures that the one
+ * before left. */
 #include <stdio.h>
 #include <stdlib.h>
 #include <string.h>
@@ -77,7 +78,7 @@ int main(int count, char **words) {
     make_conditions(atoi(words[2]));
     uint32_t answer = hem_start_up(head, sizeof head, temps, &nodes);
     for (int i = atoi(words[1]); answer == 0 && i > 0; i--)
-        answer = hem_hour_step(head, sizeof head, temps, nodes, conditions, sizeof conditions, out, balance);
+        answer = hem_hour_step(head, sizeof head, temps, nodes, conditions, sizeof conditions, 1, out, balance);
     if (answer != 0) fprintf(stderr, "refused: %u\n", (unsigned)answer);
     return answer != 0;
 }

@@ -4,8 +4,9 @@
  * The year is first run by both, and every temperature, demand, rate and heat balance must have the same bits. Then
  *     limit 24 fixed 4951
  * is printed: nanoseconds for an hour step, the least of the repetitions. As in the engine, each step reads and tests
- * the bytes of head and hour. All elements have five nodes, as in the houses of src/houses.rs; a Transparent is
- * refused. Compiled with -ffp-contract=off: a fused multiplication would round once where the engine rounds twice. */
+ * the bytes of head and hour. Hours have entry version 1. All elements have five nodes, as in the houses of
+ * src/houses.rs; a Transparent is refused. Compiled with -ffp-contract=off: a fused multiplication would round once
+ * where the engine rounds twice. */
 #define _POSIX_C_SOURCE 199309L
 #include <time.h>
 
@@ -143,12 +144,14 @@ static uint32_t calculate(struct hour *h, struct temps *after, double *out, doub
     return number;
 }
 
-/* Called as hem_hour_step is. */
+/* Called as hem_hour_step is; of the versions it has only the first. */
 static uint32_t hour_step(const uint8_t *head, size_t head_len, double *temps, uint64_t nodes,
-                          const uint8_t *conditions, size_t conditions_len, double *out, double *balance) {
+                          const uint8_t *conditions, size_t conditions_len, uint64_t version, double *out,
+                          double *balance) {
     struct hour h;
     struct temps after;
     uint32_t number = read_head(head, head_len, &h.z);
+    if (number == 0 && version != VERSION) number = HEM_FALSE_ENTRY;
     if (number == 0) number = read_state(temps, nodes, h.z.n, &h.before);
     if (number == 0) number = read_conditions(conditions, conditions_len, h.z.n, &h.c);
     if (number == 0) number = calculate(&h, &after, out, balance);
@@ -158,7 +161,8 @@ static uint32_t hour_step(const uint8_t *head, size_t head_len, double *temps, u
 
 /* ---- comparison and time ---- */
 
-typedef uint32_t step(const uint8_t *, size_t, double *, uint64_t, const uint8_t *, size_t, double *, double *);
+typedef uint32_t step(const uint8_t *, size_t, double *, uint64_t, const uint8_t *, size_t, uint64_t, double *,
+                      double *);
 
 /* The compiler cannot know where it leads, and so leaves out nothing of a step whose results are not looked at. */
 static step *volatile model_step = hour_step;
@@ -168,7 +172,7 @@ struct results {
 };
 
 static void run(step *step, const struct year *y, size_t hour, uint64_t nodes, struct results *r) {
-    accepted(step(y->head, y->head_len, r->temps, nodes, hour_of(y, hour), y->hour_len, r->out, r->balance));
+    accepted(step(y->head, y->head_len, r->temps, nodes, hour_of(y, hour), y->hour_len, VERSION, r->out, r->balance));
 }
 
 static void compare(const struct year *y, struct results start, uint64_t nodes, const char *rate) {

@@ -19,7 +19,7 @@ static struct year y;
 static uint8_t *book;
 static size_t book_len;
 static double temps[HEM_TEMPS], out[HEM_OUT], balance[HEM_BALANCE], operative;
-static uint64_t nodes, count, used;
+static uint64_t nodes, count, used, last_version;
 
 static void head(void) { accepted(hem_head(y.head, y.head_len)); }
 static void start_up(void) { accepted(hem_start_up(y.head, y.head_len, temps, &nodes)); }
@@ -37,18 +37,20 @@ static void update(void) {
 
 static void hour_step(void) {
     for (size_t i = 0; i < HOURS; i++)
-        accepted(hem_hour_step(y.head, y.head_len, temps, nodes, hour_of(&y, i), y.hour_len, out, balance));
+        accepted(hem_hour_step(y.head, y.head_len, temps, nodes, hour_of(&y, i), y.hour_len, VERSION, out, balance));
 }
 
-static void begin(void) { accepted(hem_begin(y.head, y.head_len, book, book_len, temps, &nodes, &count, &used)); }
+static void begin(void) {
+    accepted(hem_begin(y.head, y.head_len, book, book_len, temps, &nodes, &count, &used, &last_version));
+}
 
 static void append(void) {
     for (size_t i = 0; i < HOURS; i++)
-        accepted(
-            hem_append(y.head, y.head_len, book, book_len, temps, &nodes, &count, &used, hour_of(&y, i), y.hour_len));
+        accepted(hem_append(y.head, y.head_len, book, book_len, temps, &nodes, &count, &used, &last_version,
+                            hour_of(&y, i), y.hour_len, VERSION));
 }
 
-static void take_up(void) { accepted(hem_take_up(book, book_len, temps, &nodes, &count, &used)); }
+static void take_up(void) { accepted(hem_take_up(book, book_len, temps, &nodes, &count, &used, &last_version)); }
 
 struct call {
     const char *name;

@@ -5,7 +5,8 @@
 
 #include "hem_zone.h"
 
-enum { HOURS = 8760 };
+/* Entries have version 1, whose hours are those of the original. */
+enum { HOURS = 8760, VERSION = 1 };
 
 struct year {
     size_t elements, head_len, hour_len;

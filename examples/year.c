@@ -36,11 +36,11 @@ int main(int argc, char **argv) {
     size_t head_len, year_len, room = HEM_HEAD_MOST;
     uint8_t *head = bytes_of(argv[1], &head_len), *year = bytes_of(argv[2], &year_len);
     double temps[HEM_TEMPS] = {0}, heating = 0, cooling = 0, highest = 0;
-    uint64_t nodes = 0, count = 0, used = 0, hour = 0;
+    uint64_t nodes = 0, count = 0, used = 0, last_version = 0, hour = 0;
 
     uint8_t *book = calloc(room, 1);
     if (!book) fail(argv[3], "no memory");
-    uint32_t answer = hem_begin(head, head_len, book, room, temps, &nodes, &count, &used);
+    uint32_t answer = hem_begin(head, head_len, book, room, temps, &nodes, &count, &used, &last_version);
     if (answer) return fprintf(stderr, "year: %s: refusal %u\n", argv[1], HEM_NUMBER(answer)), 1;
 
     const size_t n = head[HEM_HEAD_AT_COUNT], size = HEM_CONDITIONS(n), entry = HEM_ENTRY(n, nodes);
@@ -52,7 +52,8 @@ int main(int argc, char **argv) {
 
     for (size_t at = 0; at < year_len; at += size) {
         const uint8_t *added = book + used;
-        answer = hem_append(head, head_len, book, room, temps, &nodes, &count, &used, year + at, size);
+        answer = hem_append(head, head_len, book, room, temps, &nodes, &count, &used, &last_version, year + at, size,
+                            HEM_ENTRY_VERSION);
         if (answer)
             return fprintf(stderr, "year: hour %zu: refusal %u, element %u\n", at / size + 1, HEM_NUMBER(answer), HEM_INDEX(answer)), 1;
         double need = float_at(added + HEM_ENTRY_AT_HEATING(n)), length = float_at(year + at);

@@ -8,7 +8,7 @@
  *
  * Answers. Each function returns 0 when the call is accepted. Otherwise it returns
  * number + 256 * index (HEM_NUMBER and HEM_INDEX take them apart), and then NOTHING has been written:
- * temperatures, counts, buffers and results are as they were before the call.
+ * temperatures, counts, versions, buffers and results are as they were before the call.
  *
  * What the caller owes:
  *  - Every pointer leads to as many bytes or doubles as stand beside it. None is null, also where the
@@ -42,10 +42,14 @@ extern "C" {
 #endif
 
 /* The version of this interface: 10000 * major + 100 * minor + patch, and as text. */
-#define HEM_ZONE_VERSION 100
-#define HEM_ZONE_VERSION_TEXT "0.1.0"
-/* The version byte of heads and entries. */
+#define HEM_ZONE_VERSION 200
+#define HEM_ZONE_VERSION_TEXT "0.2.0"
+/* The version byte of heads. */
 #define HEM_FORMAT 1
+/* The newest version of entries; hours have 1 and 2. It says how the power that heating or cooling delivers
+   is shared between the air and the surfaces. Version 1: by the convective fraction of heating, always.
+   Version 2: a power below 0 by the convective fraction of cooling, any other by that of heating. */
+#define HEM_ENTRY_VERSION 2
 
 /* The stack, in bytes, that suffices for every call (31 KB were measured, by hem_take_up; bench/stack). */
 #define HEM_STACK 49152
@@ -79,8 +83,8 @@ extern "C" {
 
 /* ---- answers ---- */
 
-/* The number of a refusal, 1 to 18, and its index: for 4, 5 and 9 the element from 1 (0 if none),
-   for 18 the entry from 0, otherwise 0. */
+/* The number of a refusal, 1 to 18, and its index: for 4, 5 and 9 the element from 1 (0 if none), for 18
+   at a take-up the entry from 0, at an append the count held, at an hour step 0; otherwise 0. */
 #define HEM_NUMBER(answer) ((answer) & 255u)
 #define HEM_INDEX(answer) ((answer) >> 8)
 
@@ -105,7 +109,8 @@ enum hem_number {
     HEM_NOT_SETTLED = 15,               /* start-up did not settle within the head's limit of passes */
     HEM_BUFFER_SHORT = 16,              /* the buffer is too short */
     HEM_BOOK_FULL = 17,                 /* the book would hold more than 8,784 entries */
-    HEM_FALSE_ENTRY = 18                /* an entry is false: it is not what the hour step gives */
+    HEM_FALSE_ENTRY = 18                /* an entry is false: it is not what the hour step gives; or a version that no
+                                           hour has, or that is below the last entry's */
 };
 
 /* ---- places in a head, from its first byte; floats have 8 bytes ---- */
@@ -188,7 +193,11 @@ enum hem_element_hour_at {
 
 /* ---- places in an entry; behind the conditions they depend on the n elements ---- */
 
-enum hem_entry_at { HEM_ENTRY_AT_LENGTH = 0, HEM_ENTRY_AT_VERSION = 4, HEM_ENTRY_AT_CONDITIONS = 5 };
+enum hem_entry_at {
+    HEM_ENTRY_AT_LENGTH = 0,    /* 4 bytes: the length of what follows, the same in both versions */
+    HEM_ENTRY_AT_VERSION = 4,   /* 1 byte: 1 or 2 */
+    HEM_ENTRY_AT_CONDITIONS = 5
+};
 #define HEM_ENTRY_AT_HEATING(n) (5 + HEM_CONDITIONS(n))       /* kWh, at least 0 */
 #define HEM_ENTRY_AT_COOLING(n) (13 + HEM_CONDITIONS(n))      /* kWh, at most 0 */
 #define HEM_ENTRY_AT_RATE(n) (21 + HEM_CONDITIONS(n))         /* the chosen rate, air changes per hour */
@@ -261,10 +270,11 @@ uint32_t hem_update(const uint8_t *head, size_t head_len, double temps[HEM_TEMPS
                     const uint8_t *cond, size_t cond_len, double gains, double fraction, double rate,
                     double balance[HEM_BALANCE]);
 
-/* One hour: its demand, and the temperatures after that demand was met. Replaces `temps`, writes `out`
-   and `balance`. Refused with 1 to 14. */
+/* One hour: its demand, and the temperatures after that demand was met, by the rule of an entry version
+   (HEM_ENTRY_VERSION; every number is taken, so 257 is not 1). Replaces `temps`, writes `out` and `balance`.
+   Refused with 1 to 5, 18 for a version that no hour has, then 6 to 14. */
 uint32_t hem_hour_step(const uint8_t *head, size_t head_len, double temps[HEM_TEMPS], uint64_t nodes,
-                       const uint8_t *cond, size_t cond_len, double out[HEM_OUT],
+                       const uint8_t *cond, size_t cond_len, uint64_t version, double out[HEM_OUT],
                        double balance[HEM_BALANCE]);
 
 /* The operative temperature of node temperatures, deg C: the mean of the air and of the inner surfaces
@@ -272,28 +282,34 @@ uint32_t hem_hour_step(const uint8_t *head, size_t head_len, double temps[HEM_TE
 uint32_t hem_operative(const uint8_t *head, size_t head_len, const double temps[HEM_TEMPS], uint64_t nodes,
                        double *operative);
 
-/* Begins a book: writes the head to the first bytes of `buf`, its start-up to `temps` and `*nodes`,
-   0 to `*count` and the number of bytes written to `*used`. Bytes of `buf` after them stay.
-   Refused with 1 to 5, 11 to 15, and 16 if `buf` cannot hold the head. */
-uint32_t hem_begin(const uint8_t *head, size_t head_len, uint8_t *buf, size_t buf_len,
-                   double temps[HEM_TEMPS], uint64_t *nodes, uint64_t *count, uint64_t *used);
+/* `*last_version` is the version of a book's last entry, 1 where there is none. */
 
-/* Appends the entry of one hour at `buf + *used`. `buf`, `temps`, `*nodes`, `*count` and `*used` are
-   those that the last call on this book left, and are moved on; `head` is the book's own head (it may
-   not be a part of `buf`). Refused with 1 to 14, 17 if 8,784 entries are held, and last 16 if `buf`
-   cannot hold the entry. */
+/* Begins a book: writes the head to the first bytes of `buf`, its start-up to `temps` and `*nodes`,
+   0 to `*count`, the number of bytes written to `*used` and 1 to `*last_version`. Bytes of `buf` after
+   them stay. Refused with 1 to 5, 11 to 15, and 16 if `buf` cannot hold the head. */
+uint32_t hem_begin(const uint8_t *head, size_t head_len, uint8_t *buf, size_t buf_len,
+                   double temps[HEM_TEMPS], uint64_t *nodes, uint64_t *count, uint64_t *used,
+                   uint64_t *last_version);
+
+/* Appends the entry of one hour at `buf + *used`, by the rule of `version` and with it as version byte.
+   `buf`, `temps`, `*nodes`, `*count`, `*used` and `*last_version` are those that the last call on this
+   book left, and are moved on; `head` is the book's own head (it may not be a part of `buf`). A book may
+   pass from version 1 to 2, never back. Refused with 1 to 5, 17 if 8,784 entries are held, 18 for a
+   version that no hour has or one below `*last_version`, then 6 to 14, and last 16 if `buf` cannot hold
+   the entry. */
 uint32_t hem_append(const uint8_t *head, size_t head_len, uint8_t *buf, size_t buf_len,
                     double temps[HEM_TEMPS], uint64_t *nodes, uint64_t *count, uint64_t *used,
-                    const uint8_t *cond, size_t cond_len);
+                    uint64_t *last_version, const uint8_t *cond, size_t cond_len, uint64_t version);
 
-/* Takes up the bytes of a book: each whole entry is calculated again and must be the same bytes. (A
-   changed condition that has no effect in its hour gives another true book.) Writes the temperatures
-   after the last whole entry (start-up's if there is none) and their number, the number of entries and
-   the number of bytes that they and the head take; a shorter rest behind them is an entry that was not
-   written to its end. Refused with 1 to 5, 11 to 15, 17 at the 8,785th entry and 18 at the first false
-   one. */
+/* Takes up the bytes of a book: each whole entry is calculated again, by the rule of its own version, and
+   must be the same bytes. (A changed condition or version that has no effect in its hour gives another
+   true book.) Writes the temperatures after the last whole entry (start-up's if there is none) and their
+   number, the number of entries, the number of bytes that they and the head take, and the version of the
+   last entry; a shorter rest behind them is an entry that was not written to its end. Refused with 1 to 5,
+   11 to 15, 17 at the 8,785th entry and 18 at the first false one, such as one whose version is unknown
+   or below that of the entry before it. */
 uint32_t hem_take_up(const uint8_t *bytes, size_t bytes_len, double temps[HEM_TEMPS], uint64_t *nodes,
-                     uint64_t *count, uint64_t *used);
+                     uint64_t *count, uint64_t *used, uint64_t *last_version);
 
 #ifdef __cplusplus
 }

@@ -2,6 +2,9 @@
 use crate::houses;
 use hem_zone::ffi::*;
 
+/// Entries have version 1, whose hours are those of the original.
+const VERSION: u64 = hem_zone::VERSION_1;
+
 /// Node temperatures.
 #[derive(Clone)]
 pub struct Temps {
@@ -15,6 +18,7 @@ pub struct Held {
     temps: Temps,
     count: u64,
     pub used: u64,
+    last_version: u64,
 }
 
 /// A house, its year, and the calls on them. A refusal ends the program.
@@ -31,6 +35,12 @@ fn accepted(answer: u32) {
 impl Temps {
     fn new() -> Self {
         Self { temps: [0.0; TEMPS], nodes: 0 }
+    }
+}
+
+impl Held {
+    fn new() -> Self {
+        Self { temps: Temps::new(), count: 0, used: 0, last_version: 0 }
     }
 }
 
@@ -72,6 +82,7 @@ impl Engine {
                 t.nodes,
                 hour.as_ptr(),
                 hour.len(),
+                VERSION,
                 out.as_mut_ptr(),
                 balance.as_mut_ptr(),
             )
@@ -113,7 +124,7 @@ impl Engine {
     }
 
     pub fn begin(&self, buffer: &mut [u8]) -> Held {
-        let mut held = Held { temps: Temps::new(), count: 0, used: 0 };
+        let mut held = Held::new();
         // SAFETY: as above; the buffer is apart from the head.
         accepted(unsafe {
             hem_begin(
@@ -125,6 +136,7 @@ impl Engine {
                 &mut held.temps.nodes,
                 &mut held.count,
                 &mut held.used,
+                &mut held.last_version,
             )
         });
         held
@@ -144,8 +156,10 @@ impl Engine {
                     &mut held.temps.nodes,
                     &mut held.count,
                     &mut held.used,
+                    &mut held.last_version,
                     hour.as_ptr(),
                     hour.len(),
+                    VERSION,
                 )
             });
         }
@@ -154,7 +168,7 @@ impl Engine {
 
     /// Takes a book up and gives the number of its entries.
     pub fn take_up(&self, bytes: &[u8]) -> u64 {
-        let mut held = Held { temps: Temps::new(), count: 0, used: 0 };
+        let mut held = Held::new();
         // SAFETY: the bytes are valid for their length, the array has 121 floats.
         accepted(unsafe {
             hem_take_up(
@@ -164,6 +178,7 @@ impl Engine {
                 &mut held.temps.nodes,
                 &mut held.count,
                 &mut held.used,
+                &mut held.last_version,
             )
         });
         held.count

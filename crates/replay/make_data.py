@@ -8,7 +8,8 @@ data/cases: for each line of SAMPLES, gen_cases.py is run with the seed, the cou
 greatest number of elements and the start-up limit that stand there. A case and the oracle's answer make a record:
 
     u32   length of what follows
-    u8    profile (0 house, 1 mild, 2 edge, 3 tight), u8 operation (1 demand, 2 update, 3 start-up, 4 hour step)
+    u8    profile (0 house, 1 mild, 2 edge, 3 tight), u8 operation (1 demand, 2 update, 3 start-up, 4 hour step of
+          version 1, 5 hour step of version 2)
     u8    0 where the answer is values, else document 01's number
     u16   length, the head; u16 count, the node temperatures; u16 length, the conditions
     3 f64 update's gains, fraction and rate (zeros for the other operations)
@@ -16,10 +17,11 @@ greatest number of elements and the start-up limit that stand there. A case and 
           integer), trigger rate; of an update the node temperatures and the 25 values of the heat balance; of
           start-up the node temperatures; of an hour step all of these
 
-Numbers of the answers that are no values: see NUMBERS. Left out are cases whose values lie beyond a million (13 in the
+The Rust's hour is version 1's. Each hour step that it answers with values is also kept as one of version 2, with the
+answer that `in_version_2` gets from the Rust. Numbers of the answers that are no values: see NUMBERS. Left out are cases whose values lie beyond a million (13 in the
 paper, a value in the Rust).
 
-data/refusals: rows made from document 01's rules alone. `head_answer`, `conditions_answer` and `state_answer` below
+data/refusals: rows made from the papers' rules alone (document 01, and document 02's (a) for entry versions). `head_answer`, `conditions_answer` and `state_answer` below
 are the paper's tests in the paper's order; the houses that give 12 to 15 are constructed, the entries of take-up rows
 are those of House P in balance, where every result is 0 and every temperature 20. A row:
 
@@ -33,8 +35,11 @@ are those of House P in balance, where every result is 0 and every temperature 2
     u16   the state's node count, u16 count of temperatures, the temperatures
     u16   length, the conditions; 3 f64 update's gains, fraction and rate
     u32   count of entries and u32 used length that the call is given, u32 length of the buffer
+    u64   version that an hour step or an append names, u64 last version that a call on a book is given, u64 last
+          version that it hands back where it is accepted
 """
 import collections
+import itertools
 import os
 import random
 import struct
@@ -69,6 +74,10 @@ NUMBERS = [
 NO_CONTROL = 1.4e32
 TRANSPARENT = 4
 MILLION = 1e6
+# places of the fractions in the conditions
+HEATING_FRACTION, COOLING_FRACTION = 32, 40
+# entry versions that hours have, and some that none has
+VERSIONS, NO_VERSIONS = (1, 2), (0, 3, 257, 2 ** 64 - 1)
 
 
 def u16(n):
@@ -77,6 +86,10 @@ def u16(n):
 
 def u32(n):
     return struct.pack(">I", n)
+
+
+def u64(n):
+    return struct.pack(">Q", n)
 
 
 def f64(*values):
@@ -141,17 +154,17 @@ def values_of(op, line, nodes):
     """the answer's values as 64-bit numbers"""
     words = line.split()
     values = []
-    if op in (1, 4):
+    if op in (1, 4, 5):
         values = [int(w, 16) for w in words[:3]]
         values += [0, 0] if words[3] == "none" else [1, int(words[3], 16)]
         words = words[4:]
     values += [int(w, 16) for w in words]
-    assert len(values) == {1: 5, 2: nodes + 25, 3: nodes, 4: 5 + nodes + 25}[op]
+    assert len(values) == {1: 5, 2: nodes + 25, 3: nodes, 4: 5 + nodes + 25, 5: 5 + nodes + 25}[op]
     return values
 
 
 def beyond(op, values, nodes):
-    start = 5 if op == 4 else 0
+    start = 5 if op in (4, 5) else 0
     temps = [] if op == 1 else values[start:start + nodes]
     return any(not abs(struct.unpack(">d", struct.pack(">Q", v))[0]) <= MILLION for v in temps)
 
@@ -167,13 +180,47 @@ def cover(seen, profile, op, head, conditions, number, values):
             bits = conditions[113 + 41 * i + 40]
             seen["treatment open"] += bin(bits).count("1")
             seen["treatment closed"] += t - bin(bits).count("1")
-    if op in (1, 4) and number == 0:
+    if op in (1, 4, 5) and number == 0:
         seen["heating" if values[0] else "cooling" if values[1] % 2 ** 63 else "neither"] += 1
         if conditions[96] == 1:
             target = int.from_bytes(conditions[97:105], "big")
             seen["windows used" if values[2] != target else "windows not used"] += 1
         else:
             seen["fixed rate"] += 1
+
+
+def put(b, at, new):
+    return b[:at] + new + b[at + len(new):]
+
+
+def answered(program, cases, answers):
+    """the cases of a file, each with the oracle's line"""
+    subprocess.run([program, cases, answers], check=True)
+    with open(cases, "rb") as c, open(answers) as a:
+        pairs = list(zip(read_cases(c.read()), a.read().splitlines()))
+    return pairs
+
+
+def is_cooled(line):
+    return struct.unpack(">d", bytes.fromhex(line.split()[1]))[0] < 0.0
+
+
+def in_version_2(program, cases, answers, pairs):
+    """the hour steps that the Rust answers with values, and their answers by the rule of version 2. The Rust shares
+    delivered power by the heating fraction. A cooled demand does not look at that fraction, so a cooled hour is asked
+    again with the cooling fraction in its place; any other hour has the answer that it has."""
+    hours = [(case, line) for case, line in pairs if case[0] == 4 and number_of(line) == 0]
+    with open(cases, "wb") as f:
+        for (op, head, temps, conditions, _), line in hours:
+            if is_cooled(line):
+                conditions = put(conditions, HEATING_FRACTION, conditions[COOLING_FRACTION:COOLING_FRACTION + 8])
+            f.write(bytes([op]) + u32(len(head)) + head + u16(len(temps) // 8) + temps)
+            f.write(u32(len(conditions)) + conditions)
+    again = answered(program, cases, answers)
+    assert len(again) == len(hours)
+    for ((_, *case), line), (_, line_2) in zip(hours, again):
+        assert number_of(line_2) or line.split()[:4] == line_2.split()[:4]
+        yield (5, *case), line_2
 
 
 def make_cases(oracle, program, out):
@@ -184,10 +231,9 @@ def make_cases(oracle, program, out):
             subprocess.run([sys.executable, os.path.join(oracle, "gen_cases.py"), str(seed), str(count), cases,
                             "--profile", profile, "--ops", ops, "--max-elements", str(most),
                             "--limit", str(limit)], check=True)
-            subprocess.run([program, cases, answers], check=True)
-            with open(cases, "rb") as c, open(answers) as a:
-                pairs = list(zip(read_cases(c.read()), a.read().splitlines()))
+            pairs = answered(program, cases, answers)
             assert len(pairs) == count
+            pairs += in_version_2(program, cases, answers, pairs)
             for (op, head, temps, conditions, own), line in pairs:
                 number, nodes = number_of(line), node_count(head)
                 values = values_of(op, line, nodes) if number == 0 else []
@@ -362,21 +408,17 @@ HOT_START = head_of([element(area=1e-6, h=(1e-6, 0.0, 0.0), k=(0.0, 0.0))],
                     values=(1e5, 1e-3, 1e-9, 10.0, 20.0, NO_CONTROL))
 
 
-def put(b, at, new):
-    return b[:at] + new + b[at + len(new):]
-
-
 class Rows:
     def __init__(self):
         self.rows, self.numbers, self.calls = [], collections.Counter(), collections.Counter()
 
     def add(self, call, expected, head=b"", change=(0, 0), nodes=None, temps=(), conditions=b"", own=(0.0, 0.0, 0.0),
-            count=0, used=0, room=0):
+            count=0, used=0, room=0, version=1, last=1, after=1):
         number, index = expected
         nodes = len(temps) if nodes is None else nodes
         b = bytes([call, number]) + u16(index) + u32(len(head)) + head + bytes([change[0]]) + u16(change[1])
         b += u16(nodes) + u16(len(temps)) + f64(*temps) + u16(len(conditions)) + conditions + f64(*own)
-        b += u32(count) + u32(used) + u32(room)
+        b += u32(count) + u32(used) + u32(room) + u64(version) + u64(last) + u64(after)
         self.rows.append(record(b))
         self.numbers[number] += 1
         self.calls[call] += 1
@@ -533,16 +575,20 @@ def make_solves(rows):
     rows.add(1, (9, 1), SINGULAR, (0, 0), 3, t, put(conditions_of(SINGULAR), 113, f64(101.0)))
 
 
-def entry_p():
-    """the entry of House P in balance"""
-    b = b"\1" + conditions_of(HOUSE_P) + f64(0.0, 0.0, 0.0) + b"\0" + f64(0.0) + f64(20.0, 20.0, 20.0)
+def entry_p(version=1):
+    """the entry of House P in balance: no power is delivered, so it is the same under every version but for its byte"""
+    b = bytes([version]) + conditions_of(HOUSE_P) + f64(0.0, 0.0, 0.0) + b"\0" + f64(0.0) + f64(20.0, 20.0, 20.0)
     assert len(b) == 212
     return record(b)
 
 
+# what a begin or a take-up is given, made up
+GIVEN = {"nodes": 7, "temps": [1.5, 2.5, 3.5], "count": 77, "used": 1234, "last": 9}
+
+
 def make_books(rows, r):
     p, c, t, e = HOUSE_P, conditions_of(HOUSE_P), [20.0] * 3, entry_p()
-    given = {"nodes": 7, "temps": [1.5, 2.5, 3.5], "count": 77, "used": 1234}
+    given = GIVEN
     # begin: head, start-up, then the buffer
     rows.add(5, (0, 0), p, room=180, **given)
     for room in (0, 4, 179):
@@ -604,12 +650,78 @@ def make_books(rows, r):
     rows.add(7, (18, 0), p + b"\0" + e * 5, **given)
 
 
+def make_hour_versions(rows):
+    """18 with index 0 at an hour step: after the zone, before the state"""
+    c, t = conditions_of(HOUSE_Q), [20.0] * node_count(HOUSE_Q)
+    crossed = put(put(c, 48, f64(22.0)), 56, f64(21.0))
+    for version in VERSIONS:
+        rows.add(4, (0, 0), HOUSE_P, (0, 0), 3, [20.0] * 3, conditions_of(HOUSE_P), version=version)
+        rows.add(4, (6, 0), HOUSE_Q, (0, 0), len(t) - 1, t, c, version=version)
+    for version in NO_VERSIONS:
+        for b in (c, c[:-1], b"", put(c, 96, b"\2"), put(c, 0, f64(0.0)), crossed):
+            rows.add(4, (18, 0), HOUSE_Q, (0, 0), len(t), t, b, version=version)
+            rows.add(4, (18, 0), HOUSE_Q, (0, 0), len(t) + 1, [1e7] * 3, b, version=version)
+        rows.add(4, (18, 0), SINGULAR, (0, 0), 3, [20.0] * 3, conditions_of(SINGULAR), version=version)
+        for change, answer in (((1, 0), (4, 0)), ((2, 1), (4, 1)), ((3, 0), (5, 0)), ((4, 0), (5, 2))):
+            rows.add(4, answer, HOUSE_Q, change, None, t, c, version=version)
+
+
+def make_append_versions(rows):
+    """18 with the count held at an append: after 17, before the state"""
+    p, c, t = HOUSE_P, conditions_of(HOUSE_P), [20.0] * 3
+    room = {"used": 180, "room": 396}
+    # a last version that no book hands back is compared all the same
+    for version, last in ((1, 0), (1, 1), (2, 0), (2, 1), (2, 2)):
+        rows.add(6, (0, 0), p, (0, 0), 3, t, c, count=5, version=version, last=last, after=version, **room)
+    falling = [(1, 2), (1, 3), (2, 3), (1, 2 ** 64 - 1), (2, 2 ** 64 - 1)]
+    unknown = [(version, last) for version in NO_VERSIONS for last in (1, 2, 2 ** 64 - 1)]
+    for version, last in falling + unknown:
+        named = {"version": version, "last": last}
+        for count in (0, 1, 5, 8783):
+            rows.add(6, (18, count), p, (0, 0), 3, t, c, count=count, **named, **room)
+        for count in (8784, 2 ** 32 - 1):
+            rows.add(6, (17, 0), p, (0, 0), 3, t, c, count=count, **named, **room)
+        rows.add(6, (18, 5), p, (0, 0), 2, t, c, count=5, **named, **room)
+        rows.add(6, (18, 5), p, (0, 0), 3, [1e7] * 3, c[:-1], count=5, **named, **room)
+        rows.add(6, (18, 5), p, (0, 0), 3, t, put(c, 48, f64(25.0)), count=5, **named, **room)
+        rows.add(6, (18, 5), p, (0, 0), 3, t, c, count=5, used=180, room=0, **named)
+        rows.add(6, (4, 0), p, (1, 0), 3, t, c, count=5, **named, **room)
+        rows.add(6, (5, 0), p, (3, 0), 3, t, c, count=9000, **named, **room)
+
+
+def book_answer(versions):
+    """number and index of a book whose entries are true but for these versions, and the last version held"""
+    last = 1
+    for i, version in enumerate(versions):
+        if version not in VERSIONS or version < last:
+            return (18, i), 1
+        last = version
+    return (0, 0), last
+
+
+def make_book_versions(rows):
+    """take-up: every order of versions over five entries, and versions that no hour has"""
+    orders = list(itertools.product(VERSIONS, repeat=5))
+    orders += [order[:i] + (version,) + order[i + 1:] for order in ((1, 1, 1, 1, 1), (1, 1, 2, 2, 2), (2, 2, 2, 2, 2))
+               for i in range(5) for version in (0, 3, 4, 255)]
+    for order in orders:
+        answer, last = book_answer(order)
+        book = HOUSE_P + b"".join(entry_p(version) for version in order)
+        rows.add(7, answer, book, after=last, **GIVEN)
+        # without its last byte the last entry is no entry, whatever its version
+        answer, last = book_answer(order[:-1])
+        rows.add(7, answer, book[:-1], after=last, **GIVEN)
+
+
 def make_refusals(out):
     rows, r = Rows(), random.Random(1801)
     make_heads(rows, r)
     make_calls(rows, r)
     make_solves(rows)
     make_books(rows, r)
+    make_hour_versions(rows)
+    make_append_versions(rows)
+    make_book_versions(rows)
     with open(out, "wb") as f:
         f.write(b"".join(rows.rows))
         total = f.tell()

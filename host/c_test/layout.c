@@ -134,15 +134,15 @@ static void give_back(House h) {
 /* ---- sizes ---- */
 
 /* Begins a book in exactly `head_len` bytes, appends in exactly an entry more: 0, 0; one byte less: 16. */
-static int entry_takes(const House *h, uint64_t nodes, size_t size) {
+static int entry_takes(const House *h, uint64_t nodes, size_t size, uint64_t version) {
     double *temps = lent(HEM_TEMPS * sizeof *temps);
-    uint64_t held = 0, count = 0, used = 0;
+    uint64_t held = 0, count = 0, used = 0, last = 0;
     uint8_t *book = lent(h->head_len + size);
-    int good = hem_begin(h->head, h->head_len, book, h->head_len, temps, &held, &count, &used) == 0 && held == nodes;
-    good = good && hem_append(h->head, h->head_len, book, h->head_len + size - 1, temps, &held, &count, &used, h->hour,
-                              h->hour_len) == HEM_BUFFER_SHORT;
-    good = good && hem_append(h->head, h->head_len, book, h->head_len + size, temps, &held, &count, &used, h->hour,
-                              h->hour_len) == 0;
+    int good = hem_begin(h->head, h->head_len, book, h->head_len, temps, &held, &count, &used, &last) == 0 && held == nodes;
+    good = good && hem_append(h->head, h->head_len, book, h->head_len + size - 1, temps, &held, &count, &used, &last, h->hour,
+                              h->hour_len, version) == HEM_BUFFER_SHORT;
+    good = good && hem_append(h->head, h->head_len, book, h->head_len + size, temps, &held, &count, &used, &last, h->hour,
+                              h->hour_len, version) == 0;
     good = good && used == h->head_len + size && count == 1;
     free(book);
     free(temps);
@@ -150,18 +150,19 @@ static int entry_takes(const House *h, uint64_t nodes, size_t size) {
 }
 
 /* The entry's results stand where the header says: they are those of the hour step. */
-static int results_stand(const House *h, uint64_t nodes, size_t n) {
+static int results_stand(const House *h, uint64_t nodes, size_t n, uint64_t version) {
     double temps[HEM_TEMPS] = {0}, before[HEM_TEMPS], out[HEM_OUT], balance[HEM_BALANCE];
-    uint64_t held = 0, count = 0, used = 0;
+    uint64_t held = 0, count = 0, used = 0, last = 0;
     uint8_t *book = lent(h->head_len + HEM_ENTRY(n, nodes));
     const uint8_t *entry = book + h->head_len;
-    hem_begin(h->head, h->head_len, book, h->head_len, temps, &held, &count, &used);
+    hem_begin(h->head, h->head_len, book, h->head_len, temps, &held, &count, &used, &last);
     memcpy(before, temps, sizeof before);
     memset(out, 0, sizeof out);
     memset(balance, 0, sizeof balance);
-    hem_append(h->head, h->head_len, book, h->head_len + HEM_ENTRY(n, nodes), temps, &held, &count, &used, h->hour, h->hour_len);
-    int good = hem_hour_step(h->head, h->head_len, before, held, h->hour, h->hour_len, out, balance) == 0;
-    good = good && entry[HEM_ENTRY_AT_VERSION] == HEM_FORMAT && memcmp(entry + HEM_ENTRY_AT_CONDITIONS, h->hour, h->hour_len) == 0;
+    hem_append(h->head, h->head_len, book, h->head_len + HEM_ENTRY(n, nodes), temps, &held, &count, &used, &last, h->hour,
+               h->hour_len, version);
+    int good = hem_hour_step(h->head, h->head_len, before, held, h->hour, h->hour_len, version, out, balance) == 0;
+    good = good && entry[HEM_ENTRY_AT_VERSION] == version && memcmp(entry + HEM_ENTRY_AT_CONDITIONS, h->hour, h->hour_len) == 0;
     good = good && out[HEM_OUT_HEATING] > 0 && get_double(entry + HEM_ENTRY_AT_HEATING(n)) == out[HEM_OUT_HEATING];
     good = good && get_double(entry + HEM_ENTRY_AT_COOLING(n)) == out[HEM_OUT_COOLING];
     good = good && out[HEM_OUT_RATE] == 0.5 && get_double(entry + HEM_ENTRY_AT_RATE(n)) == out[HEM_OUT_RATE];
@@ -179,7 +180,7 @@ static int balances(const House *h, uint64_t nodes) {
     for (int i = 0; i < HEM_TEMPS; i++) temps[i] = 20;
     memset(out, 0, sizeof out);
     memset(b, 0, sizeof b);
-    if (hem_hour_step(h->head, h->head_len, temps, nodes, h->hour, h->hour_len, out, b)) return 0;
+    if (hem_hour_step(h->head, h->head_len, temps, nodes, h->hour, h->hour_len, HEM_ENTRY_VERSION, out, b)) return 0;
     for (int i = HEM_AIR_SOLAR_GAINS; i <= HEM_AIR_FABRIC_HEAT_LOSS; i++) air += b[i];
     for (int i = HEM_EXT_FABRIC_EXT_AIR_CONVECTIVE; i <= HEM_EXT_FABRIC_EXT_SKY; i++) cause += b[i];
     for (int i = HEM_EXT_OPAQUE_FABRIC_EXT; i <= HEM_EXT_ZTU_FABRIC_EXT; i++) kind += b[i];
@@ -191,10 +192,12 @@ void test_sizes(void) {
     House largest = house(HEM_ELEMENTS, 0, 0), smallest = house(0, 1, 0), mixed = house(1, 1, 2);
     expect("HEM_HEAD_MOST", largest.head_len == HEM_HEAD_MOST && hem_head(largest.head, largest.head_len) == 0);
     expect("HEM_HEAD_LEAST", smallest.head_len == HEM_HEAD_LEAST && hem_head(smallest.head, smallest.head_len) == 0);
-    expect("HEM_ENTRY of 24 elements", entry_takes(&largest, HEM_TEMPS, HEM_ENTRY(HEM_ELEMENTS, HEM_TEMPS)));
-    expect("HEM_ENTRY of a window", entry_takes(&smallest, 3, HEM_ENTRY(1, 3)));
-    expect("HEM_ENTRY of a wall and a window", entry_takes(&mixed, 8, HEM_ENTRY(2, 8)));
-    expect("places in an entry", results_stand(&mixed, 8, 2));
+    for (uint64_t version = 1; version <= HEM_ENTRY_VERSION; version++) {
+        expect("HEM_ENTRY of 24 elements", entry_takes(&largest, HEM_TEMPS, HEM_ENTRY(HEM_ELEMENTS, HEM_TEMPS), version));
+        expect("HEM_ENTRY of a window", entry_takes(&smallest, 3, HEM_ENTRY(1, 3), version));
+        expect("HEM_ENTRY of a wall and a window", entry_takes(&mixed, 8, HEM_ENTRY(2, 8), version));
+        expect("places in an entry", results_stand(&mixed, 8, 2, version));
+    }
     expect("places in a balance", balances(&mixed, 8));
     give_back(largest);
     give_back(smallest);

@@ -10,7 +10,7 @@ typedef struct {
     uint8_t *head, *hour, *book;
     size_t head_len, hour_len, book_len;
     double temps[HEM_TEMPS], out[HEM_OUT], balance[HEM_BALANCE];
-    uint64_t nodes, count, used;
+    uint64_t nodes, count, used, last;
     uint32_t answers;
 } Calls;
 
@@ -20,11 +20,12 @@ static void *every_call(void *given) {
     c->answers |= hem_start_up(c->head, c->head_len, c->temps, &c->nodes);
     c->answers |= hem_demand(c->head, c->head_len, c->temps, c->nodes, c->hour, c->hour_len, c->out);
     c->answers |= hem_update(c->head, c->head_len, c->temps, c->nodes, c->hour, c->hour_len, 0, 1, 0.5, c->balance);
-    c->answers |= hem_hour_step(c->head, c->head_len, c->temps, c->nodes, c->hour, c->hour_len, c->out, c->balance);
+    c->answers |= hem_hour_step(c->head, c->head_len, c->temps, c->nodes, c->hour, c->hour_len, HEM_ENTRY_VERSION, c->out, c->balance);
     c->answers |= hem_operative(c->head, c->head_len, c->temps, c->nodes, c->out);
-    c->answers |= hem_begin(c->head, c->head_len, c->book, c->book_len, c->temps, &c->nodes, &c->count, &c->used);
-    c->answers |= hem_append(c->head, c->head_len, c->book, c->book_len, c->temps, &c->nodes, &c->count, &c->used, c->hour, c->hour_len);
-    c->answers |= hem_take_up(c->book, c->book_len, c->temps, &c->nodes, &c->count, &c->used);
+    c->answers |= hem_begin(c->head, c->head_len, c->book, c->book_len, c->temps, &c->nodes, &c->count, &c->used, &c->last);
+    c->answers |= hem_append(c->head, c->head_len, c->book, c->book_len, c->temps, &c->nodes, &c->count, &c->used, &c->last, c->hour,
+                             c->hour_len, HEM_ENTRY_VERSION);
+    c->answers |= hem_take_up(c->book, c->book_len, c->temps, &c->nodes, &c->count, &c->used, &c->last);
     return NULL;
 }
 

@@ -92,8 +92,10 @@ static void test_hour_step(const uint8_t *p, const uint8_t *warm) {
     double *temps = twenty(), *out = lent(HEM_OUT * sizeof *out), *balance = lent(HEM_BALANCE * sizeof *balance);
     out[0] = balance[0] = -1;
     expect("hour step refused: 6",
-           hem_hour_step(p, HEAD, temps, NODES + 1, warm, HOUR, out, balance) == 6 && out[0] == -1 && balance[0] == -1);
-    expect("hour step accepted", hem_hour_step(p, HEAD, temps, NODES, warm, HOUR, out, balance) == 0);
+           hem_hour_step(p, HEAD, temps, NODES + 1, warm, HOUR, 2, out, balance) == 6 && out[0] == -1 && balance[0] == -1);
+    expect("hour step of version 257 refused: 18",
+           hem_hour_step(p, HEAD, temps, NODES + 1, warm, HOUR, 257, out, balance) == 18 && out[0] == -1 && temps[2] == 20);
+    expect("hour step accepted", hem_hour_step(p, HEAD, temps, NODES, warm, HOUR, 2, out, balance) == 0);
     expect("hour step: 0.144 kWh, air 21", out[0] == 0.144 && temps[2] == 21 && balance[2] == 144);
     free(temps);
     free(out);
@@ -114,28 +116,32 @@ static void test_operative(const uint8_t *p) {
 
 static void test_book(const uint8_t *p, const uint8_t *warm) {
     double *temps = lent(HEM_TEMPS * sizeof *temps);
-    uint64_t nodes = 0, count = 99, used = 99;
+    uint64_t nodes = 0, count = 99, used = 99, last = 99;
     uint8_t *book = lent(HEAD + ENTRY);
-    expect("begin refused: 16", hem_begin(p, HEAD, book, HEAD - 1, temps, &nodes, &count, &used) == 16);
-    expect("begin refused: nothing written", nodes == 0 && count == 99 && used == 99 && book[0] == 0xA5);
-    expect("begin accepted", hem_begin(p, HEAD, book, HEAD + ENTRY, temps, &nodes, &count, &used) == 0);
-    expect("begin: the head", nodes == NODES && count == 0 && used == HEAD && memcmp(book, p, HEAD) == 0);
+    expect("begin refused: 16", hem_begin(p, HEAD, book, HEAD - 1, temps, &nodes, &count, &used, &last) == 16);
+    expect("begin refused: nothing written", nodes == 0 && count == 99 && used == 99 && last == 99 && book[0] == 0xA5);
+    expect("begin accepted", hem_begin(p, HEAD, book, HEAD + ENTRY, temps, &nodes, &count, &used, &last) == 0);
+    expect("begin: the head", nodes == NODES && count == 0 && used == HEAD && last == 1 && memcmp(book, p, HEAD) == 0);
+    expect("append of version 3 refused: 18",
+           hem_append(p, HEAD, book, HEAD + ENTRY, temps, &nodes, &count, &used, &last, warm, HOUR, 3) == 18 && last == 1);
     expect("append accepted",
-           hem_append(p, HEAD, book, HEAD + ENTRY, temps, &nodes, &count, &used, warm, HOUR) == 0);
-    expect("append: one entry", count == 1 && used == HEAD + ENTRY && temps[2] == 21 && book[HEAD + 3] == ENTRY - 4);
+           hem_append(p, HEAD, book, HEAD + ENTRY, temps, &nodes, &count, &used, &last, warm, HOUR, 2) == 0);
+    expect("append: one entry", count == 1 && used == HEAD + ENTRY && last == 2 && temps[2] == 21 && book[HEAD + 3] == ENTRY - 4);
+    expect("append of version 1 after 2 refused: 18 at entry 1",
+           hem_append(p, HEAD, book, HEAD + ENTRY, temps, &nodes, &count, &used, &last, warm, HOUR, 1) == 18 + 256);
     expect("append refused: 16",
-           hem_append(p, HEAD, book, HEAD + ENTRY, temps, &nodes, &count, &used, warm, HOUR) == 16);
-    expect("append refused: nothing written", count == 1 && used == HEAD + ENTRY && temps[2] == 21);
+           hem_append(p, HEAD, book, HEAD + ENTRY, temps, &nodes, &count, &used, &last, warm, HOUR, 2) == 16);
+    expect("append refused: nothing written", count == 1 && used == HEAD + ENTRY && last == 2 && temps[2] == 21);
 
     uint8_t *cut = lent(HEAD + ENTRY - 1);
     memcpy(cut, book, HEAD + ENTRY - 1);
-    expect("take-up at 395 bytes", hem_take_up(cut, HEAD + ENTRY - 1, temps, &nodes, &count, &used) == 0);
-    expect("take-up: no entry", count == 0 && used == HEAD && temps[2] == 20);
-    expect("take-up at 396 bytes", hem_take_up(book, HEAD + ENTRY, temps, &nodes, &count, &used) == 0);
-    expect("take-up: one entry", count == 1 && used == HEAD + ENTRY && temps[2] == 21);
-    book[HEAD + 4] = 2;
-    uint32_t answer = hem_take_up(book, HEAD + ENTRY, temps, &nodes, &count, &used);
-    expect("take-up refused: 18 at entry 0", HEM_NUMBER(answer) == 18 && HEM_INDEX(answer) == 0 && count == 1);
+    expect("take-up at 395 bytes", hem_take_up(cut, HEAD + ENTRY - 1, temps, &nodes, &count, &used, &last) == 0);
+    expect("take-up: no entry", count == 0 && used == HEAD && last == 1 && temps[2] == 20);
+    expect("take-up at 396 bytes", hem_take_up(book, HEAD + ENTRY, temps, &nodes, &count, &used, &last) == 0);
+    expect("take-up: one entry", count == 1 && used == HEAD + ENTRY && last == 2 && temps[2] == 21);
+    book[HEAD + 4] = 3;
+    uint32_t answer = hem_take_up(book, HEAD + ENTRY, temps, &nodes, &count, &used, &last);
+    expect("take-up refused: 18 at entry 0", HEM_NUMBER(answer) == 18 && HEM_INDEX(answer) == 0 && count == 1 && last == 2);
     free(cut);
     free(book);
     free(temps);
@@ -159,11 +165,12 @@ static void write_file(const char *dir, const char *name, const uint8_t *bytes, 
 static void write_year(const char *dir, const uint8_t *p, const uint8_t *warm) {
     uint8_t *year = lent(2 * HOUR), *book = lent(HEAD + 2 * ENTRY);
     double *temps = lent(HEM_TEMPS * sizeof *temps);
-    uint64_t nodes = 0, count = 0, used = 0;
+    uint64_t nodes = 0, count = 0, used = 0, last = 0;
     memcpy(year, warm, HOUR);
     memcpy(year + HOUR, warm, HOUR);
-    hem_begin(p, HEAD, book, HEAD + 2 * ENTRY, temps, &nodes, &count, &used);
-    for (int i = 0; i < 2; i++) hem_append(p, HEAD, book, HEAD + 2 * ENTRY, temps, &nodes, &count, &used, warm, HOUR);
+    hem_begin(p, HEAD, book, HEAD + 2 * ENTRY, temps, &nodes, &count, &used, &last);
+    for (int i = 0; i < 2; i++)
+        hem_append(p, HEAD, book, HEAD + 2 * ENTRY, temps, &nodes, &count, &used, &last, warm, HOUR, HEM_ENTRY_VERSION);
     expect("a book of two hours", count == 2 && used == HEAD + 2 * ENTRY);
     write_file(dir, "house.head", p, HEAD);
     write_file(dir, "house.year", year, 2 * HOUR);

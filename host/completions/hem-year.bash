@@ -14,6 +14,7 @@ _hem_year() {
     case $command in
         house) options+=' --force' ;;
         hours) options+=' --head --force' ;;
+        run) options+=' --entry-version' ;;
         report) options+=' --csv --svg --balance --nodes --head --name --force' ;;
         show) options+=' --hour --hours --head' ;;
         cut) options+=' --head --force' ;;
@@ -23,6 +24,8 @@ _hem_year() {
     COMPREPLY=()
     if [[ $before == --hour || $before == --name ]]; then
         return
+    elif [[ $before == --entry-version ]]; then
+        mapfile -t COMPREPLY < <(compgen -W '1 2' -- "$word")
     elif [[ $word == -* && $before != --csv && $before != --svg && $before != --head ]]; then
         mapfile -t COMPREPLY < <(compgen -W "$options" -- "$word")
     elif [[ -z $command ]]; then

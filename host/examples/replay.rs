@@ -7,7 +7,7 @@
 //! and the conditions, and for 2 gains, fraction and rate; all big-endian. Its answer is a line: floats as
 //! 16 hexadecimal digits, or the original's error. An answer of the original that the engine refuses with
 //! 12 or 13 is no difference: the original tests for less. Signs of zeros are counted for themselves.
-use hem_zone::{Demand, HeatBalance, Refusal, State, Zone};
+use hem_zone::{Demand, HeatBalance, Refusal, State, Zone, VERSION_1};
 use std::process::ExitCode;
 
 struct Case<'a> {
@@ -60,7 +60,9 @@ impl<'a> Case<'a> {
                 Ok(updated(&after.0, &after.1))
             }
             4 => {
-                let (state, met, balance) = zone.hour_step(&self.state, self.conditions)?;
+                // The original shares all power by the heating fraction, as version 1 does.
+                let step = zone.hour_step(&self.state, self.conditions, VERSION_1);
+                let (state, met, balance) = step?;
                 Ok([demand(&met), updated(&state, &balance)].concat())
             }
             _ => Ok(zone.start_up()?.temps().to_vec()),

@@ -1,10 +1,10 @@
 //! A year book: a head and the entry of each hour.
 use crate::bytes::{f64_at, f64s_at, length_at};
 use crate::conditions::Conditions;
-use crate::explain::Given;
+use crate::explain::{Given, NamedVersion};
 use crate::ffi;
 use crate::float;
-use crate::layout::{ENTRY_CONDITIONS, RESULTS};
+use crate::layout::{ENTRY_CONDITIONS, ENTRY_VERSION_AT, RESULTS};
 use crate::lent::{AsConditions, AsHead};
 use crate::refusal::{Reason, Refusal};
 use crate::zone::{judge, Demand, State, Zone};
@@ -19,6 +19,7 @@ pub struct Book {
     bytes: Vec<u8>,
     state: State,
     count: u64,
+    last_version: u64,
 }
 
 impl Book {
@@ -28,7 +29,7 @@ impl Book {
         let zone = Zone::from_head(head)?;
         let mut bytes = vec![0; zone.head().len()];
         let mut state = State::empty();
-        let (mut count, mut used) = (0, 0);
+        let (mut count, mut used, mut last_version) = (0, 0, 0);
         // SAFETY: head and buffer are valid for their lengths and apart from each other, the state's
         // array has 121 floats.
         let answer = unsafe {
@@ -41,18 +42,20 @@ impl Book {
                 &mut state.nodes,
                 &mut count,
                 &mut used,
+                &mut last_version,
             )
         };
         judge(answer, &Given { head: zone.head(), ..Given::default() })?;
-        Ok(Self { zone, bytes, state, count })
+        Ok(Self { zone, bytes, state, count, last_version })
     }
 
-    /// The book of these bytes, after each whole entry was calculated again and found to be the same.
-    /// A rest that is shorter than an entry is left out: [`Book::bytes`] ends before it.
+    /// The book of these bytes, after each whole entry was calculated again, by the rule of its own
+    /// version, and found to be the same. A rest that is shorter than an entry is left out:
+    /// [`Book::bytes`] ends before it.
     pub fn take_up(bytes: &[u8]) -> Result<Self, Refusal> {
         float::must_be_standard()?;
         let mut state = State::empty();
-        let (mut count, mut used) = (0, 0);
+        let (mut count, mut used, mut last_version) = (0, 0, 0);
         // SAFETY: `bytes` is valid for its length and only read, the state's array has 121 floats.
         let answer = unsafe {
             ffi::hem_take_up(
@@ -62,6 +65,7 @@ impl Book {
                 &mut state.nodes,
                 &mut count,
                 &mut used,
+                &mut last_version,
             )
         };
         if answer & 255 == Reason::FalseEntry as u32 {
@@ -69,15 +73,20 @@ impl Book {
         }
         judge(answer, &Given { head: bytes, ..Given::default() })?;
         let zone = Zone::from_head(bytes)?;
-        Ok(Self { zone, bytes: bytes[..used as usize].to_vec(), state, count })
+        Ok(Self { zone, bytes: bytes[..used as usize].to_vec(), state, count, last_version })
     }
 
-    /// Adds an hour, given as [`Conditions`] or in bytes, and gives the bytes of its entry. A refusal
-    /// leaves the book as it was.
-    pub fn append(&mut self, conditions: &(impl AsConditions + ?Sized)) -> Result<&[u8], Refusal> {
+    /// Adds an hour, given as [`Conditions`] or in bytes, and gives the bytes of its entry. The entry has
+    /// this version ([`ENTRY_VERSION`](crate::ENTRY_VERSION) is the newest); one that no hour has, or that
+    /// is below the last entry's, is refused with 18. A refusal leaves the book as it was.
+    pub fn append(
+        &mut self,
+        conditions: &(impl AsConditions + ?Sized),
+        version: u64,
+    ) -> Result<&[u8], Refusal> {
         float::must_be_standard()?;
         let conditions = &*conditions.conditions_bytes();
-        let held = self.bytes.len();
+        let (held, last) = (self.bytes.len(), self.last_version);
         let mut used = held as u64;
         self.bytes.resize(held + self.zone.layout().entry_len(), 0);
         // SAFETY: byte strings are valid for their lengths; the buffer is the book's own and apart
@@ -92,8 +101,10 @@ impl Book {
                 &mut self.state.nodes,
                 &mut self.count,
                 &mut used,
+                &mut self.last_version,
                 conditions.as_ptr(),
                 conditions.len(),
+                version,
             )
         };
         self.bytes.truncate(used as usize);
@@ -102,7 +113,8 @@ impl Book {
             temps: &self.state.temps,
             nodes: self.state.nodes as usize,
             conditions,
-            own: None,
+            version: Some(NamedVersion { version, last: Some(last) }),
+            ..Given::default()
         };
         judge(answer, &given)?;
         Ok(&self.bytes[held..])
@@ -126,6 +138,11 @@ impl Book {
     /// Number of hours held.
     pub fn hours(&self) -> usize {
         self.count as usize
+    }
+
+    /// The version of the last entry, 1 where there is none.
+    pub fn last_version(&self) -> u64 {
+        self.last_version
     }
 
     /// The entry of an hour, from 0, if it is held.
@@ -167,6 +184,11 @@ impl<'a> Entry<'a> {
     /// All bytes of the entry, its length included.
     pub fn bytes(&self) -> &'a [u8] {
         self.bytes
+    }
+
+    /// The version of the entry, by whose rule its hour was calculated.
+    pub fn version(&self) -> u64 {
+        self.bytes[ENTRY_VERSION_AT].into()
     }
 
     /// The bytes of the conditions.
@@ -212,18 +234,20 @@ fn false_entry(bytes: &[u8], place: usize) -> String {
 fn find_fault(bytes: &[u8], place: usize) -> Option<String> {
     let zone = Zone::from_head(bytes).ok()?;
     let entry = Entry::at(&zone, bytes, place);
-    let (length, version) = (length_at(entry.bytes, 0), entry.bytes[4]);
+    let before = place.checked_sub(1).map(|before| Entry::at(&zone, bytes, before));
+    let (length, version) = (length_at(entry.bytes, 0), entry.version());
     if length + 4 != entry.bytes.len() {
         return Some(format!("its length is {length}, not {}", entry.bytes.len() - 4));
     }
-    if version != 1 {
-        return Some(format!("its version is {version}, not 1"));
+    let last = before.map(|before| before.version());
+    if let Some(fault) = (NamedVersion { version, last }).fault() {
+        return Some(format!("its {fault}"));
     }
-    let before = match place {
-        0 => zone.start_up().ok()?,
-        _ => Entry::at(&zone, bytes, place - 1).state(),
+    let state = match before {
+        None => zone.start_up().ok()?,
+        Some(before) => before.state(),
     };
-    match zone.hour_step(&before, entry.conditions_bytes()) {
+    match zone.hour_step(&state, entry.conditions_bytes(), version) {
         Err(refusal) => Some(format!("its conditions are refused: {}", refusal.sentence())),
         Ok((after, demand, _)) => differing(&entry, &demand, &after),
     }

@@ -2,6 +2,7 @@
 //! looked up in the bytes, by the layouts and ranges of docs/FORMATS.md.
 use crate::bytes::{f64_at, length_at};
 use crate::conditions::{ElementHour, COMMON_SIZE, RATE_CODE};
+use crate::ffi::ENTRY_VERSION;
 use crate::layout::{element_size, Layout, HEAD_COMMON};
 use crate::ranges::{plain, FRACTION, GAINS, OPEN, RATE};
 use crate::refusal::Reason;
@@ -17,6 +18,16 @@ pub(crate) struct Given<'a> {
     pub(crate) conditions: &'a [u8],
     /// Gains, fraction and rate of an update.
     pub(crate) own: Option<[f64; 3]>,
+    /// The entry version of an hour step or an append.
+    pub(crate) version: Option<NamedVersion>,
+}
+
+/// An entry version that a call names or an entry has, and that of the entry before it where there is a
+/// book.
+#[derive(Clone, Copy)]
+pub(crate) struct NamedVersion {
+    pub(crate) version: u64,
+    pub(crate) last: Option<u64>,
 }
 
 /// The sentence of a refusal for this reason, with this index.
@@ -38,6 +49,7 @@ pub(crate) fn sentence(reason: Reason, index: u32, given: &Given) -> String {
             setpoints("ventilation", given.conditions, HOUR_SETPOINTS, 2)
         }
         Reason::NotSettled => passes(given.head),
+        Reason::FalseEntry => return named_version(given).unwrap_or_else(|| reason.to_string()),
         _ => None,
     };
     found.unwrap_or_else(|| at_element(index, &reason.to_string()))
@@ -108,6 +120,28 @@ fn kind_or_treatments(body: &[u8], index: u32) -> Option<String> {
 fn passes(head: &[u8]) -> Option<String> {
     let limit = u16::from_be_bytes([*head.get(7)?, *head.get(8)?]);
     Some(format!("start-up did not settle within its limit of passes ({})", plain(limit as f64)))
+}
+
+// ---- entry versions ----
+
+fn named_version(given: &Given) -> Option<String> {
+    Some(format!("the entry {}", given.version?.fault()?))
+}
+
+impl NamedVersion {
+    /// What is wrong with the version: no hour has it, or it is below that of the entry before.
+    pub(crate) fn fault(&self) -> Option<String> {
+        let version = self.version;
+        match self.last {
+            _ if !(1..=ENTRY_VERSION).contains(&version) => {
+                Some(format!("version is {version}, not 1 or {ENTRY_VERSION}"))
+            }
+            Some(last) if version < last => {
+                Some(format!("version is {version}, below that of the entry before it, {last}"))
+            }
+            _ => None,
+        }
+    }
 }
 
 // ---- states and conditions, of a head that was accepted ----

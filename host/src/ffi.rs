@@ -12,6 +12,8 @@ pub const OUT: usize = 5;
 pub const BALANCE: usize = 25;
 /// The most entries that a book holds (`HEM_ENTRIES`).
 pub const ENTRIES: usize = 8784;
+/// The newest version of entries (`HEM_ENTRY_VERSION`).
+pub const ENTRY_VERSION: u64 = 2;
 
 #[allow(missing_docs)]
 unsafe extern "C" {
@@ -49,6 +51,7 @@ unsafe extern "C" {
         nodes: u64,
         cond: *const u8,
         cond_len: usize,
+        version: u64,
         out: *mut f64,
         balance: *mut f64,
     ) -> u32;
@@ -70,6 +73,7 @@ unsafe extern "C" {
         nodes: *mut u64,
         count: *mut u64,
         used: *mut u64,
+        last_version: *mut u64,
     ) -> u32;
 
     pub fn hem_append(
@@ -81,8 +85,10 @@ unsafe extern "C" {
         nodes: *mut u64,
         count: *mut u64,
         used: *mut u64,
+        last_version: *mut u64,
         cond: *const u8,
         cond_len: usize,
+        version: u64,
     ) -> u32;
 
     pub fn hem_take_up(
@@ -92,5 +98,6 @@ unsafe extern "C" {
         nodes: *mut u64,
         count: *mut u64,
         used: *mut u64,
+        last_version: *mut u64,
     ) -> u32;
 }

@@ -4,6 +4,8 @@ use crate::conditions::{ElementHour, COMMON_SIZE};
 
 /// Bytes of a head before its first element, counted from after the length.
 pub(crate) const HEAD_COMMON: usize = 53;
+/// Where the version byte of an entry stands: behind its length.
+pub(crate) const ENTRY_VERSION_AT: usize = 4;
 /// Bytes of an entry before its conditions: length and version.
 pub(crate) const ENTRY_CONDITIONS: usize = 5;
 /// Bytes of the results before the temperatures: heating, cooling, rate, trigger and its rate.

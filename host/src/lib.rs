@@ -9,6 +9,8 @@
 //! - [`State`] holds the node temperatures, handed back by each call.
 //! - [`Book`] is a year: a head and the entry of each hour, which can be written to a file as it
 //!   grows and taken up again after a power cut.
+//! - An hour step and an entry have a version, by whose rule heating and cooling are shared between air
+//!   and surfaces: [`ENTRY_VERSION`] is the newest.
 //! - `text` (feature `text`) reads and writes heads as TOML and hours as CSV.
 //! - [`Refusal`] says why a call was turned away: its [`Reason`], number and index, and one sentence.
 //!
@@ -16,10 +18,10 @@
 //! floating-point environment is refused ([`Reason::FloatEnvironment`]) before the engine is called.
 //!
 //! ```
-//! use hem_zone::{Book, samples};
+//! use hem_zone::{samples, Book, ENTRY_VERSION};
 //!
 //! let mut book = Book::begin(&samples::house_p())?;
-//! book.append(&samples::hour_p(21.0, 24.0))?;
+//! book.append(&samples::hour_p(21.0, 24.0), ENTRY_VERSION)?;
 //! assert_eq!(book.entry(0).unwrap().demand().space_heat_demand, 0.144);
 //!
 //! let again = Book::take_up(book.bytes())?;
@@ -43,6 +45,7 @@ pub mod samples;
 #[cfg(feature = "text")]
 pub mod text;
 mod values;
+mod versions;
 mod zone;
 
 pub use book::{Book, Entry, MOST_ENTRIES};
@@ -54,4 +57,5 @@ pub use heat_balance::{
 pub use layout::Layout;
 pub use lent::{AsConditions, AsHead};
 pub use refusal::{Reason, Refusal};
+pub use versions::{ENTRY_VERSION, VERSION_1, VERSION_2};
 pub use zone::{Demand, State, Zone};

@@ -68,8 +68,9 @@ reasons! {
     BufferShort = 16, "the buffer of the book is too short";
     /// The book would hold more than 8,784 entries.
     BookFull = 17, "a book holds at most 8,784 entries";
-    /// An entry is not what the hour step gives.
-    FalseEntry = 18, "an entry is not what its hour gives";
+    /// An entry is not what the hour step gives; or the entry version that a call names is one that no
+    /// hour has, or is below that of the book's last entry.
+    FalseEntry = 18, "an entry is not what its hour gives, or its version is unknown or too low";
     /// A number that this crate does not know.
     Unknown = 255, "the engine refused the call";
 }
@@ -80,13 +81,21 @@ pub struct Refusal {
     number: u32,
     index: u32,
     sentence: String,
+    /// Whether the index is the place of an entry: that of 18, but for an hour step.
+    of_entry: bool,
 }
 
 impl Refusal {
     /// The refusal that an answer of the C interface stands for.
     pub(crate) fn new(answer: u32, sentence: impl FnOnce(u32, u32) -> String) -> Self {
         let (number, index) = (answer & 255, answer >> 8);
-        Self { number, index, sentence: sentence(number, index) }
+        let of_entry = Reason::of_number(number) == Reason::FalseEntry;
+        Self { number, index, sentence: sentence(number, index), of_entry }
+    }
+
+    /// The same where the call was on no book.
+    pub(crate) fn of_no_entry(self) -> Self {
+        Self { of_entry: false, ..self }
     }
 
     /// Why the call was refused.
@@ -99,7 +108,8 @@ impl Refusal {
         self.number
     }
 
-    /// The engine's index: for 4, 5 and 9 the element from 1 (0 if none), for 18 the entry from 0.
+    /// The engine's index: for 4, 5 and 9 the element from 1 (0 if none); for 18 at a take-up the entry
+    /// from 0, at an append the number of hours held, at an hour step 0.
     pub fn index(&self) -> u32 {
         self.index
     }
@@ -118,7 +128,9 @@ impl fmt::Display for Refusal {
             4 | 5 | 9 if self.index > 0 => {
                 write!(f, " (refusal {}, element {})", self.number, self.index)
             }
-            18 => write!(f, " (refusal 18, entry {})", self.index),
+            _ if self.of_entry => {
+                write!(f, " (refusal {}, entry {})", self.number, self.index)
+            }
             _ => write!(f, " (refusal {})", self.number),
         }
     }

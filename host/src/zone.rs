@@ -1,5 +1,5 @@
 //! A zone, its node temperatures and the calls on them.
-use crate::explain::{sentence, Given};
+use crate::explain::{sentence, Given, NamedVersion};
 use crate::ffi;
 use crate::float;
 use crate::head::Head;
@@ -94,9 +94,14 @@ pub struct Zone {
 pub(crate) fn judge(answer: u32, given: &Given) -> Result<(), Refusal> {
     match answer {
         0 => Ok(()),
-        _ => Err(Refusal::new(answer, |number, index| {
-            sentence(Reason::of_number(number), index, given)
-        })),
+        _ => {
+            let of_number = |number, index| sentence(Reason::of_number(number), index, given);
+            let refusal = Refusal::new(answer, of_number);
+            Err(match given.version {
+                Some(NamedVersion { last: None, .. }) => refusal.of_no_entry(),
+                _ => refusal,
+            })
+        }
     }
 }
 
@@ -154,7 +159,7 @@ impl Zone {
             temps: &state.temps,
             nodes: state.nodes as usize,
             conditions,
-            own: None,
+            ..Given::default()
         }
     }
 
@@ -220,11 +225,14 @@ impl Zone {
         Ok((after, HeatBalance::of_values(&balance)))
     }
 
-    /// One hour: its demand, the state after the demand was met, and the heat balance.
+    /// One hour: its demand, the state after the demand was met, and the heat balance. The demand is met
+    /// by the rule of an entry version ([`ENTRY_VERSION`](crate::ENTRY_VERSION)); one that no hour has is
+    /// refused with 18.
     pub fn hour_step(
         &self,
         before: &State,
         conditions: &(impl AsConditions + ?Sized),
+        version: u64,
     ) -> Result<(State, Demand, HeatBalance), Refusal> {
         float::must_be_standard()?;
         let conditions = &*conditions.conditions_bytes();
@@ -241,11 +249,13 @@ impl Zone {
                 after.nodes,
                 conditions.as_ptr(),
                 conditions.len(),
+                version,
                 out.as_mut_ptr(),
                 balance.as_mut_ptr(),
             )
         };
-        judge(answer, &self.given(before, conditions))?;
+        let version = Some(NamedVersion { version, last: None });
+        judge(answer, &Given { version, ..self.given(before, conditions) })?;
         Ok((after, Demand::of_values(&out), HeatBalance::of_values(&balance)))
     }
 

@@ -1,170 +1,10 @@
 //! The nine functions of include/hem_zone.h, called as C calls them: once accepted, once refused.
+#[path = "common/lent.rs"]
+mod lent;
+
 use hem_zone::ffi::*;
-use hem_zone::samples::{hour_p, house_p};
-
-/// What the arrays hold before a call, to see what it wrote.
-const MARK: f64 = -12345.0;
-const MARK_COUNT: u64 = 77;
-
-struct Lent {
-    temps: [f64; TEMPS],
-    nodes: u64,
-    count: u64,
-    used: u64,
-    out: [f64; OUT],
-    balance: [f64; BALANCE],
-    buf: Vec<u8>,
-}
-
-impl Lent {
-    fn new(buf: usize) -> Self {
-        Self {
-            temps: [MARK; TEMPS],
-            nodes: MARK_COUNT,
-            count: MARK_COUNT,
-            used: MARK_COUNT,
-            out: [MARK; OUT],
-            balance: [MARK; BALANCE],
-            buf: vec![0xA5; buf],
-        }
-    }
-
-    /// A state of House P: three nodes at 20 °C.
-    fn at_twenty(buf: usize) -> Self {
-        let mut lent = Self::new(buf);
-        lent.temps[..3].fill(20.0);
-        lent.nodes = 3;
-        lent
-    }
-
-    fn seen(&self) -> (Vec<u64>, [u64; 3], Vec<u64>, Vec<u8>) {
-        let bits = |values: &[f64]| values.iter().map(|v| v.to_bits()).collect::<Vec<_>>();
-        let results = [&self.out[..], &self.balance[..]].concat();
-        (bits(&self.temps), [self.nodes, self.count, self.used], bits(&results), self.buf.clone())
-    }
-}
-
-/// Calls with `lent`, which must be refused with this answer and have written nothing.
-fn refused(mut lent: Lent, answer: u32, call: impl FnOnce(&mut Lent) -> u32) {
-    let before = lent.seen();
-    assert_eq!(call(&mut lent), answer);
-    assert!(lent.seen() == before, "a refused call wrote something");
-}
-
-fn p() -> Vec<u8> {
-    house_p().to_bytes()
-}
-
-fn hour(heat: f64, cool: f64) -> Vec<u8> {
-    hour_p(heat, cool).to_bytes()
-}
-
-fn start_up(head: &[u8], lent: &mut Lent) -> u32 {
-    unsafe { hem_start_up(head.as_ptr(), head.len(), lent.temps.as_mut_ptr(), &mut lent.nodes) }
-}
-
-fn demand(head: &[u8], cond: &[u8], lent: &mut Lent) -> u32 {
-    unsafe {
-        hem_demand(
-            head.as_ptr(),
-            head.len(),
-            lent.temps.as_ptr(),
-            lent.nodes,
-            cond.as_ptr(),
-            cond.len(),
-            lent.out.as_mut_ptr(),
-        )
-    }
-}
-
-fn update(head: &[u8], cond: &[u8], own: [f64; 3], lent: &mut Lent) -> u32 {
-    unsafe {
-        hem_update(
-            head.as_ptr(),
-            head.len(),
-            lent.temps.as_mut_ptr(),
-            lent.nodes,
-            cond.as_ptr(),
-            cond.len(),
-            own[0],
-            own[1],
-            own[2],
-            lent.balance.as_mut_ptr(),
-        )
-    }
-}
-
-fn hour_step(head: &[u8], cond: &[u8], lent: &mut Lent) -> u32 {
-    unsafe {
-        hem_hour_step(
-            head.as_ptr(),
-            head.len(),
-            lent.temps.as_mut_ptr(),
-            lent.nodes,
-            cond.as_ptr(),
-            cond.len(),
-            lent.out.as_mut_ptr(),
-            lent.balance.as_mut_ptr(),
-        )
-    }
-}
-
-fn operative(head: &[u8], lent: &mut Lent) -> u32 {
-    unsafe {
-        hem_operative(
-            head.as_ptr(),
-            head.len(),
-            lent.temps.as_ptr(),
-            lent.nodes,
-            lent.out.as_mut_ptr(),
-        )
-    }
-}
-
-fn begin(head: &[u8], lent: &mut Lent) -> u32 {
-    unsafe {
-        hem_begin(
-            head.as_ptr(),
-            head.len(),
-            lent.buf.as_mut_ptr(),
-            lent.buf.len(),
-            lent.temps.as_mut_ptr(),
-            &mut lent.nodes,
-            &mut lent.count,
-            &mut lent.used,
-        )
-    }
-}
-
-fn append(head: &[u8], cond: &[u8], lent: &mut Lent) -> u32 {
-    unsafe {
-        hem_append(
-            head.as_ptr(),
-            head.len(),
-            lent.buf.as_mut_ptr(),
-            lent.buf.len(),
-            lent.temps.as_mut_ptr(),
-            &mut lent.nodes,
-            &mut lent.count,
-            &mut lent.used,
-            cond.as_ptr(),
-            cond.len(),
-        )
-    }
-}
-
-fn take_up(bytes: &[u8], lent: &mut Lent) -> u32 {
-    unsafe {
-        hem_take_up(
-            bytes.as_ptr(),
-            bytes.len(),
-            lent.temps.as_mut_ptr(),
-            &mut lent.nodes,
-            &mut lent.count,
-            &mut lent.used,
-        )
-    }
-}
+use hem_zone::samples::house_p;
+use lent::*;
 
 #[test]
 fn head() {
@@ -207,13 +47,13 @@ fn update_of_house_p() {
 #[test]
 fn hour_step_of_house_p() {
     let mut lent = Lent::at_twenty(0);
-    assert_eq!(hour_step(&p(), &hour(21.0, 24.0), &mut lent), 0);
+    assert_eq!(hour_step(&p(), &hour(21.0, 24.0), ENTRY_VERSION, &mut lent), 0);
     assert_eq!(lent.out[0], 0.144);
     assert_eq!(lent.temps[2], 21.0);
     assert!(lent.balance.iter().all(|v| *v != MARK));
     let mut wrong = Lent::at_twenty(0);
     wrong.nodes = 4;
-    refused(wrong, 6, |lent| hour_step(&p(), &hour(21.0, 24.0), lent));
+    refused(wrong, 6, |lent| hour_step(&p(), &hour(21.0, 24.0), ENTRY_VERSION, lent));
 }
 
 #[test]
@@ -239,7 +79,7 @@ fn operative_of_house_p() {
 fn begin_writes_the_head_and_no_more() {
     let mut lent = Lent::new(200);
     assert_eq!(begin(&p(), &mut lent), 0);
-    assert_eq!((lent.nodes, lent.count, lent.used), (3, 0, 180));
+    assert_eq!((lent.nodes, lent.count, lent.used, lent.last_version), (3, 0, 180, 1));
     assert_eq!(&lent.buf[..180], p());
     assert_eq!(lent.buf[180..], [0xA5; 20]);
     assert_eq!(begin(&p(), &mut Lent::new(180)), 0);
@@ -250,12 +90,13 @@ fn begin_writes_the_head_and_no_more() {
 fn append_writes_one_entry() {
     let mut lent = Lent::new(400);
     assert_eq!(begin(&p(), &mut lent), 0);
-    assert_eq!(append(&p(), &hour(21.0, 24.0), &mut lent), 0);
+    assert_eq!(append(&p(), &hour(21.0, 24.0), ENTRY_VERSION, &mut lent), 0);
     assert_eq!((lent.nodes, lent.count, lent.used, lent.temps[2]), (3, 1, 396, 21.0));
-    assert_eq!(lent.buf[180..185], [0, 0, 0, 212, 1]);
+    assert_eq!(lent.last_version, ENTRY_VERSION);
+    assert_eq!(lent.buf[180..185], [0, 0, 0, 212, 2]);
     assert_eq!(lent.buf[185..339], hour(21.0, 24.0));
     assert_eq!(lent.buf[396..], [0xA5; 4]);
-    refused(lent, 16, |lent| append(&p(), &hour(21.0, 24.0), lent));
+    refused(lent, 16, |lent| append(&p(), &hour(21.0, 24.0), ENTRY_VERSION, lent));
 }
 
 #[test]
@@ -263,13 +104,13 @@ fn append_needs_room_and_takes_all_of_it() {
     for (room, answer) in [(395, 16), (396, 0)] {
         let mut lent = Lent::new(room);
         assert_eq!(begin(&p(), &mut lent), 0);
-        assert_eq!(append(&p(), &hour(21.0, 24.0), &mut lent), answer);
+        assert_eq!(append(&p(), &hour(21.0, 24.0), ENTRY_VERSION, &mut lent), answer);
     }
     // A used length beyond the buffer, up to the greatest: refused, and no address overflows.
     for used in [201, u64::MAX - 10, u64::MAX] {
         let mut lent = Lent::at_twenty(200);
-        (lent.count, lent.used) = (0, used);
-        refused(lent, 16, |lent| append(&p(), &hour(21.0, 24.0), lent));
+        (lent.count, lent.used, lent.last_version) = (0, used, 1);
+        refused(lent, 16, |lent| append(&p(), &hour(21.0, 24.0), ENTRY_VERSION, lent));
     }
 }
 
@@ -277,22 +118,22 @@ fn append_needs_room_and_takes_all_of_it() {
 fn append_counts_to_8784() {
     let full = |count, used| {
         let mut lent = Lent::at_twenty(1000);
-        (lent.count, lent.used) = (count, used);
+        (lent.count, lent.used, lent.last_version) = (count, used, 1);
         lent
     };
     let mut last = full(8783, 180);
-    assert_eq!(append(&p(), &hour(21.0, 24.0), &mut last), 0);
+    assert_eq!(append(&p(), &hour(21.0, 24.0), ENTRY_VERSION, &mut last), 0);
     assert_eq!(last.count, 8784);
-    refused(full(8784, 180), 17, |lent| append(&p(), &hour(21.0, 24.0), lent));
+    refused(full(8784, 180), 17, |lent| append(&p(), &hour(21.0, 24.0), ENTRY_VERSION, lent));
     // 17 comes before the hour's own refusals.
-    refused(full(u64::MAX, 180), 17, |lent| append(&p(), &hour(22.0, 21.0), lent));
+    refused(full(u64::MAX, 180), 17, |lent| append(&p(), &hour(22.0, 21.0), ENTRY_VERSION, lent));
 }
 
 #[test]
 fn take_up_of_a_book() {
     let mut book = Lent::new(396);
     assert_eq!(begin(&p(), &mut book), 0);
-    assert_eq!(append(&p(), &hour(21.0, 24.0), &mut book), 0);
+    assert_eq!(append(&p(), &hour(21.0, 24.0), ENTRY_VERSION, &mut book), 0);
     for (cut, count, used, air) in [(180, 0, 180, 20.0), (395, 0, 180, 20.0), (396, 1, 396, 21.0)] {
         let mut lent = Lent::new(0);
         assert_eq!(take_up(&book.buf[..cut], &mut lent), 0);

@@ -68,7 +68,9 @@ fn the_table_has_every_value_to_the_bit() {
         };
         assert!(empty.iter().all(|name| cell(name).is_empty()) && !cell(full).is_empty());
         assert_eq!(cell("ach_to_trigger_heating").parse().ok(), demand.ach_to_trigger_heating);
-        let (after, _, balance) = book.zone().hour_step(&state, entry.conditions_bytes()).unwrap();
+        assert_eq!((cell("entry_version"), entry.version()), ("2", 2));
+        let step = book.zone().hour_step(&state, entry.conditions_bytes(), entry.version());
+        let (after, _, balance) = step.unwrap();
         same("air_node.fabric_heat_loss", balance.air_node.fabric_heat_loss);
         same("internal_boundary.fabric_int_sol", balance.internal_boundary.fabric_int_sol);
         same("external_boundary.ztu_fabric_ext", balance.external_boundary.ztu_fabric_ext);
@@ -209,7 +211,7 @@ fn every_print_has_the_name_and_the_fingerprints() {
     assert!(
         svg.contains("floor area 36 m²")
             && svg.contains(" kWh/m²)")
-            && svg.contains("hem-year 0.1.0")
+            && svg.contains(concat!("hem-year ", env!("CARGO_PKG_VERSION")))
     );
     for (name, file) in [("head", "p.head"), ("conditions", "p.year"), ("book", "p.book")] {
         let digits: String =

@@ -52,9 +52,8 @@ fn totals_and_durations_go_by_length() {
 fn one_hour_is_no_hours() {
     let (folder, _) = with_year("one", &hour_p(21.0, 24.0).to_bytes());
     let report = folder.call(&["report", "p.book"]).done();
-    assert!(
-        report.contains("p.book, by hem-year 0.1.0: 1 hour held, from 1 Jan 00:00 to 1 Jan 01:00")
-    );
+    let by = concat!("p.book, by hem-year ", env!("CARGO_PKG_VERSION"), ": 1 hour held, ");
+    assert!(report.contains(&format!("{by}from 1 Jan 00:00 to 1 Jan 01:00")), "{report}");
     assert!(report.contains("0.1 kWh (0.0 kWh/m²) in 1 hour, highest 0.14 kW"), "{report}");
     assert!(report.contains("useful floor area 36 m², 1 element, 3 nodes"), "{report}");
 }

@@ -36,6 +36,11 @@ fn a_usage_error_is_one_sentence_with_where_to_read_more() {
         (&["report", ""], "report: the word for BOOK is empty; see"),
         (&["report", "b", "--csv="], "report: the word for --csv is empty; see"),
         (&["run", "a", "b", "c", "--csv", "x"], "run: --csv is not an option of this command; see"),
+        (&["run", "a", "b", "c", "--entry-version"], "run: --entry-version needs a number; see"),
+        (
+            &["run", "a", "b", "c", "--entry-version=two"],
+            "run: --entry-version is \"two\", which is not a whole number from 0; see",
+        ),
         (&["cut", "a", "-1", "b"], "cut: -1 is not an option; see"),
         (
             &["cut", "a", "1.5", "b"],
@@ -107,7 +112,7 @@ fn options(text: &str) -> Vec<String> {
     let mut found: Vec<String> = text
         .split("--")
         .skip(1)
-        .map(|rest| rest.chars().take_while(|c| c.is_ascii_alphabetic()).collect())
+        .map(|rest| rest.chars().take_while(|c| c.is_ascii_alphabetic() || *c == '-').collect())
         .filter(|name: &String| !name.is_empty())
         .collect();
     found.sort();
@@ -118,15 +123,18 @@ fn options(text: &str) -> Vec<String> {
 #[test]
 fn the_options_of_a_help_are_taken_and_no_others() {
     let folder = Folder::new("options");
-    let all = ["balance", "csv", "force", "head", "hour", "hours", "name", "nodes", "svg"];
+    let valued = ["csv", "entry-version", "head", "hour", "name", "svg"];
+    let all = [&valued[..], &["balance", "force", "hours", "nodes"]].concat();
     for command in COMMANDS {
         let help = folder.call(&["help", command]).done();
         let usage = help.split("\n\n").next().unwrap();
         let named = options(usage);
         assert!(options(&help).iter().all(|name| named.contains(name)), "{help}");
-        for option in all {
-            let valued = ["csv", "head", "hour", "name", "svg"].contains(&option);
-            let word = if valued { format!("--{option}=1") } else { format!("--{option}") };
+        for option in &all {
+            let word = match valued.contains(option) {
+                true => format!("--{option}=1"),
+                false => format!("--{option}"),
+            };
             let errors = folder.call(&[command, &word]).errors();
             let refused = errors.contains("is not an option of this command");
             assert_eq!(refused, !named.iter().any(|n| n == option), "{command} {option}: {errors}");
@@ -191,4 +199,5 @@ fn the_completion_offers_commands_options_and_files() {
     assert_eq!(completed(&folder, &["report", "p.book", "--csv", "p.y"]), ["p.year"]);
     assert_eq!(completed(&folder, &["--force", "report", "--s"]), ["--svg"]);
     assert!(completed(&folder, &["show", "p.book", "--hour", ""]).is_empty());
+    assert_eq!(completed(&folder, &["run", "p.head", "--entry-version", ""]), ["1", "2"]);
 }

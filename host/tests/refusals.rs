@@ -61,7 +61,7 @@ fn demand_with(change: impl FnOnce(&mut Conditions)) -> Result<Demand, Refusal> 
 
 #[test]
 fn the_house_and_its_hour_are_accepted() {
-    assert!(zone().hour_step(&twenty(), &hour().to_bytes()).is_ok());
+    assert!(zone().hour_step(&twenty(), &hour().to_bytes(), ENTRY_VERSION).is_ok());
     assert!(Book::begin(&house().to_bytes()).is_ok());
 }
 
@@ -287,11 +287,11 @@ fn n17_full_book() {
     let hour = hour_p(20.0, 24.0).to_bytes();
     let mut book = Book::begin(&house_p().to_bytes()).unwrap();
     for _ in 0..MOST_ENTRIES {
-        book.append(&hour).unwrap();
+        book.append(&hour, ENTRY_VERSION).unwrap();
     }
     let sentence = "a book holds at most 8,784 entries";
     let full = book.bytes().to_vec();
-    is(book.append(&hour).map(|_| ()), 17, 0, sentence);
+    is(book.append(&hour, ENTRY_VERSION).map(|_| ()), 17, 0, sentence);
     assert_eq!((book.hours(), book.bytes()), (8784, &full[..]));
     assert_eq!(Book::take_up(&full).unwrap().hours(), 8784);
     let one_more = [&full[..], &full[180..396]].concat();
@@ -302,7 +302,7 @@ fn n17_full_book() {
 fn n18_false_entries() {
     let mut book = Book::begin(&house().to_bytes()).unwrap();
     for _ in 0..3 {
-        book.append(&hour().to_bytes()).unwrap();
+        book.append(&hour().to_bytes(), ENTRY_VERSION).unwrap();
     }
     let layout = book.zone().layout().clone();
     let third = layout.head_len() + 2 * layout.entry_len();
@@ -315,7 +315,7 @@ fn n18_false_entries() {
     let length = layout.entry_len() - 4;
     let wrong = format!("entry 2: its length is {}, not {length}", length ^ 0x81);
     is(changed(third + 3), 18, 2, &wrong);
-    is(changed(third + 4), 18, 2, "entry 2: its version is 128, not 1");
+    is(changed(third + 4), 18, 2, "entry 2: its version is 131, not 1 or 2");
     let refused = "entry 2: its conditions are refused: the rate code is 129, \
                    not 0 (fixed) or 1 (target and open)";
     is(changed(third + 5 + 96), 18, 2, refused);

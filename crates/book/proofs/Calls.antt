@@ -12,6 +12,7 @@ use lib.Ieee.{Float}
 use borrow.Author.Tests.{leb-true, leb-false, le-leb, lt-ltb, lt-leb, le-ltb}
 use Rattle.zone.specs.Promise.{Result, ok, refused, bind, require}
 use Rattle.zone.specs.Inner.Lent.{zoneIn}
+use Rattle.zone.specs.Record.Numbers.{falseEntry}
 use Rattle.zone.specs.Record.BuildingElement.{standardCoefficients}
 use Rattle.zone.specs.Format.Head.{ReadHead}
 use Rattle.zone.specs.Inner.Head.{structuredHead, headIn}
@@ -21,7 +22,7 @@ use Rattle.zone.specs.declared.record.zone_record.ZoneFront.{ZoneFront}
 use Rattle.zone.specs.declared.record.zone_record.Verdict.{Verdict}
 use Rattle.zone.specs.declared.record.zone_record.Verdict.the-variants.{Accepted, Refused}
 use Rattle.zone.specs.declared.format.head.Head.{Head}
-use Rattle.zone.proofs.Promise.{verdict-accepted, verdict-refused, start-no, start-yes}
+use Rattle.zone.proofs.Promise.{verdict-accepted, verdict-refused}
 use Rattle.zone.specs.Inner.NextHour.{nextHour}
 use Rattle.zone.specs.Calls.StartUp.{initNodeTemps}
 use Rattle.zone.specs.Calls.Answers.{startUpReply}
@@ -39,14 +40,14 @@ use Rattle.book.specs.Inner.Replace.{replaceAt}
 use Rattle.zone.specs.Format.Layout.{conditionsLength}
 use Rattle.book.specs.Layout.{wholeLength}
 use Rattle.book.specs.Entry.{entryOf}
-use Rattle.book.specs.Year.{startUp, hourEntry, yearInterface}
+use Rattle.book.specs.Year.{hour, Carried, noEntryVersion, mayFollow, startUp, hourEntry, yearInterface}
 use Rattle.book.specs.Answers.{givenOf, replyIn, rustTypes}
 use Rattle.book.specs.declared.book.BookState.{BookState}
 use Rattle.book.specs.declared.book.Reply.{Reply}
 use Rattle.book.proofs.Laws.Accepted.{hour-conditions}
-use Rattle.book.proofs.Laws.Heads.{head-inside, head-stops, head-goes-on}
+use Rattle.book.proofs.Laws.Heads.{head-inside, head-stops, head-goes-on, starts, starts-not}
 use Rattle.book.proofs.Laws.Interface.{step-hour, step-length}
-use Rattle.book.proofs.Laws.NextHour.{step-given, step-refused}
+use Rattle.book.proofs.Laws.NextHour.{step-given, step-refused, step-not-next}
 
 -- ---- room behind the used bytes
 
@@ -69,16 +70,16 @@ module _ (z : ZoneFront) (codes : List ℕ) (values : List Float) where
   abbrev zone : Zone
   zone = zoneIn z codes values
 
-  pub step-size : (k : ℕ) (s : State) (i : List ℕ) (e : Written State) → hourEntry zone k s i ≡ ok e → length i ≡ conditionsLength (z .count)
-  step-size k s i e p = let a = step-hour zone k s i e p in hour-conditions zone s i (a .0) (a .1)
+  pub step-size : (k : ℕ) (s : Carried) (version : ℕ) (i : List ℕ) (e : Written Carried) → hourEntry zone k s (hour version i) ≡ ok e → length i ≡ conditionsLength (z .count)
+  step-size k s version i e p = let a = step-hour zone k s version i e p in hour-conditions zone version (s .state) i (a .result) (a .stepped)
 
-  module _ (tested : zoneTest zone ≡ ok tt) (s : State) (i : List ℕ) (x : DemandReply) (e : x ≡ nextHourReply s (nextHour standardCoefficients zone s i))
-      (d : Demand) (f : x .answer ≡ DemandAnswer.Accepted d) where
+  module _ (tested : zoneTest zone ≡ ok tt) (s : Carried) (version : ℕ) (follows : mayFollow (s .lastVersion) version ≡ true) (i : List ℕ) (x : DemandReply)
+      (e : x ≡ nextHourReply (s .state) (nextHour standardCoefficients zone version (s .state) i)) (d : Demand) (f : x .answer ≡ DemandAnswer.Accepted d) where
     pub hour-size : length i ≡ conditionsLength (z .count)
-    hour-size = step-size 0 s i _ (step-given zone tested s i x e d f 0)
+    hour-size = step-size 0 s version i _ (step-given zone tested s version follows i x e d f 0)
 
-    pub hour-written : length (entryOf zone i d (x .state)) ≡ wholeLength zone
-    hour-written = step-length zone 0 s i _ (step-given zone tested s i x e d f 0)
+    pub hour-written : length (entryOf zone version i d (x .state)) ≡ wholeLength zone
+    hour-written = step-length zone 0 s (hour version i) _ (step-given zone tested s version follows i x e d f 0)
 
   pub append-room : (used m room : ℕ) (t : Bool) → m ≡ wholeLength zone → t ≡ leb (used + m) room → t ≡ true → used + wholeLength zone ≤ room
   append-room used m room t l e f = let w = leb-true (used + m) room (sym e ∙ f) in omega arith
@@ -100,7 +101,7 @@ module _ (head : List ℕ) (h : Head) (codes : List ℕ) (values : List Float) (
   begin-refused r n j q w = record { reply = rw w q; bytes = rw w }
 
   -- what follows the start-up
-  abbrev begun : ReadHead Zone → State → Result (Book.BookState State × List ℕ)
+  abbrev begun : ReadHead Zone → Carried → Result (Book.BookState Carried × List ℕ)
   begun x s =
       bind (require (leb (x .length) (length buf)) bufferShort) λ _.
       ok (record { state = s; count = 0; used = x .length }, take (x .length) head ++ drop (x .length) buf)
@@ -113,22 +114,26 @@ module _ (head : List ℕ) (h : Head) (codes : List ℕ) (values : List Float) (
     pub begin-start : (r : Reply) (n j : ℕ) → Refuses r n j → s .verdict ≡ Refused n j → BeginCallSpec r buf
     unfolding Book.beginRes
     begin-start r n j q k =
-        begin-refused r n j q (head-goes-on head h codes values e begun f ∙ rw (start-no (startUp (zoneIn (h .zone) codes values)) s i n j k))
+        begin-refused r n j q (head-goes-on head h codes values e begun f ∙ rw (starts-not (zoneIn (h .zone) codes values) s i n j k))
 
     module _ (k : s .verdict ≡ Accepted) where
-      started : startUp (zoneIn (h .zone) codes values) ≡ ok (s .state)
-      started = start-yes (startUp (zoneIn (h .zone) codes values)) s i k
+      -- what is carried from it
+      abbrev first : Carried
+      first = record { state = s .state; lastVersion = noEntryVersion }
+
+      started : startUp (zoneIn (h .zone) codes values) ≡ ok first
+      started = starts (zoneIn (h .zone) codes values) s i k
 
       pub begin-short : (r : Reply) → Refuses r bufferShort 0 → length buf < h .length → BeginCallSpec r buf
       unfolding Book.beginRes
       begin-short r q l = begin-refused r bufferShort 0 q (head-goes-on head h codes values e begun f ∙ rw (started, lt-leb (h .length) (length buf) l))
 
       begin-is : h .length ≤ length buf
-          → Book.beginRes yearInterface head buf ≡ ok (record { state = s .state; count = 0; used = h .length }, take (h .length) head ++ drop (h .length) buf)
+          → Book.beginRes yearInterface head buf ≡ ok (record { state = first; count = 0; used = h .length }, take (h .length) head ++ drop (h .length) buf)
       unfolding Book.beginRes
       begin-is l = head-goes-on head h codes values e begun f ∙ rw (started, le-leb (h .length) (length buf) l)
 
-      pub begin-good : (r : Reply) → r ≡ replyIn (Book.accepted (record { state = s .state; count = 0; used = h .length }))
+      pub begin-good : (r : Reply) → r ≡ replyIn (Book.accepted (record { state = first; count = 0; used = h .length }))
           → h .length ≤ length buf → (out : List ℕ) → out ≡ replaceAt 0 (take (h .length) head) buf → BeginCallSpec r out
       unfolding Book.begin replaceAt
       begin-good r q l out o =
@@ -139,11 +144,11 @@ pub ruleset begin-cases = (begin-head, begin-start, begin-short, begin-good)
 
 -- ---- append
 
-module _ (z : Zone) (g : BookState) (i : List ℕ) (buf : List ℕ) where
+module _ (z : Zone) (g : BookState) (version : ℕ) (i : List ℕ) (buf : List ℕ) where
   abbrev AppendCallSpec : Reply → List ℕ → Type 0
-  AppendCallSpec r out = CallSpec yearInterface rustTypes r out (Book.append yearInterface z (givenOf g) i buf)
+  AppendCallSpec r out = CallSpec yearInterface rustTypes r out (Book.append yearInterface z (givenOf g) (hour version i) buf)
 
-  append-refused : (r : Reply) (n j : ℕ) → r ≡ replyIn (Book.refusedWith n j (givenOf g)) → Book.appendRes yearInterface z (givenOf g) i buf ≡ refused n j → AppendCallSpec r buf
+  append-refused : (r : Reply) (n j : ℕ) → r ≡ replyIn (Book.refusedWith n j (givenOf g)) → Book.appendRes yearInterface z (givenOf g) (hour version i) buf ≡ refused n j → AppendCallSpec r buf
   unfolding Book.append
   append-refused r n j q w = record { reply = rw w q; bytes = rw w }
 
@@ -160,34 +165,42 @@ module _ (z : Zone) (g : BookState) (i : List ℕ) (buf : List ℕ) where
       room : ltb (g .count) (yearInterface .limit) ≡ true
       room = lt-ltb (g .count) (yearInterface .limit) few
 
-      pub append-hour : (r : Reply) (n j : ℕ) → r ≡ replyIn (Book.refusedWith n j (givenOf g))
-          → (x : DemandReply) → x ≡ nextHourReply (g .state) (nextHour standardCoefficients z (g .state) i) → x .answer ≡ DemandAnswer.Refused n j → AppendCallSpec r buf
+      pub append-version : (r : Reply) → r ≡ replyIn (Book.refusedWith falseEntry (g .count) (givenOf g)) → (t : Bool) → t ≡ mayFollow (g .«last_version») version → t ≡ false → AppendCallSpec r buf
       unfolding Book.appendRes
-      append-hour r n j q x e f = append-refused r n j q (rw (tested, room, step-refused z tested (g .state) i x e n j f (g .count)))
+      append-version r q t e f = append-refused r falseEntry (g .count) q (rw (tested, room, step-not-next z (givenOf g .state) version (sym e ∙ f) i (g .count)))
 
-      module _ (d : Demand) (after : State) (gives : hourEntry z (g .count) (g .state) i ≡ ok (record { bytes = entryOf z i d after; after = after }))
+      pub append-hour : mayFollow (g .«last_version») version ≡ true → (r : Reply) (n j : ℕ) → r ≡ replyIn (Book.refusedWith n j (givenOf g))
+          → (x : DemandReply) → x ≡ nextHourReply (g .state) (nextHour standardCoefficients z version (g .state) i) → x .answer ≡ DemandAnswer.Refused n j → AppendCallSpec r buf
+      unfolding Book.appendRes
+      append-hour follows r n j q x e f = append-refused r n j q (rw (tested, room, step-refused z tested (givenOf g .state) version follows i x e n j f (g .count)))
+
+      module _ (d : Demand) (after : State)
+          (gives : hourEntry z (g .count) (givenOf g .state) (hour version i) ≡ ok (record { bytes = entryOf z version i d after; after = record { state = after; lastVersion = version } }))
           (m : ℕ) (l : m ≡ wholeLength z) (t : Bool) (k : t ≡ leb (g .used + m) (length buf)) where
-        long : length (entryOf z i d after) ≡ m
-        long = step-length z (g .count) (g .state) i (record { bytes = entryOf z i d after; after = after }) gives ∙ sym l
+        abbrev bytes : List ℕ
+        bytes = entryOf z version i d after
 
-        test : leb (g .used + length (entryOf z i d after)) (length buf) ≡ t
+        long : length bytes ≡ m
+        long = step-length z (g .count) (givenOf g .state) (hour version i) _ gives ∙ sym l
+
+        test : leb (g .used + length bytes) (length buf) ≡ t
         test = ap (λ (y : ℕ). leb (g .used + y) (length buf)) long ∙ sym k
 
         pub append-short : (r : Reply) → r ≡ replyIn (Book.refusedWith bufferShort 0 (givenOf g)) → t ≡ false → AppendCallSpec r buf
         unfolding Book.appendRes
         append-short r q n = append-refused r bufferShort 0 q (rw (tested, room, gives, test ∙ n))
 
-        pub append-good : (r : Reply) → r ≡ replyIn (Book.accepted (record { state = after; count = g .count + 1; used = g .used + m }))
-            → t ≡ true → (out : List ℕ) → out ≡ replaceAt (g .used) (entryOf z i d after) buf → AppendCallSpec r out
+        pub append-good : (r : Reply) → r ≡ replyIn (Book.accepted (record { state = record { state = after; lastVersion = version }; count = g .count + 1; used = g .used + m }))
+            → t ≡ true → (out : List ℕ) → out ≡ replaceAt (g .used) bytes buf → AppendCallSpec r out
         unfolding Book.append Book.appendRes replaceAt
         append-good r q n out o =
             record {
               reply = rw (tested, room, gives, test ∙ n)
-                  (q ∙ ap {B = Reply} (λ y. replyIn (Book.accepted (record { state = after; count = g .count + 1; used = g .used + y }))) (sym long));
+                  (q ∙ ap {B = Reply} (λ y. replyIn (Book.accepted (record { state = record { state = after; lastVersion = version }; count = g .count + 1; used = g .used + y }))) (sym long));
               bytes = rw (tested, room, gives, test ∙ n) o;
             }
 
 pub append-sum : (used m room top : ℕ) (t : Bool) → t ≡ leb (used + m) room → t ≡ true → room < top → used + m < top
 append-sum used m room top t e f h = let w = leb-true (used + m) room (sym e ∙ f) in omega arith
 
-pub ruleset append-cases = (append-full, append-hour, append-short, append-good)
+pub ruleset append-cases = (append-full, append-version, append-short, append-good)

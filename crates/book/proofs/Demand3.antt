@@ -2,12 +2,11 @@
 use mathlib.Core.Path.{_≡_, refl}
 use mathlib.Core.List.{List}
 use Prim.Native.Nat.{ℕ}
-use Rattle.zone.specs.declared.calls.state.State.{State}
 use Rattle.book.specs.Model.Calls as Book
 use Rattle.book.specs.Model.Plain.{empty, book, WellFormed}
 use Rattle.book.specs.Model.Session.{CodeTypes}
 use Rattle.book.specs.Model.Claims.{Demand3, SessionFrom, Claims}
-use Rattle.book.specs.Year.{yearInterface}
+use Rattle.book.specs.Year.{Carried, yearInterface}
 use Rattle.book.specs.Answers.{answerOf, bookStateIn, replyIn, rustTypes}
 use Rattle.book.proofs.Model.CodeLaws.{CodeLaws}
 use Rattle.book.proofs.Model.Sessions as Sessions
@@ -36,13 +35,13 @@ module _ (T : CodeTypes yearInterface) (C : CodeLaws yearInterface T) where
 rust-laws : CodeLaws yearInterface rustTypes
 rust-laws = record { given-back = λ v. (bookStateIn v, refl); answer-back = λ a p. back a }
   where
-    back : (a : Book.Answer State) → answerOf (replyIn a) ≡ a
+    back : (a : Book.Answer Carried) → answerOf (replyIn a) ≡ a
     back (Book.accepted v) = refl
     back (Book.refusedWith number index v) = refl
 
 -- "Demand 3 is one claim about the whole list, not one for each call." For every list of calls that starts with no book, of begins, appends,
 -- cuts and take-ups with whatever arguments, and for whatever `begin`, `append` and `take_up` returned and left in the lent buffers, of which
--- a session holds what their contracts ensure and nothing else: each answer (acceptance or number and index, temperatures, count, used length), each
+-- a session holds what their contracts ensure and nothing else: each answer (acceptance or number and index, temperatures, last version, count, used length), each
 -- buffer, byte for byte, and the book held after each call are those of the plain book, which is fed the calls' arguments only.
 pub demand-3 : Demand3 yearInterface rustTypes
 demand-3 = demand-3-at rustTypes rust-laws
@@ -59,7 +58,7 @@ session-from = session-from-at rustTypes rust-laws
 
 -- ---- what follows for books
 
--- Two books are equal byte for byte exactly when heads and hours are; a cut is a take-up of the bytes before it, is never refused and keeps the first
+-- Two books are equal byte for byte exactly when heads and hours, their versions among them, are; a cut is a take-up of the bytes before it, is never refused and keeps the first
 -- hours; hours that a cut took are held again once accepted anew; which bytes are taken up, and which number and index there is otherwise; bytes behind
 -- the used ones stay.
 pub year-claims : Claims yearInterface

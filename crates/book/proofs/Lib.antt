@@ -1,4 +1,4 @@
--- Demand3 has what is claimed of the year book, the claim about the whole list first, Contracts its tie to the functions, HouseP its example; Calls and
+-- Demand3 has what is claimed of the year book, the claim about the whole list first, Contracts its tie to the functions, VersionOrder the order of versions, HouseP its example; Calls and
 -- TakeUp have the functions' returns case by case. Refusals says which numbers and indices there are.
 pub mod Model
 pub mod Laws
@@ -6,5 +6,6 @@ pub mod Calls
 pub mod TakeUp
 pub mod Refusals
 pub mod Demand3
+pub mod VersionOrder
 pub mod HouseP
 pub mod Contracts

@@ -20,7 +20,7 @@ use Rattle.zone.specs.declared.record.zone_record.Zone.{Zone}
 use Rattle.zone.specs.declared.record.zone_record.ZoneFront.{ZoneFront}
 use Rattle.zone.specs.declared.record.zone_record.Verdict.the-variants.{Accepted, Refused}
 use Rattle.zone.specs.declared.format.head.Head.{Head}
-use Rattle.zone.proofs.Promise.{apart, same-refusal, start-no, start-yes}
+use Rattle.zone.proofs.Promise.{apart, same-refusal}
 use Rattle.zone.specs.Inner.NextHour.{nextHour}
 use Rattle.zone.specs.Calls.StartUp.{initNodeTemps}
 use Rattle.zone.specs.Calls.Answers.{startUpReply}
@@ -37,63 +37,86 @@ use Rattle.book.proofs.Model.Laws.Decode.{whole-none, whole-some}
 use Rattle.zone.specs.Format.Layout.{conditionsLength}
 use Rattle.book.specs.Layout.{frontSize, wholeLength}
 use Rattle.book.specs.Entry.{entryOf}
-use Rattle.book.specs.Year.{startUp, hourEntry, entryLength, conditionsIn, yearInterface}
+use Rattle.book.specs.Year.{hour, Carried, noEntryVersion, mayFollow, hourEntry, entryLength, versionIn, conditionsIn, itemIn, yearInterface}
 use Rattle.book.specs.Answers.{givenOf, replyIn}
 use Rattle.book.specs.Inner.Checked.{checkedEntry}
 use Rattle.book.specs.declared.book.BookState.{BookState}
 use Rattle.book.specs.declared.book.Reply.{Reply}
-use Rattle.book.specs.declared.entries.CheckedEntry.{CheckedEntry}
-use Rattle.book.proofs.Laws.Heads.{head-stops, head-goes-on}
+use Rattle.book.specs.declared.checked_entry.CheckedEntry.{CheckedEntry}
+use Rattle.book.proofs.Laws.Heads.{head-stops, head-goes-on, starts, starts-not}
 use Rattle.book.proofs.Laws.Interface.{length-here, length-none, year-laws}
-use Rattle.book.proofs.Laws.NextHour.{step-given, step-refused}
+use Rattle.book.proofs.Laws.NextHour.{step-given, step-refused, step-not-next}
 
 -- ---- one entry
 
-module _ (z : Zone) (tested : zoneTest z ≡ ok tt) (k : ℕ) (s : State) (c : List ℕ) where
+-- what is carried, by its parts
+abbrev carried : State → (lastVersion : ℕ) → Carried
+carried s last = record { state = s; lastVersion = last }
+
+module _ (z : Zone) (k : ℕ) (s : State) (last : ℕ) (c : List ℕ) where
+  abbrev False : CheckedEntry → Type 0
+  False y = y ≡ record { verdict = Refused falseEntry k; state = s; «last_version» = last }
+
+  -- of a version that may not follow
+  pub entry-not-next : (version : ℕ) → version ≡ versionIn c → (t : Bool) → t ≡ mayFollow last version → t ≡ false → (y : CheckedEntry) → False y
+      → y ≡ checkedEntry (carried s last) (Book.checkEntry yearInterface k c (hourEntry z k (carried s last) (itemIn z c)))
+  unfolding itemIn
+  entry-not-next version v t e f y q =
+      rw (step-not-next z (carried s last) (versionIn c) (ap (λ (x : ℕ). mayFollow last x) (sym v) ∙ sym e ∙ f) (conditionsIn z c) k) q
+
+  -- of one that may: its hour
+  pub entry-by-hour : (version : ℕ) → version ≡ versionIn c → (y : CheckedEntry)
+      → y ≡ checkedEntry (carried s last) (Book.checkEntry yearInterface k c (hourEntry z k (carried s last) (hour version (conditionsIn z c))))
+      → y ≡ checkedEntry (carried s last) (Book.checkEntry yearInterface k c (hourEntry z k (carried s last) (itemIn z c)))
+  unfolding itemIn
+  entry-by-hour version v y q =
+      q ∙ ap (λ (x : ℕ). checkedEntry (carried s last) (Book.checkEntry yearInterface k c (hourEntry z k (carried s last) (hour x (conditionsIn z c))))) v
+
+module _ (z : Zone) (tested : zoneTest z ≡ ok tt) (k : ℕ) (s : State) (last version : ℕ) (follows : mayFollow last version ≡ true) (c : List ℕ) where
   -- the conditions, as the code cuts them out
   part-is : (m : ℕ) → m ≡ conditionsLength (z .count) → take (frontSize + m - frontSize) (drop frontSize c) ≡ conditionsIn z c
   part-is m l = ap (λ (y : ℕ). take y (drop frontSize c)) (add-sub-cancel-left frontSize m ∙ l)
 
   abbrev Checked : CheckedEntry → Type 0
-  Checked y = y ≡ checkedEntry s (Book.checkEntry yearInterface k c (hourEntry z k s (conditionsIn z c)))
-
-  abbrev False : CheckedEntry → Type 0
-  False y = y ≡ record { verdict = Refused falseEntry k; state = s }
+  Checked y = y ≡ checkedEntry (carried s last) (Book.checkEntry yearInterface k c (hourEntry z k (carried s last) (hour version (conditionsIn z c))))
 
   module _ (m : ℕ) (l : m ≡ conditionsLength (z .count)) (x : DemandReply)
-      (r : x ≡ nextHourReply s (nextHour standardCoefficients z s (take (frontSize + m - frontSize) (drop frontSize c)))) where
+      (r : x ≡ nextHourReply s (nextHour standardCoefficients z version s (take (frontSize + m - frontSize) (drop frontSize c)))) where
     abbrev part : List ℕ
     part = take (frontSize + m - frontSize) (drop frontSize c)
 
-    pub entry-refused : (n j : ℕ) → x .answer ≡ DemandAnswer.Refused n j → (y : CheckedEntry) → False y → Checked y
+    by-part : hourEntry z k (carried s last) (hour version (conditionsIn z c)) ≡ hourEntry z k (carried s last) (hour version part)
+    by-part = ap (λ y. hourEntry z k (carried s last) (hour version y)) (sym (part-is m l))
+
+    pub entry-refused : (n j : ℕ) → x .answer ≡ DemandAnswer.Refused n j → (y : CheckedEntry) → False z k s last c y → Checked y
     entry-refused n j f y q =
-        let w : hourEntry z k s (conditionsIn z c) ≡ refused n j = ap (hourEntry z k s) (sym (part-is m l)) ∙ step-refused z tested s part x r n j f k in
+        let w : hourEntry z k (carried s last) (hour version (conditionsIn z c)) ≡ refused n j = by-part ∙ step-refused z tested (carried s last) version follows part x r n j f k in
         rw w q
 
-    module _ (d : Demand) (f : x .answer ≡ DemandAnswer.Accepted d) (t : Bool) (g : t ≡ equalBytes (entryOf z part d (x .state)) c) where
-      gives : hourEntry z k s (conditionsIn z c) ≡ ok (record { bytes = entryOf z part d (x .state); after = x .state })
-      gives = ap (hourEntry z k s) (sym (part-is m l)) ∙ step-given z tested s part x r d f k
+    module _ (d : Demand) (f : x .answer ≡ DemandAnswer.Accepted d) (t : Bool) (g : t ≡ equalBytes (entryOf z version part d (x .state)) c) where
+      gives : hourEntry z k (carried s last) (hour version (conditionsIn z c)) ≡ ok (record { bytes = entryOf z version part d (x .state); after = carried (x .state) version })
+      gives = by-part ∙ step-given z tested (carried s last) version follows part x r d f k
 
-      pub entry-right : t ≡ true → Checked (record { verdict = Accepted; state = x .state })
+      pub entry-right : t ≡ true → Checked (record { verdict = Accepted; state = x .state; «last_version» = version })
       entry-right q = rw (gives, sym g ∙ q)
 
-      pub entry-other : t ≡ false → (y : CheckedEntry) → False y → Checked y
+      pub entry-other : t ≡ false → (y : CheckedEntry) → False z k s last c y → Checked y
       entry-other q y h = rw (gives, sym g ∙ q) h
 
 pub ruleset entry-cases = (entry-refused, entry-right, entry-other)
 
 -- ---- the loop over the whole entries
 
-check-no : (s : State) (r : Result State) (x : CheckedEntry) → x ≡ checkedEntry s r → (n j : ℕ) → x .verdict ≡ Refused n j → r ≡ refused n j
+check-no : (s : Carried) (r : Result Carried) (x : CheckedEntry) → x ≡ checkedEntry s r → (n j : ℕ) → x .verdict ≡ Refused n j → r ≡ refused n j
 check-no s (ok a) x e n j f = apart n j (sym (ap (λ y. y .verdict) e) ∙ f)
 check-no s (refused m k) x e n j f = same-refusal m k n j (sym (ap (λ y. y .verdict) e) ∙ f)
 
-check-yes : (s : State) (r : Result State) (x : CheckedEntry) → x ≡ checkedEntry s r → x .verdict ≡ Accepted → r ≡ ok (x .state)
-check-yes s (ok a) x e f = λ i. ok (sym e i .state)
+check-yes : (s : Carried) (r : Result Carried) (x : CheckedEntry) → x ≡ checkedEntry s r → x .verdict ≡ Accepted → r ≡ ok (carried (x .state) (x .«last_version»))
+check-yes s (ok a) x e f = λ i. ok (carried (sym e i .state) (sym e i .«last_version»))
 check-yes s (refused m k) x e f = apart m k (sym f ∙ ap (λ y. y .verdict) e)
 
-module _ (z : Zone) (m : ℕ) (l : m ≡ wholeLength z) (k : ℕ) (t : State) (at : ℕ) (b : List ℕ) (g : BookState) (J : Result (Book.BookState State))
-    (within : at ≤ length b) (inv : J ≡ Book.checkEntries yearInterface z k t at (Book.wholeEntries yearInterface z (drop at b))) where
+module _ (z : Zone) (m : ℕ) (l : m ≡ wholeLength z) (k : ℕ) (t : State) (last : ℕ) (at : ℕ) (b : List ℕ) (g : BookState) (J : Result (Book.BookState Carried))
+    (within : at ≤ length b) (inv : J ≡ Book.checkEntries yearInterface z k (carried t last) at (Book.wholeEntries yearInterface z (drop at b))) where
   abbrev Told : Reply → Type 0
   Told r = r ≡ replyIn (Book.answerFrom (givenOf g) J)
 
@@ -101,7 +124,7 @@ module _ (z : Zone) (m : ℕ) (l : m ≡ wholeLength z) (k : ℕ) (t : State) (a
   TurnsDown r n j = r ≡ replyIn (Book.refusedWith n j (givenOf g))
 
   -- no whole entry is left
-  pub check-end : length b - at < m → (r : Reply) → r ≡ replyIn (Book.accepted (record { state = t; count = k; used = at })) → Told r
+  pub check-end : length b - at < m → (r : Reply) → r ≡ replyIn (Book.accepted (record { state = carried t last; count = k; used = at })) → Told r
   unfolding Book.checkEntries
   check-end h r q =
       rw (inv, whole-none yearInterface year-laws z (drop at b) (length-none z (drop at b) (omega (arith, length-drop at b)))) q
@@ -117,27 +140,27 @@ module _ (z : Zone) (m : ℕ) (l : m ≡ wholeLength z) (k : ℕ) (t : State) (a
     check-many h r q = rw (inv, opened, le-ltb k (yearInterface .limit) h) q
 
     module _ (few : k < (yearInterface .limit)) (x : CheckedEntry)
-        (r : x ≡ checkedEntry t (Book.checkEntry yearInterface k (take (at + m - at) (drop at b)) (hourEntry z k t (conditionsIn z (take (at + m - at) (drop at b)))))) where
-      abbrev Entry : Result State
-      Entry = Book.checkEntry yearInterface k (take m (drop at b)) (hourEntry z k t (conditionsIn z (take m (drop at b))))
+        (r : x ≡ checkedEntry (carried t last) (Book.checkEntry yearInterface k (take (at + m - at) (drop at b)) (hourEntry z k (carried t last) (itemIn z (take (at + m - at) (drop at b)))))) where
+      abbrev Entry : Result Carried
+      Entry = Book.checkEntry yearInterface k (take m (drop at b)) (hourEntry z k (carried t last) (itemIn z (take m (drop at b))))
 
-      r′ : x ≡ checkedEntry t Entry
+      r′ : x ≡ checkedEntry (carried t last) Entry
       r′ =
           r
-          ∙ ap (λ (n : ℕ). checkedEntry t (Book.checkEntry yearInterface k (take n (drop at b)) (hourEntry z k t (conditionsIn z (take n (drop at b))))))
+          ∙ ap (λ (n : ℕ). checkedEntry (carried t last) (Book.checkEntry yearInterface k (take n (drop at b)) (hourEntry z k (carried t last) (itemIn z (take n (drop at b))))))
           (add-sub-cancel-left at m)
 
       pub check-false : (n j : ℕ) → x .verdict ≡ Refused n j → (y : Reply) → TurnsDown y n j → Told y
       unfolding Book.checkEntries
       check-false n j e y q =
-          let w : Entry ≡ refused n j = check-no t Entry x r′ n j e in
+          let w : Entry ≡ refused n j = check-no (carried t last) Entry x r′ n j e in
           rw (inv, opened, lt-ltb k (yearInterface .limit) few, w) q
 
-      pub check-right : x .verdict ≡ Accepted → J ≡ Book.checkEntries yearInterface z (k + 1) (x .state) (at + m) (Book.wholeEntries yearInterface z (drop (at + m) b))
+      pub check-right : x .verdict ≡ Accepted → J ≡ Book.checkEntries yearInterface z (k + 1) (carried (x .state) (x .«last_version»)) (at + m) (Book.wholeEntries yearInterface z (drop (at + m) b))
       unfolding Book.checkEntries
       check-right e =
           let n : length (take m (drop at b)) ≡ m = length-take-le m (drop at b) (omega (arith, length-drop at b)) in
-          let w : Entry ≡ ok (x .state) = check-yes t Entry x r′ e in
+          let w : Entry ≡ ok (carried (x .state) (x .«last_version»)) = check-yes (carried t last) Entry x r′ e in
           rw (inv, opened, lt-ltb k (yearInterface .limit) few, w, n)
 
 pub left-length : (z : ZoneFront) (codes : List ℕ) (values : List Float) (m at : ℕ) (b : List ℕ) → m ≡ wholeLength (zoneIn z codes values) → at ≤ length b → m ≤ length b - at
@@ -153,7 +176,7 @@ module _ (bytes : List ℕ) (h : Head) (codes : List ℕ) (values : List Float) 
   TakenUp r = r ≡ replyIn (Book.takeUp yearInterface (givenOf g) bytes)
 
   -- what follows the start-up
-  abbrev entries : ReadHead Zone → State → Result (Book.BookState State)
+  abbrev entries : ReadHead Zone → Carried → Result (Book.BookState Carried)
   entries x s = Book.checkEntries yearInterface (x .zone) 0 s (x .length) (Book.wholeEntries yearInterface (x .zone) (drop (x .length) bytes))
 
   pub take-up-head : (r : Reply) (n j : ℕ) → r ≡ replyIn (Book.refusedWith n j (givenOf g)) → h .verdict ≡ Refused n j → TakenUp r
@@ -163,12 +186,12 @@ module _ (bytes : List ℕ) (h : Head) (codes : List ℕ) (values : List Float) 
   module _ (f : h .verdict ≡ Accepted) (s : StartUp) (i : s ≡ startUpReply (initNodeTemps standardCoefficients (zoneIn (h .zone) codes values))) where
     pub take-up-start : (r : Reply) (n j : ℕ) → r ≡ replyIn (Book.refusedWith n j (givenOf g)) → s .verdict ≡ Refused n j → TakenUp r
     unfolding Book.takeUp Book.takeUpRes
-    take-up-start r n j q k = rw (head-goes-on bytes h codes values e entries f, start-no (startUp (zoneIn (h .zone) codes values)) s i n j k) q
+    take-up-start r n j q k = rw (head-goes-on bytes h codes values e entries f, starts-not (zoneIn (h .zone) codes values) s i n j k) q
 
     pub take-up-entries : s .verdict ≡ Accepted → (r : Reply)
-        → r ≡ replyIn (Book.answerFrom (givenOf g) (entries (record { zone = zoneIn (h .zone) codes values; length = h .length }) (s .state)))
+        → r ≡ replyIn (Book.answerFrom (givenOf g) (entries (record { zone = zoneIn (h .zone) codes values; length = h .length }) (carried (s .state) noEntryVersion)))
         → TakenUp r
     unfolding Book.takeUp Book.takeUpRes
-    take-up-entries k r q = rw (head-goes-on bytes h codes values e entries f, start-yes (startUp (zoneIn (h .zone) codes values)) s i k) q
+    take-up-entries k r q = rw (head-goes-on bytes h codes values e entries f, starts (zoneIn (h .zone) codes values) s i k) q
 
 pub ruleset take-up-cases = (take-up-head, take-up-start, take-up-entries)

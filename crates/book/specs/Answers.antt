@@ -1,29 +1,28 @@
 -- What the functions answer, for what the definitions say: document 01's number and index of a refusal, and the values handed back.
 use Rattle.zone.specs.declared.record.zone_record.Verdict.{Verdict}
 use Rattle.zone.specs.declared.record.zone_record.Verdict.the-variants.{Accepted, Refused}
-use Rattle.zone.specs.declared.calls.state.State.{State}
 use Rattle.book.specs.Model.Calls as Book
 use Rattle.book.specs.Model.Session.{CodeTypes}
-use Rattle.book.specs.Year.{yearInterface}
+use Rattle.book.specs.Year.{Carried, yearInterface}
 use Rattle.book.specs.declared.book.BookState.{BookState}
 use Rattle.book.specs.declared.book.Reply.{Reply}
 
-abbrev pub givenOf : BookState → Book.BookState State
-givenOf v = record { state = v .state; count = v .count; used = v .used }
+abbrev pub givenOf : BookState → Book.BookState Carried
+givenOf v = record { state = record { state = v .state; lastVersion = v .«last_version» }; count = v .count; used = v .used }
 
-abbrev pub bookStateIn : Book.BookState State → BookState
-bookStateIn v = record { state = v .state; count = v .count; used = v .used }
+abbrev pub bookStateIn : Book.BookState Carried → BookState
+bookStateIn v = record { state = v .state .state; count = v .count; used = v .used; «last_version» = v .state .lastVersion }
 
 -- the reply of a call
-abbrev pub replyIn : Book.Answer State → Reply
+abbrev pub replyIn : Book.Answer Carried → Reply
 replyIn (Book.accepted v) = record { verdict = Accepted; values = bookStateIn v }
 replyIn (Book.refusedWith number index v) = record { verdict = Refused number index; values = bookStateIn v }
 
-abbrev pub answerBy : Verdict → Book.BookState State → Book.Answer State
+abbrev pub answerBy : Verdict → Book.BookState Carried → Book.Answer Carried
 answerBy Accepted v = Book.accepted v
 answerBy (Refused number index) v = Book.refusedWith number index v
 
-abbrev pub answerOf : Reply → Book.Answer State
+abbrev pub answerOf : Reply → Book.Answer Carried
 answerOf r = answerBy (r .verdict) (givenOf (r .values))
 
 abbrev pub rustTypes : CodeTypes yearInterface

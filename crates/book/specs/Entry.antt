@@ -11,11 +11,11 @@ use Rattle.zone.specs.declared.calls.state.Demand.{Demand}
 use Rattle.zone.specs.declared.calls.state.AchToTriggerHeating.{AchToTriggerHeating}
 use Rattle.zone.specs.declared.calls.state.AchToTriggerHeating.the-variants.{Absent, At}
 use Rattle.zone.specs.Format.Layout.{lengthSize}
-use Rattle.book.specs.Layout.{version, followingLength}
+use Rattle.book.specs.Layout.{versionSize, followingLength}
 
--- "4-byte length of what follows, then version byte 1"
-abbrev pub frontBytes : Zone → List ℕ
-frontBytes z = bytesOf lengthSize (followingLength z) ++ (version ∷ [])
+-- "4-byte length of what follows, then version byte": that of the hour's version
+abbrev pub frontBytes : Zone → (version : ℕ) → List ℕ
+frontBytes z version = bytesOf lengthSize (followingLength z) ++ bytesOf versionSize version
 
 -- "trigger byte 0 or 1, trigger rate (zero bits if 0)"
 abbrev pub triggerBytes : AchToTriggerHeating → List ℕ
@@ -33,5 +33,5 @@ abbrev pub temperatureBytes : Zone → State → List ℕ
 temperatureBytes z s = rowBytes (take (nodeCount z) (s .temps))
 
 -- "Entry: conditions, heating, cooling, rate, trigger byte, trigger rate, N node temperatures." The conditions' bytes stand as they were given.
-unfoldable pub entryOf : Zone → (conditions : List ℕ) → Demand → State → List ℕ
-entryOf z i d s = frontBytes z ++ (i ++ (demandBytes d ++ temperatureBytes z s))
+unfoldable pub entryOf : Zone → (version : ℕ) → (conditions : List ℕ) → Demand → State → List ℕ
+entryOf z version i d s = frontBytes z version ++ (i ++ (demandBytes d ++ temperatureBytes z s))

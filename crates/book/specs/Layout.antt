@@ -9,12 +9,12 @@ use Rattle.zone.specs.declared.record.zone_record.Zone.{Zone}
 abbrev pub mostEntries : ℕ
 mostEntries = 8784
 
--- "4-byte length of what follows, then version byte 1"
-abbrev pub version : ℕ
-version = 1
+-- "4-byte length of what follows, then version byte"
+abbrev pub versionSize : ℕ
+versionSize = 1
 
 abbrev pub frontSize : ℕ
-frontSize = lengthSize + 1
+frontSize = lengthSize + versionSize
 
 -- "Length 147 + 41n + 8N, fixed by the head": of what follows the 4 bytes in which it stands
 abbrev pub fixedLength : ℕ

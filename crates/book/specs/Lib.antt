@@ -7,5 +7,6 @@ pub mod Entry
 pub mod Year
 pub mod Answers
 pub mod Refusals
+pub mod VersionOrder
 pub mod HouseP
 pub mod Inner

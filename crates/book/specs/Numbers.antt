@@ -1,5 +1,6 @@
--- The book's refusal numbers.
+-- The book's refusal numbers. 18 is the zone's too.
 use Prim.Native.Nat.{ℕ}
+pub use Rattle.zone.specs.Record.Numbers.{falseEntry}
 
 -- "buffer too short, 16"
 abbrev pub bufferShort : ℕ
@@ -8,7 +9,3 @@ bufferShort = 16
 -- "8,784 entries held, 17"; "a 8,785th 17"
 abbrev pub bookFull : ℕ
 bookFull = 17
-
--- "a false one 18"
-abbrev pub falseEntry : ℕ
-falseEntry = 18

@@ -1,49 +1,73 @@
 -- The layers of the year book: the head's reader, start-up and the hour step of the crates below, and the bytes of an entry.
-use mathlib.Core.Bool.{cond}
+use mathlib.Core.Bool.{Bool, cond, _&&_}
 use Prim.Native.Nat.{ℕ}
 use mathlib.Core.List.{List}
 use mathlib.Core.Option.{Option, none, some}
-use lib.ListN.{length, take, drop}
+use lib.ListN.{length, take, drop, getD}
 use lib.Dec.{leb}
-use Rattle.zone.specs.Promise.{Result, ok, bind}
+use Rattle.zone.specs.Promise.{Result, ok, bind, requireAt}
 use Rattle.zone.specs.Record.BuildingElement.{standardCoefficients}
+use Rattle.zone.specs.Record.Numbers.{falseEntry}
 use Rattle.zone.specs.Format.Head.{headOf}
 use Rattle.zone.specs.Check.ZoneTest.{zoneTest}
 use Rattle.zone.specs.declared.record.zone_record.Zone.{Zone}
-use Rattle.zone.specs.Calls.Hour.{HourResult, hourStep}
+use Rattle.zone.specs.Calls.Hour.{hourVersion, hourStep}
 use Rattle.zone.specs.Calls.StartUp.{initNodeTemps}
 use Rattle.zone.specs.declared.calls.state.State.{State}
 use Rattle.book.specs.Model.Interface.{Interface, Written}
-use Rattle.zone.specs.Format.Layout.{conditionsLength}
+use Rattle.zone.specs.Format.Layout.{lengthSize, conditionsLength}
 use Rattle.book.specs.Layout.{mostEntries, frontSize, wholeLength}
 use Rattle.book.specs.Entry.{entryOf}
 
-abbrev pub startUp : Zone → Result State
-startUp z = initNodeTemps standardCoefficients z
+-- "the plain book holds each hour's with its conditions": the version that an append names, and the conditions' bytes
+pub data Item : Type 0 where
+  hour : (version : ℕ) (body : List ℕ) → Item
 
-abbrev pub hour : Zone → State → (conditions : List ℕ) → Result HourResult
-hour z s i = hourStep standardCoefficients z s i
+-- what is carried from entry to entry and handed back: the node temperatures, and "the version of the last entry"
+pub record Carried : Type 0 where
+  pub state : State
+  pub lastVersion : ℕ
 
--- the entry that an hour has, and the state after it: how many entries are before it does not matter
-unfoldable pub hourEntry : Zone → (count : ℕ) → State → (conditions : List ℕ) → Result (Written State)
-hourEntry z k s i =
-    bind (hour z s i) λ r.
-    ok (record { bytes = entryOf z i (r .demand) (r .state); after = r .state })
+-- "1 where there is none"
+abbrev pub noEntryVersion : ℕ
+noEntryVersion = 1
 
--- "a rest of the book begins with a whole entry if it has at least 4 bytes more than that"
+abbrev pub startUp : Zone → Result Carried
+startUp z =
+    bind (initNodeTemps standardCoefficients z) λ s.
+    ok (record { state = s; lastVersion = noEntryVersion })
+
+-- "a book may pass from 1 to 2 but never back, else 18, as for a version that no hour has"
+abbrev pub mayFollow : (lastVersion version : ℕ) → Bool
+mayFollow lastVersion version = hourVersion version && leb lastVersion version
+
+-- the entry that an hour has, and what is carried after it: the version is tested, "its index the count held", and the hour is written "by that version's rule"
+unfoldable pub hourEntry : Zone → (count : ℕ) → Carried → Item → Result (Written Carried)
+hourEntry z k s (hour version body) =
+    bind (requireAt (mayFollow (s .lastVersion) version) falseEntry k) λ _.
+    bind (hourStep standardCoefficients z version (s .state) body) λ r.
+    ok (record { bytes = entryOf z version body (r .demand) (r .state); after = record { state = r .state; lastVersion = version } })
+
+-- "a rest of the book begins with a whole entry if it has at least 4 bytes more than that": of either version, since both have one length
 unfoldable pub entryLength : Zone → (rest : List ℕ) → Option ℕ
 entryLength z rest = cond (leb (wholeLength z) (length rest)) (some (wholeLength z)) none
 
--- the conditions stand behind the length and the version
+-- the version stands behind the length, and the conditions behind both
+abbrev pub versionIn : (entry : List ℕ) → ℕ
+versionIn e = getD e lengthSize 0
+
 abbrev pub conditionsIn : Zone → (entry : List ℕ) → List ℕ
 conditionsIn z e = take (conditionsLength (z .count)) (drop frontSize e)
+
+unfoldable pub itemIn : Zone → (entry : List ℕ) → Item
+itemIn z e = hour (versionIn e) (conditionsIn z e)
 
 abbrev pub yearInterface : Interface
 yearInterface =
     record {
       Zone = Zone;
-      State = State;
-      Item = List ℕ;
+      State = Carried;
+      Item = Item;
       limit = mostEntries;
       headOf = headOf;
       givenTest = λ z s. zoneTest z;
@@ -51,5 +75,5 @@ yearInterface =
       step = hourEntry;
       appendStep = hourEntry;
       entryLength = entryLength;
-      itemOf = conditionsIn;
+      itemOf = itemIn;
     }

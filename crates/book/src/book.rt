@@ -5,6 +5,9 @@ use crate::entry::put_entry;
 use crate::layout::MOST_ENTRIES;
 use crate::numbers::BOOK_FULL;
 use crate::numbers::BUFFER_SHORT;
+use crate::numbers::FALSE_ENTRY;
+use crate::versions::NO_ENTRY_VERSION;
+use crate::versions::may_follow;
 use zone::Demand;
 use zone::DemandAnswer;
 use zone::State;
@@ -14,6 +17,7 @@ use zone::init_node_temps;
 use zone::read_head;
 use zone::zone_test;
 ghost use mathlib.Core.Path.{_≡_};
+ghost use mathlib.Core.Bool.{true};
 ghost use Prim.Native.Nat.{_+_, _<_};
 ghost use lib.ListN.{length};
 ghost use lib.Dec.{leb};
@@ -24,14 +28,16 @@ ghost use Rattle.book.specs.Model.Calls as Book;
 ghost use Rattle.book.specs.Model.Session.{CallSpec};
 ghost use Rattle.book.specs.Layout.{mostEntries};
 ghost use Rattle.book.specs.Entry.{entryOf};
-ghost use Rattle.book.specs.Year.{yearInterface, hourEntry};
+ghost use Rattle.book.specs.Year.{hour, mayFollow, yearInterface, hourEntry};
 ghost use Rattle.book.specs.Answers.{givenOf, replyIn, rustTypes};
 
-// What a call is given and hands back: the node temperatures, the count of entries and the used length.
+// What a call is given and hands back: the node temperatures, the count of entries, the used length and the version of the last entry, 1 where there is
+// none.
 pub struct BookState {
     pub state: State,
     pub count: usize,
     pub used: usize,
+    pub last_version: u64,
 }
 
 // Acceptance, or number and index, with the values handed back: the new ones, or those that were given.
@@ -49,12 +55,17 @@ pub fn refuse(given: BookState, number: u32, index: usize) -> Reply
     }
 }
 
-pub fn accept(state: State, count: usize, used: usize) -> Reply
-    ensures { λ r. ⌜ r ≡ replyIn (Book.accepted (record { state = state; count = count; used = used })) ⌝ }
+pub fn accept(state: State, last_version: u64, count: usize, used: usize) -> Reply
+    ensures { λ r. ⌜ r ≡ replyIn (Book.accepted (record { state = record { state = state; lastVersion = «last_version» }; count = count; used = used })) ⌝ }
 {
     Reply {
         verdict: Verdict::Accepted,
-        values: BookState { state, count, used },
+        values: BookState {
+            state,
+            count,
+            used,
+            last_version,
+        },
     }
 }
 
@@ -89,7 +100,7 @@ pub fn begin(given: BookState, head: &[u8], buf: &mut [u8]) -> Reply
                         return refuse(given, BUFFER_SHORT, 0);
                     }
                     copy(head, n, buf, 0);
-                    accept(s.state, 0, n)
+                    accept(s.state, NO_ENTRY_VERSION, 0, n)
                 }
             }
         }
@@ -103,41 +114,51 @@ fn append_entry(
     values: &[f64; 600],
     given: BookState,
     conditions: &[u8],
+    version: u64,
     demand: Demand,
     after: State,
     buf: &mut [u8],
 ) -> Reply
-    requires { ⌜ (zoneTest (zoneIn z (now codes) (now values)) ≡ ok tt) × (given .count < mostEntries) × (hourEntry (zoneIn z (now codes) (now values)) (given .count) (given .state) (now conditions) ≡ ok (record { bytes = entryOf (zoneIn z (now codes) (now values)) (now conditions) demand after; after = after })) ⌝ }
-    ensures { λ r. ⌜ CallSpec yearInterface rustTypes r (now (buf .exit)) (Book.append yearInterface (zoneIn z (now (codes .entry)) (now (values .entry))) (givenOf given) (now (conditions .entry)) (now (buf .entry))) ⌝ }
+    requires { ⌜ (zoneTest (zoneIn z (now codes) (now values)) ≡ ok tt) × (given .count < mostEntries) × (hourEntry (zoneIn z (now codes) (now values)) (given .count) (givenOf given .state) (hour version (now conditions)) ≡ ok (record { bytes = entryOf (zoneIn z (now codes) (now values)) version (now conditions) demand after; after = record { state = after; lastVersion = version } })) ⌝ }
+    ensures { λ r. ⌜ CallSpec yearInterface rustTypes r (now (buf .exit)) (Book.append yearInterface (zoneIn z (now (codes .entry)) (now (values .entry))) (givenOf given) (hour version (now (conditions .entry))) (now (buf .entry))) ⌝ }
 {
     let count = given.count;
     let used = given.used;
     let length = entry_length(z, codes, values);
     if has_room(used, length, buf.len()) {
-        put_entry(z, codes, values, conditions, demand, after, buf, used);
-        accept(after, count + 1, used + length)
+        let end = used + length;
+        put_entry(
+            z,
+            codes,
+            values,
+            version,
+            conditions,
+            demand,
+            after,
+            buf,
+            used,
+        );
+        accept(after, version, count + 1, end)
     } else {
         refuse(given, BUFFER_SHORT, 0)
     }
 }
 
-// An append, once the zone is tested.
+// An append, once zone, count and version are tested.
 fn append_hour(
     z: ZoneFront,
     codes: &[u8; 72],
     values: &[f64; 600],
     given: BookState,
     conditions: &[u8],
+    version: u64,
     buf: &mut [u8],
 ) -> Reply
-    requires { ⌜ zoneTest (zoneIn z (now codes) (now values)) ≡ ok tt ⌝ }
-    ensures { λ r. ⌜ CallSpec yearInterface rustTypes r (now (buf .exit)) (Book.append yearInterface (zoneIn z (now (codes .entry)) (now (values .entry))) (givenOf given) (now (conditions .entry)) (now (buf .entry))) ⌝ }
+    requires { ⌜ (zoneTest (zoneIn z (now codes) (now values)) ≡ ok tt) × (given .count < mostEntries) × (mayFollow (given .«last_version») version ≡ true) ⌝ }
+    ensures { λ r. ⌜ CallSpec yearInterface rustTypes r (now (buf .exit)) (Book.append yearInterface (zoneIn z (now (codes .entry)) (now (values .entry))) (givenOf given) (hour version (now (conditions .entry))) (now (buf .entry))) ⌝ }
 {
     let state = given.state;
-    if MOST_ENTRIES <= given.count {
-        return refuse(given, BOOK_FULL, 0);
-    }
-    let x = state.next_hour(z, codes, values, conditions);
+    let x = state.next_hour(z, codes, values, conditions, version);
     let a = x.answer;
     match a {
         DemandAnswer::Refused { number, index } => refuse(given, number, index),
@@ -147,6 +168,7 @@ fn append_hour(
             values,
             given,
             conditions,
+            version,
             demand,
             x.state,
             buf,
@@ -154,20 +176,43 @@ fn append_hour(
     }
 }
 
-// An hour's entry behind the used bytes.
+// An append, once the zone is tested: 17, then 18 with the count held.
+fn append_tested(
+    z: ZoneFront,
+    codes: &[u8; 72],
+    values: &[f64; 600],
+    given: BookState,
+    conditions: &[u8],
+    version: u64,
+    buf: &mut [u8],
+) -> Reply
+    requires { ⌜ zoneTest (zoneIn z (now codes) (now values)) ≡ ok tt ⌝ }
+    ensures { λ r. ⌜ CallSpec yearInterface rustTypes r (now (buf .exit)) (Book.append yearInterface (zoneIn z (now (codes .entry)) (now (values .entry))) (givenOf given) (hour version (now (conditions .entry))) (now (buf .entry))) ⌝ }
+{
+    if MOST_ENTRIES <= given.count {
+        return refuse(given, BOOK_FULL, 0);
+    }
+    if may_follow(given.last_version, version) {
+        return append_hour(z, codes, values, given, conditions, version, buf);
+    }
+    refuse(given, FALSE_ENTRY, given.count)
+}
+
+// An hour's entry behind the used bytes, of the version that is named.
 pub fn append(
     z: ZoneFront,
     codes: &[u8; 72],
     values: &[f64; 600],
     given: BookState,
     conditions: &[u8],
+    version: u64,
     buf: &mut [u8],
 ) -> Reply
-    ensures { λ r. ⌜ CallSpec yearInterface rustTypes r (now (buf .exit)) (Book.append yearInterface (zoneIn z (now (codes .entry)) (now (values .entry))) (givenOf given) (now (conditions .entry)) (now (buf .entry))) ⌝ }
+    ensures { λ r. ⌜ CallSpec yearInterface rustTypes r (now (buf .exit)) (Book.append yearInterface (zoneIn z (now (codes .entry)) (now (values .entry))) (givenOf given) (hour version (now (conditions .entry))) (now (buf .entry))) ⌝ }
 {
     let v = zone_test(z, codes, values);
     match v {
         Verdict::Refused { number, index } => refuse(given, number, index),
-        Verdict::Accepted => append_hour(z, codes, values, given, conditions, buf),
+        Verdict::Accepted => append_tested(z, codes, values, given, conditions, version, buf),
     }
 }

@@ -1,121 +1,28 @@
-// Take-up: the entries of a book, one after the other, against the hours that they hold.
+// Take-up: the entries of a book, one after the other.
 use crate::book::BookState;
 use crate::book::Reply;
 use crate::book::accept;
 use crate::book::refuse;
-use crate::entry::conditions_length;
+use crate::checked_entry::check_entry;
 use crate::entry::entry_length;
-use crate::entry::is_entry;
-use crate::layout::FRONT_SIZE;
 use crate::layout::MOST_ENTRIES;
 use crate::numbers::BOOK_FULL;
-use crate::numbers::FALSE_ENTRY;
-use zone::DemandAnswer;
+use crate::versions::NO_ENTRY_VERSION;
 use zone::State;
 use zone::Verdict;
 use zone::ZoneFront;
 use zone::read_head;
 use zone::start_up_lent;
 ghost use mathlib.Core.Path.{_≡_};
-ghost use Prim.Native.Nat.{_+_, _≤_, _<_};
+ghost use Prim.Native.Nat.{_≤_};
 ghost use lib.ListN.{length, drop};
 ghost use Rattle.zone.specs.Promise.{ok};
 ghost use Rattle.zone.specs.Inner.Lent.{zoneIn};
 ghost use Rattle.zone.specs.Check.ZoneTest.{zoneTest};
 ghost use Rattle.zone.specs.Inner.Kept.{arrays, held, Kept};
 ghost use Rattle.book.specs.Model.Calls as Book;
-ghost use Rattle.book.specs.Numbers.{falseEntry};
-ghost use Rattle.book.specs.Layout.{wholeLength};
-ghost use Rattle.book.specs.Year.{yearInterface, hourEntry, conditionsIn};
+ghost use Rattle.book.specs.Year.{noEntryVersion, yearInterface};
 ghost use Rattle.book.specs.Answers.{givenOf, replyIn};
-ghost use Rattle.book.specs.Inner.Checked.{checkedEntry};
-
-// One whole entry against the hour step: the state after it, or 18 and the state before it.
-pub struct CheckedEntry {
-    pub verdict: Verdict,
-    pub state: State,
-}
-
-fn false_entry(s: State, index: usize) -> CheckedEntry
-    ensures { λ r. ⌜ r ≡ record { verdict = Verdict.Refused falseEntry index; state = s } ⌝ }
-{
-    CheckedEntry {
-        verdict: Verdict::Refused {
-            number: FALSE_ENTRY,
-            index,
-        },
-        state: s,
-    }
-}
-
-// The hour step on the conditions that the entry holds, and its result, written anew, against the entry.
-fn check_entry(
-    z: ZoneFront,
-    codes: &[u8; 72],
-    values: &[f64; 600],
-    index: usize,
-    s: State,
-    entry: &[u8],
-    flags: &mut [bool; 2],
-    numbers: &mut [f64; 3],
-    key: &mut [u8; 48],
-    two_nodes: &mut [bool; 24],
-    diag: &mut [f64; 120],
-    next: &mut [f64; 120],
-    prev: &mut [f64; 120],
-    dense: &mut [f64; 625],
-    interchanges: &mut [usize; 25],
-    column: &mut [f64; 25],
-) -> CheckedEntry
-    requires { ⌜ (zoneTest (zoneIn z (now codes) (now values)) ≡ ok tt) × (length (now entry) ≡ wholeLength (zoneIn z (now codes) (now values)))
-        × Kept (zoneIn z (now codes) (now values)) (held (now flags) (now numbers) (now key) (arrays (now «two_nodes») (now diag) (now next) (now prev) (now dense) (now interchanges)) (now column)) ⌝ }
-    ensures { λ r. ⌜ (r ≡ checkedEntry s (Book.checkEntry yearInterface index (now (entry .entry)) (hourEntry (zoneIn z (now (codes .entry)) (now (values .entry))) index s (conditionsIn (zoneIn z (now (codes .entry)) (now (values .entry))) (now (entry .entry))))))
-        × Kept (zoneIn z (now (codes .entry)) (now (values .entry))) (held (now (flags .exit)) (now (numbers .exit)) (now (key .exit)) (arrays (now («two_nodes» .exit)) (now (diag .exit)) (now (next .exit)) (now (prev .exit)) (now (dense .exit)) (now (interchanges .exit))) (now (column .exit))) ⌝ }
-{
-    let end = FRONT_SIZE + conditions_length(z);
-    let x = s.next_hour_kept(
-        z,
-        codes,
-        values,
-        &entry[FRONT_SIZE..end],
-        flags,
-        numbers,
-        key,
-        two_nodes,
-        diag,
-        next,
-        prev,
-        dense,
-        interchanges,
-        column,
-    );
-    let a = x.answer;
-    match a {
-        DemandAnswer::Refused {
-            number: _,
-            index: _,
-        } => false_entry(s, index),
-        DemandAnswer::Accepted(demand) => {
-            let after = x.state;
-            if is_entry(
-                z,
-                codes,
-                values,
-                &entry[FRONT_SIZE..end],
-                demand,
-                after,
-                entry,
-            ) {
-                CheckedEntry {
-                    verdict: Verdict::Accepted,
-                    state: after,
-                }
-            } else {
-                false_entry(s, index)
-            }
-        }
-    }
-}
 
 // The whole entries behind the head's n bytes, in order; a shorter rest is dropped. The factored matrix is kept from entry to entry.
 fn check_entries(
@@ -139,10 +46,11 @@ fn check_entries(
 ) -> Reply
     requires { ⌜ (zoneTest (zoneIn z (now codes) (now values)) ≡ ok tt) × (n ≤ length (now bytes))
         × Kept (zoneIn z (now codes) (now values)) (held (now flags) (now numbers) (now key) (arrays (now «two_nodes») (now diag) (now next) (now prev) (now dense) (now interchanges)) (now column)) ⌝ }
-    ensures { λ r. ⌜ r ≡ replyIn (Book.answerFrom (givenOf given) (Book.checkEntries yearInterface (zoneIn z (now (codes .entry)) (now (values .entry))) 0 s n (Book.wholeEntries yearInterface (zoneIn z (now (codes .entry)) (now (values .entry))) (drop n (now (bytes .entry)))))) ⌝ }
+    ensures { λ r. ⌜ r ≡ replyIn (Book.answerFrom (givenOf given) (Book.checkEntries yearInterface (zoneIn z (now (codes .entry)) (now (values .entry))) 0 (record { state = s; lastVersion = noEntryVersion }) n (Book.wholeEntries yearInterface (zoneIn z (now (codes .entry)) (now (values .entry))) (drop n (now (bytes .entry)))))) ⌝ }
 {
     let length = entry_length(z, codes, values);
     let mut state = s;
+    let mut last_version = NO_ENTRY_VERSION;
     let mut count: usize = 0;
     let mut at = n;
     while length <= bytes.len() - at {
@@ -155,6 +63,7 @@ fn check_entries(
             values,
             count,
             state,
+            last_version,
             &bytes[at..at + length],
             flags,
             numbers,
@@ -174,12 +83,13 @@ fn check_entries(
             }
             Verdict::Accepted => {
                 state = x.state;
+                last_version = x.last_version;
             }
         }
         count += 1;
         at += length;
     }
-    accept(state, count, at)
+    accept(state, last_version, count, at)
 }
 
 // A book in bytes: its head, and whole entries that are what the hour step gives.

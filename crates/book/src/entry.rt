@@ -13,7 +13,7 @@ use crate::layout::FRONT_SIZE;
 use crate::layout::LENGTH_SIZE;
 use crate::layout::LONGEST_ENTRY;
 use crate::layout::RATES_SIZE;
-use crate::layout::VERSION;
+use crate::layout::VERSION_SIZE;
 use zone::AchToTriggerHeating;
 use zone::Demand;
 use zone::State;
@@ -65,14 +65,21 @@ pub fn entry_length(z: ZoneFront, codes: &[u8; 72], values: &[f64; 600]) -> usiz
     LENGTH_SIZE + length_field(z, codes, values)
 }
 
-// Length and version. The version is read in a comparison with these bytes, and nowhere else.
-fn put_front(z: ZoneFront, codes: &[u8; 72], values: &[f64; 600], b: &mut [u8], at: usize)
+// Length and version.
+fn put_front(
+    z: ZoneFront,
+    codes: &[u8; 72],
+    values: &[f64; 600],
+    version: u64,
+    b: &mut [u8],
+    at: usize,
+)
     requires { ⌜ (z .count ≤ 24) × (at + frontSize ≤ length (now b)) ⌝ }
-    ensures { λ _. ⌜ now (b .exit) ≡ replaceAt at (frontBytes (zoneIn z (now (codes .entry)) (now (values .entry)))) (now (b .entry)) ⌝ }
+    ensures { λ _. ⌜ now (b .exit) ≡ replaceAt at (frontBytes (zoneIn z (now (codes .entry)) (now (values .entry))) version) (now (b .entry)) ⌝ }
 {
     let length = length_field(z, codes, values);
     write_be(b, at, LENGTH_SIZE, length as u64);
-    write_be(b, at + LENGTH_SIZE, 1, VERSION);
+    write_be(b, at + LENGTH_SIZE, VERSION_SIZE, version);
 }
 
 fn put_trigger(trigger: AchToTriggerHeating, b: &mut [u8], at: usize)
@@ -115,6 +122,7 @@ pub fn put_entry(
     z: ZoneFront,
     codes: &[u8; 72],
     values: &[f64; 600],
+    version: u64,
     conditions: &[u8],
     d: Demand,
     s: State,
@@ -122,14 +130,17 @@ pub fn put_entry(
     at: usize,
 )
     requires { ⌜ (z .count ≤ 24) × (length (now conditions) ≡ conditionsLength (z .count)) × (at + wholeLength (zoneIn z (now codes) (now values)) ≤ length (now b)) ⌝ }
-    ensures { λ _. ⌜ now (b .exit) ≡ replaceAt at (entryOf (zoneIn z (now (codes .entry)) (now (values .entry))) (now (conditions .entry)) d s) (now (b .entry)) ⌝ }
+    ensures { λ _. ⌜ now (b .exit) ≡ replaceAt at (entryOf (zoneIn z (now (codes .entry)) (now (values .entry))) version (now (conditions .entry)) d s) (now (b .entry)) ⌝ }
 {
     let n = conditions.len();
     let nodes = nodes_of(z, codes, values);
-    put_front(z, codes, values, b, at);
-    copy(conditions, n, b, at + FRONT_SIZE);
-    put_demand(d, b, at + FRONT_SIZE + n);
-    put_temperatures(s, nodes, b, at + FRONT_SIZE + n + DEMAND_SIZE);
+    let conditions_at = at + FRONT_SIZE;
+    let demand_at = conditions_at + n;
+    let temperatures_at = demand_at + DEMAND_SIZE;
+    put_front(z, codes, values, version, b, at);
+    copy(conditions, n, b, conditions_at);
+    put_demand(d, b, demand_at);
+    put_temperatures(s, nodes, b, temperatures_at);
 }
 
 // Is a whole entry the one that these conditions, this demand and these temperatures have: it is written anew and compared.
@@ -137,15 +148,26 @@ pub fn is_entry(
     z: ZoneFront,
     codes: &[u8; 72],
     values: &[f64; 600],
+    version: u64,
     conditions: &[u8],
     d: Demand,
     s: State,
     entry: &[u8],
 ) -> bool
-    requires { ⌜ (z .count ≤ 24) × (length (now conditions) ≡ conditionsLength (z .count)) × (length (now entry) ≡ wholeLength (zoneIn z (now codes) (now values))) × (length (entryOf (zoneIn z (now codes) (now values)) (now conditions) d s) ≡ wholeLength (zoneIn z (now codes) (now values))) × (wholeLength (zoneIn z (now codes) (now values)) ≤ longestEntry) ⌝ }
-    ensures { λ r. ⌜ r ≡ equalBytes (entryOf (zoneIn z (now (codes .entry)) (now (values .entry))) (now (conditions .entry)) d s) (now (entry .entry)) ⌝ }
+    requires { ⌜ (z .count ≤ 24) × (length (now conditions) ≡ conditionsLength (z .count)) × (length (now entry) ≡ wholeLength (zoneIn z (now codes) (now values))) × (length (entryOf (zoneIn z (now codes) (now values)) version (now conditions) d s) ≡ wholeLength (zoneIn z (now codes) (now values))) × (wholeLength (zoneIn z (now codes) (now values)) ≤ longestEntry) ⌝ }
+    ensures { λ r. ⌜ r ≡ equalBytes (entryOf (zoneIn z (now (codes .entry)) (now (values .entry))) version (now (conditions .entry)) d s) (now (entry .entry)) ⌝ }
 {
     let mut expected = [0u8; LONGEST_ENTRY];
-    put_entry(z, codes, values, conditions, d, s, &mut expected, 0);
+    put_entry(
+        z,
+        codes,
+        values,
+        version,
+        conditions,
+        d,
+        s,
+        &mut expected,
+        0,
+    );
     begins_with(&expected, entry)
 }

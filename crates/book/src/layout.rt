@@ -7,10 +7,10 @@ pub const FLOAT_SIZE: usize = 8;
 
 // Of each record: the length of what follows.
 pub const LENGTH_SIZE: usize = 4;
-// The version that entries are written with.
-pub const VERSION: u64 = 1;
+
+pub const VERSION_SIZE: usize = 1;
 // Length and version.
-pub const FRONT_SIZE: usize = LENGTH_SIZE + 1;
+pub const FRONT_SIZE: usize = LENGTH_SIZE + VERSION_SIZE;
 
 // An hour's conditions: so many bytes, and so many for each element.
 pub const CONDITIONS_SIZE: usize = 113;
@@ -23,7 +23,7 @@ pub const RATES_SIZE: usize = 3 * FLOAT_SIZE;
 pub const DEMAND_SIZE: usize = RATES_SIZE + 1 + FLOAT_SIZE;
 
 // What follows the length: version, conditions, demand and a float for each node.
-pub const FIXED_LENGTH: usize = 1 + CONDITIONS_SIZE + DEMAND_SIZE;
+pub const FIXED_LENGTH: usize = VERSION_SIZE + CONDITIONS_SIZE + DEMAND_SIZE;
 
 // 24 elements of five nodes, and the air.
 pub const LONGEST_FOLLOWING: usize = FIXED_LENGTH + 24 * CONDITIONS_ELEMENT + 121 * FLOAT_SIZE;

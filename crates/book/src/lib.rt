@@ -1,10 +1,12 @@
 // The year book: begin, append and take up, on lent bytes.
 mod book;
 mod bytes;
+mod checked_entry;
 mod entries;
 mod entry;
 mod layout;
 mod numbers;
+mod versions;
 
 pub use book::BookState;
 pub use book::Reply;

@@ -6,6 +6,7 @@ use crate::house::ENTRY;
 use crate::house::HEAD;
 use crate::year::append_hours;
 use crate::year::is_accepted;
+use crate::year::last_version_of;
 use crate::year::nothing;
 use crate::year::refused_with;
 use crate::year::same_book_states;
@@ -20,6 +21,8 @@ use zone::ZoneFront;
 pub const HOURS: usize = 40;
 
 pub const SMALL: usize = 12247;
+// The first of them with version 2.
+pub const CHANGE: usize = 20;
 
 pub struct Cuts {
     pub cuts: u64,
@@ -27,7 +30,7 @@ pub struct Cuts {
 }
 
 // The whole entries of a book cut at a byte behind the head.
-fn entries_of(cut: usize) -> usize {
+pub fn entries_of(cut: usize) -> usize {
     wrapping_sub_usize(cut, HEAD) / ENTRY
 }
 
@@ -46,9 +49,12 @@ fn cut_in_head(whole: &[u8; SMALL], cut: usize) -> bool {
     refused_with(r, nothing(), 1, 0)
 }
 
-fn taken_right(r: Reply, count: usize) -> bool {
+// Taken up from the small book with so many entries.
+pub fn taken_right(r: Reply, count: usize) -> bool {
     let taken = r.values;
-    is_accepted(r) && taken.count == count && taken.used == used_of(count)
+    let version = last_version_of(count, CHANGE);
+    let counted = taken.count == count && taken.used == used_of(count);
+    is_accepted(r) && counted && taken.last_version == version
 }
 
 fn continued(
@@ -64,10 +70,10 @@ fn continued(
     let count = entries_of(cut);
     let r = book::take_up(nothing(), part(other, 0, cut));
     let right = taken_right(r, count);
-    let filled = append_hours(z, codes, values, r.values, count, HOURS, other);
+    let filled = append_hours(z, codes, values, r.values, count, HOURS, CHANGE, other);
     let same = same_bytes(other, whole);
     let ended = same_book_states(filled.values, end);
-    right && filled.refused == 0 && same && ended
+    right && filled.wrong == 0 && same && ended
 }
 
 fn cut_in_entries(

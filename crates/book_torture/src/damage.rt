@@ -26,12 +26,13 @@ pub struct Damages {
 }
 
 // Whether take-up answers so; refused, with what it was given.
-fn answers(b: &[u8], e: Expected) -> bool {
+pub fn answers(b: &[u8], e: Expected) -> bool {
     let r = book::take_up(nothing(), b);
     let values = r.values;
     let verdict = r.verdict;
     if e.number == 0 {
-        return number_of(verdict) == 0 && values.count == HOURS && values.used == SMALL;
+        let held = values.count == HOURS && values.used == SMALL;
+        return number_of(verdict) == 0 && held && values.last_version == e.last_version;
     }
     let kept = same_book_states(values, nothing());
     kept && number_of(verdict) == e.number && index_of(verdict) == e.index

@@ -1,15 +1,24 @@
 // What take-up must answer of a small book with one byte changed, worked out from the head's reading, start-up and hour step, by
-// the place of the byte.
+// the place of the byte; a version byte by the plan of versions and by whether the hour was cooled.
+use crate::bytes::byte_at;
 use crate::bytes::part;
 use crate::bytes::put_byte;
 use crate::bytes::read_f64_be;
 use crate::bytes::same_bytes;
+use crate::bytes::u64_of;
 use crate::bytes::write_f64_be;
 use crate::bytes::write_f64s_be;
+use crate::cuts::CHANGE;
 use crate::cuts::HOURS;
 use crate::house::CONDITIONS;
+use crate::house::CONDITIONS_PLACE;
+use crate::house::COOLING_PLACE;
 use crate::house::ENTRY;
 use crate::house::HEAD;
+use crate::house::HEATING_PLACE;
+use crate::house::VERSION_PLACE;
+use crate::year::last_version_of;
+use crate::year::version_at;
 use std::num::wrapping_add_usize;
 use std::num::wrapping_sub_usize;
 use zone::AchToTriggerHeating;
@@ -23,10 +32,11 @@ const NODES: usize = 8;
 // Heating, cooling, rate, trigger and the temperatures of an entry.
 const RESULTS: usize = 97;
 
-// 0 and the number of entries, or number and index.
+// 0 and the last version, or number and index.
 pub struct Expected {
     pub number: u64,
     pub index: usize,
+    pub last_version: u64,
 }
 
 fn put_trigger(b: &mut [u8; RESULTS], trigger: AchToTriggerHeating) {
@@ -57,7 +67,7 @@ fn results_of(d: Demand, s: State) -> [u8; RESULTS] {
 
 // Whether they stand in the entry.
 fn results_in(results: &[u8; RESULTS], entry: &[u8]) -> bool {
-    same_bytes(results, part(entry, 5 + CONDITIONS, RESULTS))
+    same_bytes(results, part(entry, HEATING_PLACE, RESULTS))
 }
 
 fn set_float(xs: &mut [f64; 121], at: usize, x: f64) {
@@ -80,7 +90,7 @@ fn state_in(entry: &[u8]) -> State {
     }
 }
 
-fn place_of(entry: usize) -> usize {
+pub fn place_of(entry: usize) -> usize {
     if entry < 10000 {
         HEAD + ENTRY * entry
     } else {
@@ -103,7 +113,7 @@ fn state_before(
     state_in(part(b, place_of(wrapping_sub_usize(entry, 1)), ENTRY))
 }
 
-// Whether the hour step on the entry's conditions gives the results that stand in it.
+// Whether the hour step on the entry's conditions, in the entry's version, gives the results that stand in it.
 fn results_stand(
     z: ZoneFront,
     codes: &[u8; 72],
@@ -111,7 +121,9 @@ fn results_stand(
     before: State,
     entry: &[u8],
 ) -> bool {
-    let x = before.hour_step(z, codes, values, part(entry, 5, CONDITIONS));
+    let conditions = part(entry, CONDITIONS_PLACE, CONDITIONS);
+    let version = u64_of(byte_at(entry, VERSION_PLACE));
+    let x = before.hour_step(z, codes, values, conditions, version);
     let answer = x.answer;
     match answer {
         HourAnswer::Refused {
@@ -125,21 +137,58 @@ fn results_stand(
     }
 }
 
-fn accepted() -> Expected {
+fn refused(number: u64, index: usize) -> Expected {
+    Expected {
+        number,
+        index,
+        last_version: 0,
+    }
+}
+
+fn accepted(last_version: u64) -> Expected {
     Expected {
         number: 0,
         index: 0,
+        last_version,
     }
 }
 
 fn false_at(entry: usize) -> Expected {
-    Expected {
-        number: 18,
-        index: entry,
-    }
+    refused(18, entry)
 }
 
-// A byte of an entry changed: only one of the conditions may leave the entry true.
+// Every entry held, the last one in its own version.
+fn all_held() -> Expected {
+    accepted(version_at(HOURS - 1, CHANGE))
+}
+
+// The versions share the power of a cooled hour differently; any other hour is the same under both.
+fn is_cooled(b: &[u8], entry: usize) -> bool {
+    read_f64_be(b, wrapping_add_usize(place_of(entry), COOLING_PLACE)) < 0.0
+}
+
+// The entry is true in its new version: what the next one, in its own, makes of the book.
+fn expected_behind(change: usize, entry: usize, version: u64) -> Expected {
+    let next = wrapping_add_usize(entry, 1);
+    if HOURS <= next {
+        return accepted(version);
+    }
+    if version_at(next, change) < version {
+        return false_at(next);
+    }
+    accepted(version_at(HOURS - 1, change))
+}
+
+// Of a small book whose hours have version 2 from `change` on, the version byte of an entry changed to this one.
+pub fn expected_with_version(b: &[u8], change: usize, entry: usize, version: u64) -> Expected {
+    let known = version == 1 || version == 2;
+    if !known || version < last_version_of(entry, change) || is_cooled(b, entry) {
+        return false_at(entry);
+    }
+    expected_behind(change, entry, version)
+}
+
+// A byte of an entry changed: only its version or one of the conditions may leave the entry true.
 fn expected_in_entry(
     z: ZoneFront,
     codes: &[u8; 72],
@@ -150,12 +199,15 @@ fn expected_in_entry(
     let behind = wrapping_sub_usize(place, HEAD);
     let entry = behind / ENTRY;
     let within = behind % ENTRY;
-    if within < 5 || 5 + CONDITIONS <= within {
+    if within == VERSION_PLACE {
+        return expected_with_version(b, CHANGE, entry, u64_of(byte_at(b, place)));
+    }
+    if within < CONDITIONS_PLACE || HEATING_PLACE <= within {
         return false_at(entry);
     }
     let before = state_before(z, codes, values, b, entry);
     if results_stand(z, codes, values, before, part(b, place_of(entry), ENTRY)) {
-        accepted()
+        all_held()
     } else {
         false_at(entry)
     }
@@ -169,7 +221,7 @@ fn first_false(
     b: &[u8],
     start: State,
 ) -> Expected {
-    let mut found = accepted();
+    let mut found = all_held();
     let mut before = start;
     for entry in 0..HOURS {
         let bytes = part(b, place_of(entry), ENTRY);
@@ -185,10 +237,7 @@ fn expected_with_zone(z: ZoneFront, codes: &[u8; 72], values: &[f64; 600], b: &[
     let s = zone::init_node_temps(z, codes, values);
     let verdict = s.verdict;
     match verdict {
-        Verdict::Refused { number, index } => Expected {
-            number: number as u64,
-            index,
-        },
+        Verdict::Refused { number, index } => refused(number as u64, index),
         Verdict::Accepted => first_false(z, codes, values, b, s.state),
     }
 }
@@ -200,10 +249,7 @@ fn expected_in_head(b: &[u8]) -> Expected {
     let h = zone::read_head(b, &mut codes, &mut values);
     let verdict = h.verdict;
     match verdict {
-        Verdict::Refused { number, index } => Expected {
-            number: number as u64,
-            index,
-        },
+        Verdict::Refused { number, index } => refused(number as u64, index),
         Verdict::Accepted => expected_with_zone(h.zone, &codes, &values, b),
     }
 }

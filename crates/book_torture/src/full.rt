@@ -6,8 +6,12 @@ use crate::bytes::part;
 use crate::bytes::put_byte;
 use crate::bytes::read_f64_be;
 use crate::cuts::Cuts;
+use crate::house::COOLING_PLACE;
 use crate::house::ENTRY;
 use crate::house::HEAD;
+use crate::house::HEATING_PLACE;
+use crate::house::RATE_PLACE;
+use crate::house::VERSION_PLACE;
 use crate::house::conditions;
 use crate::house::head;
 use crate::print::count;
@@ -15,6 +19,7 @@ use crate::print::line;
 use crate::print::of;
 use crate::year::append_hours;
 use crate::year::is_accepted;
+use crate::year::last_version_of;
 use crate::year::nothing;
 use crate::year::refused_with;
 use crate::year::same_book_states;
@@ -24,6 +29,8 @@ use std::num::wrapping_add_usize;
 use zone::ZoneFront;
 
 pub const YEAR: usize = 8784;
+// The first hour of version 2.
+const CHANGE: usize = 4392;
 // Head and 8,784 entries, and with one more.
 pub const USED: usize = 2609215;
 
@@ -39,11 +46,16 @@ fn print_one_more(
 ) {
     let c = conditions(YEAR);
     let before = hash(b);
-    let r = book::append(z, codes, values, end, &c, b);
+    let r = book::append(z, codes, values, end, &c, 2, b);
+    let s = book::append(z, codes, values, end, &c, 1, b);
     let kept = before == hash(b);
     line(
         b"append of the 8,785th hour refused with 17",
         kept && refused_with(r, end, 17, 0),
+    );
+    line(
+        b"in version 1, behind version 2: with 17 too",
+        refused_with(s, end, 17, 0),
     );
 }
 
@@ -81,10 +93,11 @@ fn cut_year(
     let r = book::take_up(nothing(), part(b, 0, cut));
     let taken = r.values;
     let count = taken.count;
-    let filled = append_hours(z, codes, values, taken, count, YEAR, b);
+    let filled = append_hours(z, codes, values, taken, count, YEAR, CHANGE, b);
     fill_from(b, USED, 0);
     let same = same_book_states(filled.values, end);
-    is_accepted(r) && filled.refused == 0 && same && before == hash(b)
+    let version = taken.last_version == last_version_of(count, CHANGE);
+    is_accepted(r) && version && filled.wrong == 0 && same && before == hash(b)
 }
 
 // `count` cuts of the year, `step` bytes apart.
@@ -155,14 +168,14 @@ fn print_cuts(
     );
 }
 
-// One bit of the last byte of an entry changed, and back.
-fn damaged(b: &mut [u8; ROOM], entry: usize) -> bool {
+// A byte of an entry changed, and back.
+fn damaged(b: &mut [u8; ROOM], entry: usize, within: usize, change: u8) -> bool {
     if YEAR <= entry {
         return false;
     }
-    let place = HEAD + ENTRY * entry + 296;
+    let place = wrapping_add_usize(HEAD + ENTRY * entry, within);
     let byte = byte_at(b, place);
-    put_byte(b, place, byte ^ 1);
+    put_byte(b, place, byte ^ change);
     let r = book::take_up(nothing(), part(b, 0, USED));
     put_byte(b, place, byte);
     refused_with(r, nothing(), 18, entry)
@@ -171,47 +184,55 @@ fn damaged(b: &mut [u8; ROOM], entry: usize) -> bool {
 fn print_damage(b: &mut [u8; ROOM]) {
     line(
         b"last bit of entry 0 changed: refused with 18 at 0",
-        damaged(b, 0),
+        damaged(b, 0, ENTRY - 1, 1),
     );
     line(
         b"last bit of entry 4,391 changed: refused with 18 at 4,391",
-        damaged(b, 4391),
+        damaged(b, 4391, ENTRY - 1, 1),
     );
     line(
         b"last bit of entry 8,783 changed: refused with 18 at 8,783",
-        damaged(b, 8783),
+        damaged(b, 8783, ENTRY - 1, 1),
+    );
+    line(
+        b"entry 4,391 of a version that no hour has: refused with 18 at 4,391",
+        damaged(b, 4391, VERSION_PLACE, 128),
+    );
+    line(
+        b"entry 8,783 of version 1 behind version 2: refused with 18 at 8,783",
+        damaged(b, 8783, VERSION_PLACE, 3),
     );
 }
 
-// How many hours of a year have heating, cooling, windows open.
+// How many hours have heating, cooling, windows open.
 struct Hours {
     heating: u64,
     cooling: u64,
     windows: u64,
 }
 
-// An entry's heating, cooling and rate stand behind its 200 bytes of front and conditions.
 fn with_entry(mut t: Hours, b: &[u8], at: usize) -> Hours {
-    if 0.0 < read_f64_be(b, wrapping_add_usize(at, 200)) {
+    if 0.0 < read_f64_be(b, wrapping_add_usize(at, HEATING_PLACE)) {
         t.heating = wrapping_add_u64(t.heating, 1);
     }
-    if read_f64_be(b, wrapping_add_usize(at, 208)) < 0.0 {
+    if read_f64_be(b, wrapping_add_usize(at, COOLING_PLACE)) < 0.0 {
         t.cooling = wrapping_add_u64(t.cooling, 1);
     }
-    if 0.75 < read_f64_be(b, wrapping_add_usize(at, 216)) {
+    if 0.75 < read_f64_be(b, wrapping_add_usize(at, RATE_PLACE)) {
         t.windows = wrapping_add_u64(t.windows, 1);
     }
     t
 }
 
-fn hours_of(b: &[u8; ROOM]) -> Hours {
+// Of the half year from a place on.
+fn hours_of(b: &[u8; ROOM], from: usize) -> Hours {
     let mut t = Hours {
         heating: 0,
         cooling: 0,
         windows: 0,
     };
-    let mut at = HEAD;
-    for _ in 0..YEAR {
+    let mut at = from;
+    for _ in 0..CHANGE {
         t = with_entry(t, b, at);
         at = wrapping_add_usize(at, ENTRY);
     }
@@ -219,10 +240,14 @@ fn hours_of(b: &[u8; ROOM]) -> Hours {
 }
 
 fn print_hours(b: &[u8; ROOM]) {
-    let t = hours_of(b);
-    count(b"  hours with heating", t.heating);
-    count(b"  hours with cooling", t.cooling);
-    count(b"  hours with windows open", t.windows);
+    let t = hours_of(b, HEAD);
+    let u = hours_of(b, HEAD + ENTRY * CHANGE);
+    count(b"  hours of version 1 with heating", t.heating);
+    count(b"  hours of version 1 with cooling", t.cooling);
+    count(b"  hours of version 1 with windows open", t.windows);
+    count(b"  hours of version 2 with heating", u.heating);
+    count(b"  hours of version 2 with cooling", u.cooling);
+    count(b"  hours of version 2 with windows open", u.windows);
 }
 
 fn fill_year(
@@ -233,11 +258,11 @@ fn fill_year(
     b: &mut [u8; ROOM],
 ) -> BookState {
     let begun = book::begin(nothing(), h, b);
-    let filled = append_hours(z, codes, values, begun.values, 0, YEAR, b);
+    let filled = append_hours(z, codes, values, begun.values, 0, YEAR, CHANGE, b);
     let end = filled.values;
     line(
-        b"a year of 8,784 hours begun and appended",
-        filled.refused == 0 && end.count == YEAR && end.used == USED,
+        b"a year of 8,784 hours begun and appended, from 4,392 on in version 2",
+        filled.wrong == 0 && end.count == YEAR && end.used == USED,
     );
     end
 }

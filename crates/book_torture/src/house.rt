@@ -2,6 +2,7 @@
 use crate::bytes::put_byte;
 use crate::bytes::write_f64s_be;
 use std::num::nearest_u64_to_f64;
+use std::num::wrapping_add_usize;
 
 // Bytes of its head, of an hour's conditions and of an entry.
 pub const HEAD: usize = 367;
@@ -9,6 +10,19 @@ pub const HEAD: usize = 367;
 pub const CONDITIONS: usize = 195;
 
 pub const ENTRY: usize = 297;
+// Where the parts of an entry begin: behind its length, version and conditions stand heating, cooling and rate.
+pub const VERSION_PLACE: usize = 4;
+
+pub const CONDITIONS_PLACE: usize = VERSION_PLACE + 1;
+
+pub const HEATING_PLACE: usize = CONDITIONS_PLACE + CONDITIONS;
+
+pub const COOLING_PLACE: usize = HEATING_PLACE + 8;
+
+pub const RATE_PLACE: usize = COOLING_PLACE + 8;
+
+// The hour of a year with which a book begins: a whole number of days.
+const FIRST_HOUR: usize = 3120;
 
 fn put_wall(b: &mut [u8; HEAD]) {
     let values = [20.0, 90.0, 20.0, 4.14, 5.13, 0.6, 15.0];
@@ -59,14 +73,19 @@ fn wave(n: usize, half: usize) -> f64 {
     if turn % 2 == 0 { up } else { 1.0 - up }
 }
 
+// 0 in winter, 1 in summer. The first hour lies in early summer, where a day has heated and cooled hours.
+fn season(hour: usize) -> f64 {
+    wave(wrapping_add_usize(hour, FIRST_HOUR), 4380)
+}
+
 // By year and day, -6 to 26.
 fn external(hour: usize) -> f64 {
-    20.0 * wave(hour, 4380) + 12.0 * wave(hour, 12) - 6.0
+    20.0 * season(hour) + 12.0 * wave(hour, 12) - 6.0
 }
 
 // The sun of the middle of a day.
 fn sun(hour: usize) -> f64 {
-    let high = wave(hour, 12) * (0.3 + 0.7 * wave(hour, 4380)) - 0.25;
+    let high = wave(hour, 12) * (0.3 + 0.7 * season(hour)) - 0.25;
     if 0.0 < high { 800.0 * high } else { 0.0 }
 }
 

@@ -4,14 +4,34 @@ use crate::house::conditions;
 use book::BookState;
 use book::Reply;
 use std::num::wrapping_add_u64;
+use std::num::wrapping_sub_usize;
 use zone::State;
 use zone::Verdict;
 use zone::ZoneFront;
 
-// The values after some appends, and how many of them were refused.
+// A change that is behind every hour of a year: all entries are of version 1.
+pub const NEVER: usize = 10000;
+
+// A last version that no hour has, so that what was given can be told from what was found.
+const MADE_UP: u64 = 77;
+
+// The values after some appends, and how many of them were refused or handed back another version than the one named.
 pub struct Filled {
     pub values: BookState,
-    pub refused: u64,
+    pub wrong: u64,
+}
+
+// The entry version of an hour: the hours before `change` have version 1, the others version 2.
+pub fn version_at(hour: usize, change: usize) -> u64 {
+    if hour < change { 1 } else { 2 }
+}
+
+// The last version of so many entries.
+pub fn last_version_of(count: usize, change: usize) -> u64 {
+    if count == 0 {
+        return 1;
+    }
+    version_at(wrapping_sub_usize(count, 1), change)
 }
 
 pub fn nothing() -> BookState {
@@ -23,6 +43,7 @@ pub fn nothing() -> BookState {
         state,
         count: 0,
         used: 0,
+        last_version: MADE_UP,
     }
 }
 
@@ -51,25 +72,26 @@ fn append_hour(
     values: &[f64; 600],
     filled: Filled,
     hour: usize,
+    version: u64,
     buf: &mut [u8],
 ) -> Filled {
     let c = conditions(hour);
-    let r = book::append(z, codes, values, filled.values, &c, buf);
+    let r = book::append(z, codes, values, filled.values, &c, version, buf);
     let after = r.values;
-    if is_accepted(r) {
+    if is_accepted(r) && after.last_version == version {
         Filled {
             values: after,
-            refused: filled.refused,
+            wrong: filled.wrong,
         }
     } else {
         Filled {
             values: after,
-            refused: wrapping_add_u64(filled.refused, 1),
+            wrong: wrapping_add_u64(filled.wrong, 1),
         }
     }
 }
 
-// The hours `from` to `to` - 1.
+// The hours `from` to `to` - 1, of version 2 from `change` on.
 pub fn append_hours(
     z: ZoneFront,
     codes: &[u8; 72],
@@ -77,14 +99,16 @@ pub fn append_hours(
     given: BookState,
     from: usize,
     to: usize,
+    change: usize,
     buf: &mut [u8],
 ) -> Filled {
     let mut filled = Filled {
         values: given,
-        refused: 0,
+        wrong: 0,
     };
     for hour in from..to {
-        filled = append_hour(z, codes, values, filled, hour, buf);
+        let version = version_at(hour, change);
+        filled = append_hour(z, codes, values, filled, hour, version, buf);
     }
     filled
 }
@@ -109,7 +133,8 @@ pub fn same_book_states(a: BookState, b: BookState) -> bool {
     let x = s.temps;
     let y = t.temps;
     let same = same_temps(&x, &y);
-    same && s.nodes == t.nodes && a.count == b.count && a.used == b.used
+    let counted = a.count == b.count && a.used == b.used;
+    same && s.nodes == t.nodes && counted && a.last_version == b.last_version
 }
 
 // Refused so, with the values that were given.

@@ -10,10 +10,9 @@ use Rattle.zone.specs.declared.format.head.Head.{Head}
 use Rattle.zone.specs.Inner.Lent.{zoneIn}
 use Rattle.zone.specs.Check.ZoneTest.{zoneTest}
 use Rattle.zone.specs.Inner.Head.{structuredHead, headIn}
-use Rattle.zone.specs.declared.calls.state.State.{State}
 use Rattle.book.specs.Model.Calls as Book
 use Rattle.book.specs.Model.Session.{CallSpec}
-use Rattle.book.specs.Year.{yearInterface}
+use Rattle.book.specs.Year.{Item, hour, Carried, yearInterface}
 use Rattle.book.specs.Answers.{givenOf, replyIn, rustTypes}
 use Rattle.book.specs.declared.book.BookState.{BookState}
 use Rattle.book.specs.declared.book.Reply.{Reply}
@@ -25,10 +24,10 @@ use Rattle.hem_zone.proofs.Laws.Answers.{reply-no, reply-yes, outcome-n
 
 -- ---- with a buffer: a refusal leaves it as it was
 
-module _ (g : Book.BookState State) (buf : List ℕ) (held : CBookState) (d : Result (Book.BookState State × List ℕ)) (x : Reply) (out : List ℕ)
+module _ (g : Book.BookState Carried) (buf : List ℕ) (held : CBookState) (d : Result (Book.BookState Carried × List ℕ)) (x : Reply) (out : List ℕ)
     (m : CallSpec yearInterface rustTypes x out (Book.outcomeOf g buf d)) where
   same-buffer : (n j : ℕ) → d ≡ refused n j → out ≡ buf
-  same-buffer n j e = m .bytes ∙ ap (λ (r : Result (Book.BookState State × List ℕ)). Book.outcomeOf g buf r .buffer) e
+  same-buffer n j e = m .bytes ∙ ap (λ (r : Result (Book.BookState Carried × List ℕ)). Book.outcomeOf g buf r .buffer) e
 
   book-refused : (n j c : ℕ) → x .verdict ≡ Refused n j → c ≡ refusalCode n j → (c, (out, held)) ≡ answered bookOut (buf, held) d
   book-refused n j c v q =
@@ -51,40 +50,38 @@ module _ (head buf : List ℕ) (held : CBookState) (given : BookState) (x : Repl
 
 pub ruleset begin-cases = (begin-refused, begin-accepted)
 
-module _ (z : Zone) (conditions buf : List ℕ) (held : CBookState) (given : BookState) (p : givenOf given ≡ bookStateOf held) (x : Reply) (out : List ℕ)
-    (m : CallSpec yearInterface rustTypes x out (Book.append yearInterface z (givenOf given) conditions buf)) where
+module _ (z : Zone) (i : Item) (buf : List ℕ) (held : CBookState) (given : BookState) (p : givenOf given ≡ bookStateOf held) (x : Reply) (out : List ℕ)
+    (m : CallSpec yearInterface rustTypes x out (Book.append yearInterface z (givenOf given) i buf)) where
   abbrev Appends : ℕ × (List ℕ × CBookState) → Type 0
-  Appends y = y ≡ answered bookOut (buf, held) (Book.appendRes yearInterface z (bookStateOf held) conditions buf)
+  Appends y = y ≡ answered bookOut (buf, held) (Book.appendRes yearInterface z (bookStateOf held) i buf)
 
   pub append-refused : (n j c : ℕ) → x .verdict ≡ Refused n j → c ≡ refusalCode n j → Appends (c, (out, held))
   unfolding Book.append
-  append-refused n j c v q = rw (← p) (book-refused (givenOf given) buf held (Book.appendRes yearInterface z (givenOf given) conditions buf) x out m n j c v q)
+  append-refused n j c v q = rw (← p) (book-refused (givenOf given) buf held (Book.appendRes yearInterface z (givenOf given) i buf) x out m n j c v q)
 
   pub append-accepted : (after : CBookState) → x .verdict ≡ Accepted → after ≡ cBookStateOf (givenOf (x .values)) → Appends (0, (out, after))
   unfolding Book.append
-  append-accepted after v q = rw (← p) (book-accepted (givenOf given) buf held (Book.appendRes yearInterface z (givenOf given) conditions buf) x out m after v q)
+  append-accepted after v q = rw (← p) (book-accepted (givenOf given) buf held (Book.appendRes yearInterface z (givenOf given) i buf) x out m after v q)
 
-append-judges : (z : Zone) (a b : ℕ) → zoneTest z ≡ refused a b → (given : Book.BookState State) (conditions buf : List ℕ) → Book.appendRes yearInterface z given conditions buf ≡ refused a b
+append-judges : (z : Zone) (a b : ℕ) → zoneTest z ≡ refused a b → (given : Book.BookState Carried) (i : Item) (buf : List ℕ) → Book.appendRes yearInterface z given i buf ≡ refused a b
 unfolding Book.appendRes
-append-judges z a b q given conditions buf = rw q
+append-judges z a b q given i buf = rw q
 
-module _ (head : List ℕ) (h : Head) (codes : List ℕ) (values : List Float) (e : headIn h codes values ≡ structuredHead head) (conditions buf : List ℕ) (held : CBookState) where
-  pub append-no-head : (n j c : ℕ) → h .verdict ≡ Refused n j → c ≡ refusalCode n j → (c, (buf, held)) ≡ hemAppend head buf held conditions
+module _ (head : List ℕ) (h : Head) (codes : List ℕ) (values : List Float) (e : headIn h codes values ≡ structuredHead head) (conditions buf : List ℕ) (version : ℕ) (held : CBookState) where
+  pub append-no-head : (n j c : ℕ) → h .verdict ≡ Refused n j → c ≡ refusalCode n j → (c, (buf, held)) ≡ hemAppend head buf held conditions version
   unfolding hemAppend
   append-no-head =
-      zone-refused head h codes values e bookOut (buf, held) (λ z. Book.appendRes yearInterface z (bookStateOf held) conditions buf)
-      (λ z a b q. append-judges z a b q (bookStateOf held) conditions buf)
+      zone-refused head h codes values e bookOut (buf, held) (λ z. Book.appendRes yearInterface z (bookStateOf held) (hour version conditions) buf)
+      (λ z a b q. append-judges z a b q (bookStateOf held) (hour version conditions) buf)
 
   pub append-of-head : (x : ℕ × (List ℕ × CBookState)) → h .verdict ≡ Accepted
-      → x ≡ answered bookOut (buf, held) (Book.appendRes yearInterface (zoneIn (h .zone) codes values) (bookStateOf held) conditions buf) → x ≡ hemAppend head buf held conditions
+      → x ≡ answered bookOut (buf, held) (Book.appendRes yearInterface (zoneIn (h .zone) codes values) (bookStateOf held) (hour version conditions) buf) → x ≡ hemAppend head buf held conditions version
   unfolding hemAppend
   append-of-head =
-      zone-accepted head h codes values e bookOut (buf, held) (λ z. Book.appendRes yearInterface z (bookStateOf held) conditions buf)
-      (λ z a b q. append-judges z a b q (bookStateOf held) conditions buf)
+      zone-accepted head h codes values e bookOut (buf, held) (λ z. Book.appendRes yearInterface z (bookStateOf held) (hour version conditions) buf)
+      (λ z a b q. append-judges z a b q (bookStateOf held) (hour version conditions) buf)
 
 pub ruleset append-head-cases = (append-no-head, append-of-head)
-
-pub ruleset append-cases = (append-refused, append-accepted)
 
 -- ---- without one
 

@@ -92,20 +92,20 @@ module _ (head : List ℕ) (h : Head) (codes : List ℕ) (values : List Float) (
         demand-of-head =
             zone-accepted demandOut out (λ z. demand standardCoefficients z given conditions) (λ z a b q. demand-judges z a b q standardCoefficients given conditions)
 
-        module _ (balance : List Float) where
+        module _ (version : ℕ) (balance : List Float) where
           pub hour-no-head : (n j code : ℕ) → h .verdict ≡ Refused n j → code ≡ refusalCode n j
-              → (code, (temps, out, balance)) ≡ hemHourStep head temps nodes conditions out balance
+              → (code, (temps, out, balance)) ≡ hemHourStep head temps nodes conditions version out balance
           unfolding hemHourStep
           hour-no-head =
-              zone-refused hourOut (temps, out, balance) (λ z. hourStep standardCoefficients z given conditions)
-              (λ z a b q. hour-judges z a b q standardCoefficients given conditions)
+              zone-refused hourOut (temps, out, balance) (λ z. hourStep standardCoefficients z version given conditions)
+              (λ z a b q. hour-judges z a b q standardCoefficients given conditions version)
 
           pub hour-of-head : (x : ℕ × (List Float × List Float × List Float)) → h .verdict ≡ Accepted
-              → x ≡ answered hourOut (temps, out, balance) (hourStep standardCoefficients zone given conditions) → x ≡ hemHourStep head temps nodes conditions out balance
+              → x ≡ answered hourOut (temps, out, balance) (hourStep standardCoefficients zone version given conditions) → x ≡ hemHourStep head temps nodes conditions version out balance
           unfolding hemHourStep
           hour-of-head =
-              zone-accepted hourOut (temps, out, balance) (λ z. hourStep standardCoefficients z given conditions)
-              (λ z a b q. hour-judges z a b q standardCoefficients given conditions)
+              zone-accepted hourOut (temps, out, balance) (λ z. hourStep standardCoefficients z version given conditions)
+              (λ z a b q. hour-judges z a b q standardCoefficients given conditions version)
 
       module _ (gains fraction rate : Float) (balance : List Float) where
         pub update-no-head : (n j code : ℕ) → h .verdict ≡ Refused n j → code ≡ refusalCode n j
@@ -189,9 +189,9 @@ module _ (z : Zone) (s : State) (temps : List Float) (nodes : ℕ) (p : s ≡ st
     update-accepted b balance v q =
         rw (← p) (answered-ok updateOut before _ (x .state, b) (x .state .temps, balance) (update-yes s _ x e b v) (rw q))
 
-  module _ (before : List Float × List Float × List Float) (x : HourStepReply) (e : x ≡ hourStepReply s (hourStep standardCoefficients z s conditions)) where
+  module _ (version : ℕ) (before : List Float × List Float × List Float) (x : HourStepReply) (e : x ≡ hourStepReply s (hourStep standardCoefficients z version s conditions)) where
     abbrev Steps : ℕ × (List Float × List Float × List Float) → Type 0
-    Steps y = y ≡ answered hourOut before (hourStep standardCoefficients z (stateIn temps nodes) conditions)
+    Steps y = y ≡ answered hourOut before (hourStep standardCoefficients z version (stateIn temps nodes) conditions)
 
     pub hour-refused : (n j code : ℕ) → x .answer ≡ HourAnswer.Refused n j → code ≡ refusalCode n j → Steps (code, before)
     hour-refused n j code v q = rw (← p) (answered-refused hourOut before _ n j code q (hour-no s _ x e n j v))

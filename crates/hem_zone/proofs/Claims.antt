@@ -9,13 +9,14 @@ use Rattle.zone.specs.declared.record.zone_record.Zone.{Zone}
 use Rattle.zone.specs.Record.BuildingElement.{standardCoefficients}
 use Rattle.zone.proofs.Claims.HeadRefusals.{head-refusals}
 use Rattle.zone.proofs.Claims.Refusals.{operative-refusals, demand-refusals, update-refusals, hour-step-refusals, start-up-refusals}
+use Rattle.book.specs.Year.{hour}
 use Rattle.book.proofs.Refusals.{begin-refusals, append-refusals, take-up-refusals}
 use Rattle.hem_zone.specs.Code.{refusalCode, answerCode, lentAfter, answered}
 use Rattle.hem_zone.specs.Arrays.{stateIn}
 use Rattle.hem_zone.specs.Zone.{withZone, hemHead, hemStartUp, hemOperative, hemDemand, hemUpdate, hemHourStep}
 use Rattle.hem_zone.specs.Book.{bookStateOf, hemBegin, hemAppend, hemTakeUp}
 use Rattle.hem_zone.specs.Claims.{AfterHead, ofHead, ofCall, ReturnCodeSpec, Answered, Claims}
-use Rattle.hem_zone.proofs.Laws.Numbered.{Numbered, head-numbered, operative-numbered, hour-numbered, update-numbered, start-up-numbered, begin-numbered, append-numbered, take-up-numbered, after-head-numbered}
+use Rattle.hem_zone.proofs.Laws.Numbered.{Numbered, head-numbered, operative-numbered, demand-numbered, hour-numbered, update-numbered, start-up-numbered, begin-numbered, append-numbered, take-up-numbered, after-head-numbered}
 
 -- nothing of it is cut off, and both are read back
 module _ (number index : ℕ) (p : Numbered number index) where
@@ -79,17 +80,17 @@ claims =
           answers (after-head-numbered operative-numbered) _ _
           (with-zone-refuses head _ λ z. operative-refusals standardCoefficients z (stateIn temps nodes) []);
       «hem_demand» = λ head temps nodes conditions out.
-          answers (after-head-numbered hour-numbered) _ _
+          answers (after-head-numbered demand-numbered) _ _
           (with-zone-refuses head _ λ z. demand-refusals standardCoefficients z (stateIn temps nodes) conditions);
       «hem_update» = λ head temps nodes conditions gains fraction rate balance.
           answers (after-head-numbered update-numbered) _ _
           (with-zone-refuses head _ λ z. update-refusals standardCoefficients z (stateIn temps nodes) conditions gains fraction rate);
-      «hem_hour_step» = λ head temps nodes conditions out balance.
+      «hem_hour_step» = λ head temps nodes conditions version out balance.
           answers (after-head-numbered hour-numbered) _ _
-          (with-zone-refuses head _ λ z. hour-step-refusals standardCoefficients z (stateIn temps nodes) conditions);
+          (with-zone-refuses head _ λ z. hour-step-refusals standardCoefficients z (stateIn temps nodes) conditions version);
       «hem_begin» = λ head buf held. answers begin-numbered _ _ (begin-refusals head buf);
-      «hem_append» = λ head buf held conditions.
+      «hem_append» = λ head buf held conditions version.
           answers (after-head-numbered append-numbered) _ _
-          (with-zone-refuses head _ λ z. append-refusals z (bookStateOf held) conditions buf);
+          (with-zone-refuses head _ λ z. append-refusals z (bookStateOf held) (hour version conditions) buf);
       «hem_take_up» = λ bytes held. answers take-up-numbered _ _ (take-up-refusals bytes);
     }

@@ -10,7 +10,7 @@ use Rattle.hem_zone.proofs.BookTypes.{c-laws}
 
 -- For every list of calls that starts with no book, of begins, appends, cuts and take-ups with whatever arguments, and for whatever `hem_begin`,
 -- `hem_append` and `hem_take_up` returned and left in what they were lent, of which a session holds what their contracts ensure and nothing else
--- (Contracts.antt): what each returned number stands for, each `temps`, `nodes`, `count` and `used`, each buffer, byte for byte, and the book held after
+-- (Contracts.antt): what each returned number stands for, each `temps`, `nodes`, `count`, `used` and `last_version`, each buffer, byte for byte, and the book held after
 -- each call are those of the plain book, which is fed the calls' arguments only.
 pub demand-3 : Demand3 yearInterface cTypes
 demand-3 = demand-3-at cTypes c-laws

@@ -7,11 +7,13 @@ use Rattle.zone.proofs.Claims.Reasons.{demand-reasons, hour-reasons, update-rea
 use Rattle.zone.proofs.Claims.HeadClaims.{head-claims, zone-claims, conditions-claims}
 use Rattle.zone.proofs.Claims.Index.{indices-of-zone}
 use Rattle.zone.proofs.Claims.Refusals.{call-refusals, state-kept}
+use Rattle.zone.proofs.Claims.Versions as Zone
 use Rattle.zone.proofs.Claims.NodeOrder.{node-order}
 use Rattle.zone.proofs.Claims.HouseP.{house-p, claim}
 use Rattle.book.proofs.Demand3.{year-claims}
-use Rattle.book.proofs.HouseP.{begin-of-p, book-of-p}
+use Rattle.book.proofs.HouseP.{begin-of-p, book-of-p, book-of-p-2}
 use Rattle.book.proofs.Refusals.{book-refusals}
+use Rattle.book.proofs.VersionOrder as Order
 use Rattle.hem_zone.specs.Demands.{Demands}
 use Rattle.hem_zone.proofs.Claims.{claims}
 use Rattle.hem_zone.proofs.ToldApart.{told-apart}
@@ -40,6 +42,7 @@ demands =
         is-not-settled = start-up-is-not-settled standardCoefficients z;
         settled = start-up-settled standardCoefficients z;
         is-settled = start-up-is-settled standardCoefficients z;
+        versions = Zone.version-claims standardCoefficients z;
         kept = state-kept;
         update-state = update-state-tested standardCoefficients z;
         hour-state = hour-state-tested standardCoefficients z;
@@ -54,6 +57,7 @@ demands =
         every-list = C.session-exactly;
         from-any-book = C.session-from;
         refusals = book-refusals;
+        versions = Order.version-claims;
         books = year-claims;
       };
       node-order = node-order;
@@ -61,4 +65,5 @@ demands =
       rows = claim;
       begin-of-p = begin-of-p;
       book-of-p = book-of-p;
+      book-of-p-2 = book-of-p-2;
     }

@@ -12,9 +12,9 @@ use Rattle.zone.specs.Claims.HeadRefusals.{HeadRefusal}
 use Rattle.zone.specs.Calls.State.{operative}
 use Rattle.zone.specs.Calls.Hour.{demand, updateTemperatures, hourStep}
 use Rattle.zone.specs.Calls.StartUp.{initNodeTemps}
-use Rattle.zone.specs.Claims.Refusals.{OperativeRefusal, HourRefusal, UpdateRefusal, StartUpRefusal}
+use Rattle.zone.specs.Claims.Refusals.{OperativeRefusal, DemandRefusal, HourRefusal, UpdateRefusal, StartUpRefusal}
 use Rattle.book.specs.Model.Calls as Book
-use Rattle.book.specs.Year.{yearInterface}
+use Rattle.book.specs.Year.{hour, yearInterface}
 use Rattle.book.specs.Refusals.{BeginRefusal, AppendRefusal, TakeUpRefusal}
 use Rattle.hem_zone.specs.Code.{refusalCode}
 use Rattle.hem_zone.specs.Arrays.{stateIn, demandOut}
@@ -71,7 +71,7 @@ pub record Claims : Type 0 where
       → Answered (AfterHead OperativeRefusal) (λ t. t) before (withZone head λ z. operative z (stateIn temps nodes)) (hemOperative head temps nodes before)
   pub «hem_demand» :
       (head : List ℕ) (temps : List Float) (nodes : ℕ) (conditions : List ℕ) (out : List Float)
-      → Answered (AfterHead HourRefusal) demandOut out (withZone head λ z. demand standardCoefficients z (stateIn temps nodes) conditions)
+      → Answered (AfterHead DemandRefusal) demandOut out (withZone head λ z. demand standardCoefficients z (stateIn temps nodes) conditions)
       (hemDemand head temps nodes conditions out)
   pub «hem_update» :
       (head : List ℕ) (temps : List Float) (nodes : ℕ) (conditions : List ℕ) (gains fraction rate : Float) (balance : List Float)
@@ -79,13 +79,13 @@ pub record Claims : Type 0 where
       (withZone head λ z. updateTemperatures standardCoefficients z (stateIn temps nodes) conditions gains fraction rate)
       (hemUpdate head temps nodes conditions gains fraction rate balance)
   pub «hem_hour_step» :
-      (head : List ℕ) (temps : List Float) (nodes : ℕ) (conditions : List ℕ) (out balance : List Float)
-      → Answered (AfterHead HourRefusal) hourOut (temps, out, balance) (withZone head λ z. hourStep standardCoefficients z (stateIn temps nodes) conditions)
-      (hemHourStep head temps nodes conditions out balance)
+      (head : List ℕ) (temps : List Float) (nodes : ℕ) (conditions : List ℕ) (version : ℕ) (out balance : List Float)
+      → Answered (AfterHead HourRefusal) hourOut (temps, out, balance) (withZone head λ z. hourStep standardCoefficients z version (stateIn temps nodes) conditions)
+      (hemHourStep head temps nodes conditions version out balance)
   pub «hem_begin» :
       (head buf : List ℕ) (held : CBookState) → Answered BeginRefusal bookOut (buf, held) (Book.beginRes yearInterface head buf) (hemBegin head buf held)
   pub «hem_append» :
-      (head buf : List ℕ) (held : CBookState) (conditions : List ℕ)
-      → Answered (AfterHead AppendRefusal) bookOut (buf, held) (withZone head λ z. Book.appendRes yearInterface z (bookStateOf held) conditions buf)
-      (hemAppend head buf held conditions)
+      (head buf : List ℕ) (held : CBookState) (conditions : List ℕ) (version : ℕ)
+      → Answered (AfterHead AppendRefusal) bookOut (buf, held) (withZone head λ z. Book.appendRes yearInterface z (bookStateOf held) (hour version conditions) buf)
+      (hemAppend head buf held conditions version)
   pub «hem_take_up» : (bytes : List ℕ) (held : CBookState) → Answered TakeUpRefusal cBookStateOf held (Book.takeUpRes yearInterface bytes) (hemTakeUp bytes held)

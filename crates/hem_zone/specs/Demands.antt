@@ -8,12 +8,14 @@ use lib.ListN.{take}
 use Prim.Native.Nat.{ℕ}
 use Rattle.zone.specs.declared.record.zone_record.Zone.{Zone}
 use Rattle.zone.specs.Promise.{ok}
+use Rattle.zone.specs.declared.calls.state.State.{State}
 use Rattle.zone.specs.Format.Head.{ReadHead, headOf}
 use Rattle.zone.specs.Record.BuildingElement.{standardCoefficients}
 use Rattle.zone.specs.Claims.Head.{HeadClaims, ZoneClaims, ConditionsClaims}
 use Rattle.zone.specs.Claims.Refusals.{CallRefusals, IndicesOfZone}
 use Rattle.zone.specs.Claims.DemandClaims.{DemandCallSigns, HourCallSigns}
 use Rattle.zone.specs.Claims.StartUpClaims.{StartUpNotSettled, StartUpIsNotSettled, StartUpSettled, StartUpIsSettled}
+use Rattle.zone.specs.Claims.Versions as Zone
 use Rattle.zone.specs.Claims.NodeOrder.{NodeOrder}
 use Rattle.zone.specs.Claims.StateClaims.{StateKept, UpdateStateTested, HourStateTested, StartUpStateTested}
 use Rattle.zone.specs.Claims.Reasons.{DemandReasons, HourReasons, UpdateReasons, StartUpReasons}
@@ -24,7 +26,8 @@ use Rattle.book.specs.Model.Session.{CallSpec}
 use Rattle.book.specs.Model.Claims as Book
 use Rattle.book.specs.HouseP.{BeginOfP, BookOfP}
 use Rattle.book.specs.Refusals.{BookRefusals}
-use Rattle.book.specs.Year.{yearInterface}
+use Rattle.book.specs.VersionOrder as Order
+use Rattle.book.specs.Year.{hour, yearInterface}
 use Rattle.hem_zone.specs.Claims.{Claims, ToldApart}
 use Rattle.hem_zone.specs.Book.{CBookState, bookStateOf, hemBegin, hemAppend, hemTakeUp}
 use Rattle.hem_zone.specs.BookTypes.{replyIn, cTypes}
@@ -62,6 +65,8 @@ pub record Demand2 (z : Zone) : Type 0 where
   pub is-not-settled : StartUpIsNotSettled standardCoefficients z
   pub settled : StartUpSettled standardCoefficients z
   pub is-settled : StartUpIsSettled standardCoefficients z
+  -- version 1's hour is document 01's, and version 2's the same where no cooling is delivered,
+  pub versions : (s : State) (bytes : List ℕ) → Zone.VersionClaims standardCoefficients z s bytes
   -- and a state that is handed back is the given one where a call is refused, and is taken by the next call.
   pub kept : StateKept
   pub update-state : UpdateStateTested standardCoefficients z
@@ -75,17 +80,18 @@ pub record Demand3 : Type 1 where
   -- what the definitions of these three functions leave is what such a list has of their calls;
   pub begin-meets : (head buf : List ℕ) (held : CBookState) (c : ℕ) (out : List ℕ) (after : CBookState) → (c, (out, after)) ≡ hemBegin head buf held
       → CallSpec yearInterface cTypes (c, after) out (Calls.begin yearInterface head (bookStateOf held) buf)
-  pub append-meets : (used behind buf : List ℕ) (h : ReadHead Zone) (held : CBookState) (i : List ℕ) (c : ℕ) (out : List ℕ) (after : CBookState) → headOf used ≡ ok h
-      → (c, (out, after)) ≡ hemAppend (take (h .length) used ++ behind) buf held i
-      → CallSpec yearInterface cTypes (c, after) out (Calls.append yearInterface (h .zone) (bookStateOf held) i buf)
+  pub append-meets : (used behind buf : List ℕ) (h : ReadHead Zone) (held : CBookState) (conditions : List ℕ) (version c : ℕ) (out : List ℕ) (after : CBookState) → headOf used ≡ ok h
+      → (c, (out, after)) ≡ hemAppend (take (h .length) used ++ behind) buf held conditions version
+      → CallSpec yearInterface cTypes (c, after) out (Calls.append yearInterface (h .zone) (bookStateOf held) (hour version conditions) buf)
   pub take-up-is : (bytes : List ℕ) (held : CBookState) → hemTakeUp bytes held ≡ replyIn (Calls.takeUp yearInterface (bookStateOf held) bytes)
-  -- and what they leave in `temps`, `nodes`, `count` and `used` is what the next call on the book is given;
+  -- and what they leave in `temps`, `nodes`, `count`, `used` and `last_version` is what the next call on the book is given;
   pub handed-on : Book.HandedOn yearInterface cTypes (λ r. r .1)
   -- the lists that this speaks of are all those whose calls may be made, starting with no book or with any that is held;
   pub every-list : Book.SessionFrom yearInterface cTypes empty
   pub from-any-book : (head : List ℕ) (is : List (yearInterface .Item)) → WellFormed yearInterface head is → Book.SessionFrom yearInterface cTypes (book head is)
-  -- their refusals are the paper's; and what else is claimed of books.
+  -- their refusals are the paper's; versions never fall; and what else is claimed of books.
   pub refusals : BookRefusals
+  pub versions : Order.VersionClaims
   pub books : Book.Claims yearInterface
 
 pub record Demands (Ties : Type 0) : Type 1 where
@@ -98,4 +104,5 @@ pub record Demands (Ties : Type 0) : Type 1 where
   pub house-p : HousePClaims
   pub rows : allHold table ≡ true
   pub begin-of-p : BeginOfP
-  pub book-of-p : BookOfP
+  pub book-of-p : BookOfP 1
+  pub book-of-p-2 : BookOfP 2

@@ -57,9 +57,10 @@ hemUpdate head temps nodes conditions gains fraction rate balance =
 abbrev pub hourOut : HourResult → List Float × List Float × List Float
 hourOut r = (r .state .temps, demandOut (r .demand), balanceOut (r .balance))
 
+-- the entry version is the one that the call names, 64 bits wide
 unfoldable pub hemHourStep :
-    (head : List ℕ) → (temps : List Float) → (nodes : ℕ) → (conditions : List ℕ) → (out balance : List Float)
+    (head : List ℕ) → (temps : List Float) → (nodes : ℕ) → (conditions : List ℕ) → (version : ℕ) → (out balance : List Float)
     → ℕ × (List Float × List Float × List Float)
-hemHourStep head temps nodes conditions out balance =
+hemHourStep head temps nodes conditions version out balance =
     answered hourOut (temps, out, balance)
-    (withZone head λ z. hourStep standardCoefficients z (stateIn temps nodes) conditions)
+    (withZone head λ z. hourStep standardCoefficients z version (stateIn temps nodes) conditions)

@@ -1,4 +1,4 @@
-// The calls on a book. What a caller holds of a book is `temps`, `nodes`, `count` and `used`.
+// The calls on a book. What a caller holds of a book is `temps`, `nodes`, `count`, `used` and `last_version`.
 use crate::arrays::state_in;
 use crate::code::refusal_code;
 use book::BookState;
@@ -11,20 +11,27 @@ use zone::read_head;
 ghost use mathlib.Core.Path.{_≡_};
 ghost use Rattle.zone.specs.Inner.Lent.{zoneIn};
 ghost use Rattle.book.specs.Model.Calls as Book;
-ghost use Rattle.book.specs.Year.{yearInterface};
+ghost use Rattle.book.specs.Year.{hour, yearInterface};
 ghost use Rattle.book.specs.Answers.{givenOf};
 ghost use Rattle.hem_zone.specs.Code.{answered};
 ghost use Rattle.hem_zone.specs.Book.{cBookState, bookStateOf, cBookStateOf, bookOut, hemBegin, hemAppend, hemTakeUp};
 
 // The values of a book that stand in the arrays of C.
-fn book_state_in(temps: &[f64; 121], nodes: u64, count: u64, used: u64) -> BookState
-    ensures { λ r. ⌜ givenOf r ≡ bookStateOf (cBookState (now (temps .entry)) nodes count used) ⌝ }
+fn book_state_in(
+    temps: &[f64; 121],
+    nodes: u64,
+    count: u64,
+    used: u64,
+    last_version: u64,
+) -> BookState
+    ensures { λ r. ⌜ givenOf r ≡ bookStateOf (cBookState (now (temps .entry)) nodes count used «last_version») ⌝ }
 {
     let state = state_in(temps, nodes);
     BookState {
         state,
         count: count as usize,
         used: used as usize,
+        last_version,
     }
 }
 
@@ -35,8 +42,9 @@ fn write_book_state(
     nodes: &mut u64,
     count: &mut u64,
     used: &mut u64,
+    last_version: &mut u64,
 )
-    ensures { λ _. ⌜ cBookState (now (temps .exit)) (now (nodes .exit)) (now (count .exit)) (now (used .exit)) ≡ cBookStateOf (givenOf v) ⌝ }
+    ensures { λ _. ⌜ cBookState (now (temps .exit)) (now (nodes .exit)) (now (count .exit)) (now (used .exit)) (now («last_version» .exit)) ≡ cBookStateOf (givenOf v) ⌝ }
 {
     let state = v.state;
     let t = state.temps;
@@ -44,6 +52,7 @@ fn write_book_state(
     *nodes = state.nodes as u64;
     *count = v.count as u64;
     *used = v.used as u64;
+    *last_version = v.last_version;
 }
 
 // Begins a book: the head into the buffer, the values of a book with no entries.
@@ -55,18 +64,19 @@ pub extern "C" fn hem_begin(
     nodes: &mut u64,
     count: &mut u64,
     used: &mut u64,
+    last_version: &mut u64,
 ) -> u32
-    ensures { λ r. ⌜ (r, (now (buf .exit), cBookState (now (temps .exit)) (now (nodes .exit)) (now (count .exit)) (now (used .exit))))
-        ≡ hemBegin (now (head .entry)) (now (buf .entry)) (cBookState (now (temps .entry)) (now (nodes .entry)) (now (count .entry)) (now (used .entry))) ⌝ }
+    ensures { λ r. ⌜ (r, (now (buf .exit), cBookState (now (temps .exit)) (now (nodes .exit)) (now (count .exit)) (now (used .exit)) (now («last_version» .exit))))
+        ≡ hemBegin (now (head .entry)) (now (buf .entry)) (cBookState (now (temps .entry)) (now (nodes .entry)) (now (count .entry)) (now (used .entry)) (now («last_version» .entry))) ⌝ }
 {
-    let given = book_state_in(temps, *nodes, *count, *used);
+    let given = book_state_in(temps, *nodes, *count, *used, *last_version);
     let x = begin(given, head, buf);
     let v = x.verdict;
     match v {
         Verdict::Refused { number, index } => refusal_code(number, index),
         Verdict::Accepted => {
             let after = x.values;
-            write_book_state(after, temps, nodes, count, used);
+            write_book_state(after, temps, nodes, count, used, last_version);
             0
         }
     }
@@ -81,26 +91,28 @@ fn append_to(
     nodes: &mut u64,
     count: &mut u64,
     used: &mut u64,
+    last_version: &mut u64,
     conditions: &[u8],
+    version: u64,
 ) -> u32
-    ensures { λ r. ⌜ (r, (now (buf .exit), cBookState (now (temps .exit)) (now (nodes .exit)) (now (count .exit)) (now (used .exit))))
-        ≡ answered bookOut (now (buf .entry), (cBookState (now (temps .entry)) (now (nodes .entry)) (now (count .entry)) (now (used .entry))))
-        (Book.appendRes yearInterface (zoneIn z (now (codes .entry)) (now (values .entry))) (bookStateOf (cBookState (now (temps .entry)) (now (nodes .entry)) (now (count .entry)) (now (used .entry)))) (now (conditions .entry)) (now (buf .entry))) ⌝ }
+    ensures { λ r. ⌜ (r, (now (buf .exit), cBookState (now (temps .exit)) (now (nodes .exit)) (now (count .exit)) (now (used .exit)) (now («last_version» .exit))))
+        ≡ answered bookOut (now (buf .entry), (cBookState (now (temps .entry)) (now (nodes .entry)) (now (count .entry)) (now (used .entry)) (now («last_version» .entry))))
+        (Book.appendRes yearInterface (zoneIn z (now (codes .entry)) (now (values .entry))) (bookStateOf (cBookState (now (temps .entry)) (now (nodes .entry)) (now (count .entry)) (now (used .entry)) (now («last_version» .entry)))) (hour version (now (conditions .entry))) (now (buf .entry))) ⌝ }
 {
-    let given = book_state_in(temps, *nodes, *count, *used);
-    let x = append(z, codes, values, given, conditions, buf);
+    let given = book_state_in(temps, *nodes, *count, *used, *last_version);
+    let x = append(z, codes, values, given, conditions, version, buf);
     let v = x.verdict;
     match v {
         Verdict::Refused { number, index } => refusal_code(number, index),
         Verdict::Accepted => {
             let after = x.values;
-            write_book_state(after, temps, nodes, count, used);
+            write_book_state(after, temps, nodes, count, used, last_version);
             0
         }
     }
 }
 
-// Appends the entry of one hour behind the used bytes. The zone is that of the given head.
+// Appends the entry of one hour, of the version that is named, behind the used bytes. The zone is that of the given head.
 #[no_mangle]
 pub extern "C" fn hem_append(
     head: &[u8],
@@ -109,10 +121,12 @@ pub extern "C" fn hem_append(
     nodes: &mut u64,
     count: &mut u64,
     used: &mut u64,
+    last_version: &mut u64,
     conditions: &[u8],
+    version: u64,
 ) -> u32
-    ensures { λ r. ⌜ (r, (now (buf .exit), cBookState (now (temps .exit)) (now (nodes .exit)) (now (count .exit)) (now (used .exit))))
-        ≡ hemAppend (now (head .entry)) (now (buf .entry)) (cBookState (now (temps .entry)) (now (nodes .entry)) (now (count .entry)) (now (used .entry))) (now (conditions .entry)) ⌝ }
+    ensures { λ r. ⌜ (r, (now (buf .exit), cBookState (now (temps .exit)) (now (nodes .exit)) (now (count .exit)) (now (used .exit)) (now («last_version» .exit))))
+        ≡ hemAppend (now (head .entry)) (now (buf .entry)) (cBookState (now (temps .entry)) (now (nodes .entry)) (now (count .entry)) (now (used .entry)) (now («last_version» .entry))) (now (conditions .entry)) version ⌝ }
 {
     let mut codes = [0; 72];
     let mut values = [0.0; 600];
@@ -129,7 +143,9 @@ pub extern "C" fn hem_append(
             nodes,
             count,
             used,
+            last_version,
             conditions,
+            version,
         ),
     }
 }
@@ -142,18 +158,19 @@ pub extern "C" fn hem_take_up(
     nodes: &mut u64,
     count: &mut u64,
     used: &mut u64,
+    last_version: &mut u64,
 ) -> u32
-    ensures { λ r. ⌜ (r, cBookState (now (temps .exit)) (now (nodes .exit)) (now (count .exit)) (now (used .exit)))
-        ≡ hemTakeUp (now (bytes .entry)) (cBookState (now (temps .entry)) (now (nodes .entry)) (now (count .entry)) (now (used .entry))) ⌝ }
+    ensures { λ r. ⌜ (r, cBookState (now (temps .exit)) (now (nodes .exit)) (now (count .exit)) (now (used .exit)) (now («last_version» .exit)))
+        ≡ hemTakeUp (now (bytes .entry)) (cBookState (now (temps .entry)) (now (nodes .entry)) (now (count .entry)) (now (used .entry)) (now («last_version» .entry))) ⌝ }
 {
-    let given = book_state_in(temps, *nodes, *count, *used);
+    let given = book_state_in(temps, *nodes, *count, *used, *last_version);
     let x = take_up(given, bytes);
     let v = x.verdict;
     match v {
         Verdict::Refused { number, index } => refusal_code(number, index),
         Verdict::Accepted => {
             let after = x.values;
-            write_book_state(after, temps, nodes, count, used);
+            write_book_state(after, temps, nodes, count, used, last_version);
             0
         }
     }

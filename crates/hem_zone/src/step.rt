@@ -215,13 +215,14 @@ fn hour_step_of(
     temps: &mut [f64; 121],
     nodes: u64,
     conditions: &[u8],
+    version: u64,
     out: &mut [f64; 5],
     balance: &mut [f64; 25],
 ) -> u32
-    ensures { λ r. ⌜ (r, (now (temps .exit), now (out .exit), now (balance .exit))) ≡ answered hourOut (now (temps .entry), now (out .entry), now (balance .entry)) (hourStep standardCoefficients (zoneIn z (now (codes .entry)) (now (values .entry))) (stateIn (now (temps .entry)) nodes) (now (conditions .entry))) ⌝ }
+    ensures { λ r. ⌜ (r, (now (temps .exit), now (out .exit), now (balance .exit))) ≡ answered hourOut (now (temps .entry), now (out .entry), now (balance .entry)) (hourStep standardCoefficients (zoneIn z (now (codes .entry)) (now (values .entry))) version (stateIn (now (temps .entry)) nodes) (now (conditions .entry))) ⌝ }
 {
     let s = state_in(temps, nodes);
-    let x = s.hour_step(z, codes, values, conditions);
+    let x = s.hour_step(z, codes, values, conditions, version);
     let a = x.answer;
     match a {
         HourAnswer::Refused { number, index } => refusal_code(number, index),
@@ -236,17 +237,18 @@ fn hour_step_of(
     }
 }
 
-// One hour: its demand, and the temperatures and the heat balance once that is met.
+// One hour by the rule of an entry version: its demand, and the temperatures and the heat balance once that is met.
 #[no_mangle]
 pub extern "C" fn hem_hour_step(
     head: &[u8],
     temps: &mut [f64; 121],
     nodes: u64,
     conditions: &[u8],
+    version: u64,
     out: &mut [f64; 5],
     balance: &mut [f64; 25],
 ) -> u32
-    ensures { λ r. ⌜ (r, (now (temps .exit), now (out .exit), now (balance .exit))) ≡ hemHourStep (now (head .entry)) (now (temps .entry)) nodes (now (conditions .entry)) (now (out .entry)) (now (balance .entry)) ⌝ }
+    ensures { λ r. ⌜ (r, (now (temps .exit), now (out .exit), now (balance .exit))) ≡ hemHourStep (now (head .entry)) (now (temps .entry)) nodes (now (conditions .entry)) version (now (out .entry)) (now (balance .entry)) ⌝ }
 {
     let mut codes = [0; 72];
     let mut values = [0.0; 600];
@@ -261,6 +263,7 @@ pub extern "C" fn hem_hour_step(
             temps,
             nodes,
             conditions,
+            version,
             out,
             balance,
         ),

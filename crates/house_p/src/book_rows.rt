@@ -9,6 +9,9 @@ use book::Reply;
 use zone::State;
 use zone::Verdict;
 
+// The entry version of document 01.
+const VERSION: u64 = 1;
+
 fn nothing() -> BookState {
     let state = State {
         nodes: 0,
@@ -18,6 +21,7 @@ fn nothing() -> BookState {
         state,
         count: 0,
         used: 0,
+        last_version: VERSION,
     }
 }
 
@@ -47,7 +51,7 @@ fn book_of_one(b: &mut [u8; 396]) {
     let begun = book::begin(nothing(), &p, b);
     print_used(begun, 0, 180);
     text(b"append\n");
-    let appended = book::append(h.zone, &codes, &values, begun.values, &c, b);
+    let appended = book::append(h.zone, &codes, &values, begun.values, &c, VERSION, b);
     print_used(appended, 1, 396);
 }
 

@@ -99,8 +99,9 @@ pub fn hour_step(
     values: &[f64; 600],
     s: State,
     conditions: &[u8],
+    version: u64,
 ) -> Answer {
-    let x = s.hour_step(z, codes, values, conditions);
+    let x = s.hour_step(z, codes, values, conditions, version);
     let after = x.state;
     let answer = x.answer;
     match answer {

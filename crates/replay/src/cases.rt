@@ -66,7 +66,8 @@ fn run_zone(z: ZoneFront, codes: &[u8; 72], values: &[f64; 600], c: Case, b: &[u
         1 => calls::demand(z, codes, values, s, conditions),
         2 => calls::update(z, codes, values, s, conditions, b, c.own),
         3 => calls::start_up(z, codes, values),
-        _ => calls::hour_step(z, codes, values, s, conditions),
+        4 => calls::hour_step(z, codes, values, s, conditions, 1),
+        _ => calls::hour_step(z, codes, values, s, conditions, 2),
     }
 }
 

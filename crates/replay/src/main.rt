@@ -1,6 +1,7 @@
 // Replays a sample of the oracle's answers and compares every value, bit by bit (zeros of either sign are equal); then
 // the refusals, each with its number and index. How the data were made: make_data.py.
 mod answer;
+mod book_calls;
 mod bytes;
 mod calls;
 mod cases;
@@ -8,6 +9,7 @@ mod print;
 mod records;
 mod refusals;
 mod report;
+mod row;
 mod tally;
 
 fn replay_cases() {

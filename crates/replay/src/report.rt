@@ -2,7 +2,10 @@
 use crate::print::column;
 use crate::print::decimal;
 use crate::print::text;
+use crate::tally::COUNTS;
 use crate::tally::CaseTally;
+use crate::tally::OPERATIONS;
+use crate::tally::ROWS;
 use crate::tally::RowTally;
 use crate::tally::count_in;
 use std::num::wrapping_sub_u64;
@@ -10,10 +13,11 @@ use std::num::wrapping_sub_usize;
 
 fn print_op(op: usize) {
     match op {
-        0 => text(b"demand    "),
-        1 => text(b"update    "),
-        2 => text(b"start-up  "),
-        _ => text(b"hour step "),
+        0 => text(b"demand               "),
+        1 => text(b"update               "),
+        2 => text(b"start-up             "),
+        3 => text(b"hour step, version 1 "),
+        _ => text(b"hour step, version 2 "),
     }
 }
 
@@ -35,7 +39,7 @@ fn print_equal(cases: u64, equal: u64) {
     }
 }
 
-// Rows 1 to 16: profile by profile, operation by operation.
+// Profile by profile, operation by operation, counted from 1.
 fn print_row(t: CaseTally, row: usize) {
     let all_cases = t.cases;
     let all_accepted = t.accepted;
@@ -44,8 +48,8 @@ fn print_row(t: CaseTally, row: usize) {
     let accepted = count_in(all_accepted, row);
     let equal = count_in(all_equal, row);
     let place = wrapping_sub_usize(row, 1);
-    print_profile(place / 4);
-    print_op(place % 4);
+    print_profile(place / OPERATIONS);
+    print_op(place % OPERATIONS);
     column(cases);
     column(accepted);
     column(wrapping_sub_u64(cases, accepted));
@@ -53,13 +57,13 @@ fn print_row(t: CaseTally, row: usize) {
 }
 
 fn print_table(t: CaseTally) {
-    for row in 1..17usize {
+    for row in 1..ROWS + 1 {
         print_row(t, row);
     }
 }
 
 // How many of each number that arose; number 0 is acceptance.
-fn print_number(numbers: [u64; 20], number: usize) {
+fn print_number(numbers: [u64; COUNTS], number: usize) {
     let n = count_in(numbers, number);
     if n != 0 {
         text(b"number");
@@ -69,7 +73,7 @@ fn print_number(numbers: [u64; 20], number: usize) {
     }
 }
 
-fn print_numbers(numbers: [u64; 20]) {
+fn print_numbers(numbers: [u64; COUNTS]) {
     for number in 1..19usize {
         print_number(numbers, number);
     }
@@ -91,7 +95,7 @@ fn print_differing(differ: u64, first: u64, place: usize) {
 pub fn print_cases(t: CaseTally) {
     let refused = t.refused;
     text(b"The oracle's cases\n");
-    text(b"profile call      cases  acc.  ref.\n");
+    text(b"profile call                 cases  acc.  ref.\n");
     print_table(t);
     text(b"cases  ");
     column(t.total);
@@ -114,13 +118,13 @@ fn print_call(call: usize) {
     }
 }
 
-fn print_count(calls: [u64; 20], call: usize) {
+fn print_count(calls: [u64; COUNTS], call: usize) {
     print_call(call);
     column(count_in(calls, call));
     text(b"\n");
 }
 
-fn print_calls(calls: [u64; 20]) {
+fn print_calls(calls: [u64; COUNTS]) {
     for call in 1..10usize {
         print_count(calls, call);
     }

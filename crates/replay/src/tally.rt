@@ -2,15 +2,26 @@
 use std::num::wrapping_add_u64;
 use std::num::wrapping_add_usize;
 
+// Operations of a profile: the hour step counts twice, once for each version.
+pub const OPERATIONS: usize = 5;
+
+const PROFILES: usize = 4;
+
+// A row for each of them, counted from 1.
+pub const ROWS: usize = PROFILES * OPERATIONS;
+
+// One more than the greatest row, call or number.
+pub const COUNTS: usize = ROWS + 1;
+
 pub struct CaseTally {
     pub total: u64,
     pub differ: u64,
     pub first_case: u64,
     pub first_place: usize,
-    pub cases: [u64; 20],
-    pub accepted: [u64; 20],
-    pub equal: [u64; 20],
-    pub refused: [u64; 20],
+    pub cases: [u64; COUNTS],
+    pub accepted: [u64; COUNTS],
+    pub equal: [u64; COUNTS],
+    pub refused: [u64; COUNTS],
 }
 
 pub fn no_cases() -> CaseTally {
@@ -19,28 +30,32 @@ pub fn no_cases() -> CaseTally {
         differ: 0,
         first_case: 0,
         first_place: 0,
-        cases: [0; 20],
-        accepted: [0; 20],
-        equal: [0; 20],
-        refused: [0; 20],
+        cases: [0; COUNTS],
+        accepted: [0; COUNTS],
+        equal: [0; COUNTS],
+        refused: [0; COUNTS],
     }
 }
 
-pub fn counted_at(xs: [u64; 20], at: usize) -> [u64; 20] {
+pub fn counted_at(xs: [u64; COUNTS], at: usize) -> [u64; COUNTS] {
     let mut out = xs;
-    if at < 20 {
+    if at < COUNTS {
         out[at] = wrapping_add_u64(out[at], 1);
     }
     out
 }
 
-pub fn count_in(xs: [u64; 20], at: usize) -> u64 {
-    if at < 20 { xs[at] } else { 0 }
+pub fn count_in(xs: [u64; COUNTS], at: usize) -> u64 {
+    if at < COUNTS { xs[at] } else { 0 }
 }
 
 // Profile and operation in one number.
 fn row_of(profile: usize, op: usize) -> usize {
-    wrapping_add_usize(profile << 2, op)
+    if profile < PROFILES {
+        wrapping_add_usize(profile * OPERATIONS, op)
+    } else {
+        0
+    }
 }
 
 impl CaseTally {
@@ -96,8 +111,8 @@ pub struct RowTally {
     pub first_row: u64,
     pub first_number: usize,
     pub first_index: usize,
-    pub calls: [u64; 20],
-    pub numbers: [u64; 20],
+    pub calls: [u64; COUNTS],
+    pub numbers: [u64; COUNTS],
 }
 
 pub fn no_rows() -> RowTally {
@@ -107,8 +122,8 @@ pub fn no_rows() -> RowTally {
         first_row: 0,
         first_number: 0,
         first_index: 0,
-        calls: [0; 20],
-        numbers: [0; 20],
+        calls: [0; COUNTS],
+        numbers: [0; COUNTS],
     }
 }
 

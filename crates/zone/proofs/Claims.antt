@@ -10,6 +10,7 @@ pub mod HeadClaims
 pub mod Demand
 pub mod StartUp
 pub mod State
+pub mod Versions
 pub mod Refusals
 pub mod Reasons
 pub mod NodeOrder

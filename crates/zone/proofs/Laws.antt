@@ -11,6 +11,7 @@ pub mod Ranges
 pub mod Structure
 pub mod Arrays
 pub mod StructuredHead
+pub mod Versions
 pub mod HourArrays
 pub mod Conditions
 pub mod Same

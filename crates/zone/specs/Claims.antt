@@ -4,6 +4,7 @@ pub mod Head
 pub mod DemandClaims
 pub mod StartUpClaims
 pub mod StateClaims
+pub mod Versions
 pub mod Refusals
 pub mod Reasons
 pub mod NodeOrder

@@ -2,4 +2,5 @@
 pub mod arguments;
 pub mod conditions_tests;
 pub mod ranges;
+pub mod versions;
 pub mod zone_tests;

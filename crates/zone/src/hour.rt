@@ -1,5 +1,6 @@
 // An hour's solves: ventilation, load and demand.
 pub mod cooling_potential;
+pub mod delivered;
 pub mod demand;
 pub mod hour;
 pub mod hour_kept;

@@ -19,6 +19,7 @@ pub use calls::state::StartUp;
 pub use calls::state::State;
 pub use calls::state::UpdateAnswer;
 pub use calls::state::UpdateReply;
+pub use check::versions::hour_version;
 pub use check::zone_tests::zone_test;
 pub use format::conditions::AirChangesPerHourArgument;
 pub use format::head::Head;

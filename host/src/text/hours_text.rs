@@ -75,7 +75,7 @@ pub(crate) fn rates(hour: &Conditions) -> [Option<f64>; 3] {
     }
 }
 
-/// What an hour of a book led to, a comment line for each value.
+/// The version of an hour of a book and what the hour led to, a comment line for each value.
 pub fn results_text(entry: &Entry) -> String {
     let demand = entry.demand();
     let trigger = match demand.ach_to_trigger_heating {
@@ -84,6 +84,7 @@ pub fn results_text(entry: &Entry) -> String {
     };
     let (air, operative) = (entry.state().temp_internal_air(), entry.temp_operative());
     let lines = [
+        ("entry_version", entry.version().to_string()),
         ("space_heat_demand", format!("{} kWh", short(demand.space_heat_demand))),
         ("space_cool_demand", format!("{} kWh", short(demand.space_cool_demand))),
         ("ach_cooling", format!("{} per hour, the chosen rate", short(demand.ach_cooling))),

@@ -8,23 +8,22 @@ use Rattle.zone.specs.Promise.{ok}
 use Rattle.zone.specs.Record.BuildingElement.{standardCoefficients, nodeCount}
 use Rattle.zone.specs.declared.record.zone_record.Zone.{Zone}
 use Rattle.zone.proofs.Promise.{node-count-few, conditions-length, count-few, temps-length}
-use Rattle.zone.specs.Calls.Hour.{HourResult}
+use Rattle.zone.specs.Calls.Hour.{HourResult, hourStep}
 use Rattle.zone.specs.declared.calls.state.State.{State}
 use Rattle.zone.specs.Format.Layout.{conditionsLength}
 use Rattle.book.specs.Layout.{wholeLength}
 use Rattle.book.specs.Entry.{entryOf}
-use Rattle.book.specs.Year.{hour}
 use Rattle.book.proofs.Laws.Entry.{length-entry}
 
-module _ (z : Zone) (s : State) (i : List ℕ) (r : HourResult) (e : hour z s i ≡ ok r) where
+module _ (z : Zone) (version : ℕ) (s : State) (i : List ℕ) (r : HourResult) (e : hourStep standardCoefficients z version s i ≡ ok r) where
   pub hour-conditions : length i ≡ conditionsLength (z .count)
-  hour-conditions = conditions-length standardCoefficients z s i r e
+  hour-conditions = conditions-length standardCoefficients z s version i r e
 
   hour-few : z .count ≤ 24
-  hour-few = count-few standardCoefficients z s i r e
+  hour-few = count-few standardCoefficients z s version i r e
 
   hour-temps : nodeCount z ≤ length (r .state .temps)
-  hour-temps = omega (arith, temps-length standardCoefficients z s i r e, node-count-few z hour-few)
+  hour-temps = omega (arith, temps-length standardCoefficients z s version i r e, node-count-few z hour-few)
 
-  pub hour-entry : length (entryOf z i (r .demand) (r .state)) ≡ wholeLength z
-  hour-entry = length-entry z i (r .demand) (r .state) hour-conditions hour-temps
+  pub hour-entry : length (entryOf z version i (r .demand) (r .state)) ≡ wholeLength z
+  hour-entry = length-entry z version i (r .demand) (r .state) hour-conditions hour-temps

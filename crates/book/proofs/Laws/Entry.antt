@@ -1,10 +1,10 @@
--- The length of an entry, and the conditions read back from it.
-use Prim.Native.Nat.{ℕ, _≤_}
+-- The length of an entry, and the version and the conditions read back from it.
+use Prim.Native.Nat.{ℕ, _+_, _≤_, _<_}
 use mathlib.Core.Path.{_≡_, ap, _∙_}
 use mathlib.Core.List.{List, [], _∷_, _++_}
 use native.Mathlib.Omega.{arith}
-use lib.ListN.{length, take, length-append, length-take}
-use lib.Seq.{take-at, drop-at}
+use lib.ListN.{length, take, getD, length-append, length-take, List·getD-append}
+use lib.Seq.{take-at, drop-at, getD-append-add}
 use lib.Ieee.{Float, binary64, toBits}
 use Rattle.zone.specs.Record.BuildingElement.{nodeCount}
 use Rattle.zone.specs.Format.Bytes.{bytesOf}
@@ -18,10 +18,10 @@ use Rattle.zone.specs.declared.calls.state.AchToTriggerHeating.{AchToTriggerHea
 use Rattle.zone.specs.declared.calls.state.AchToTriggerHeating.the-variants.{Absent, At}
 use Rattle.zone.specs.Format.Encode.{floatBytes, rowBytes}
 use Rattle.zone.specs.Format.Layout.{lengthSize, conditionsLength}
-use Rattle.book.specs.Layout.{version, frontSize, followingLength, wholeLength}
+use Rattle.book.specs.Layout.{versionSize, frontSize, followingLength, wholeLength}
 use Rattle.book.specs.Entry.{frontBytes, triggerBytes, demandBytes, temperatureBytes, entryOf}
 use Rattle.book.specs.Inner.Sizes.{triggerSize, demandSize, longestEntry}
-use Rattle.book.specs.Year.{conditionsIn}
+use Rattle.book.specs.Year.{versionIn, conditionsIn}
 
 module _ (z : ZoneFront) (codes : List ℕ) (values : List Float) (h : z .count ≤ 24) where
   pub nodes-few : (n : ℕ) → n ≡ nodeCount (zoneIn z codes values) → n ≤ 121
@@ -34,8 +34,13 @@ module _ (z : ZoneFront) (codes : List ℕ) (values : List Float) (h : z .count 
 pub floats-few : (n : ℕ) (l : List Float) → n ≤ 121 → length l ≡ 121 → n ≤ length l
 floats-few n l h e = omega arith
 
-pub length-front : (z : Zone) → length (frontBytes z) ≡ frontSize
-length-front z = omega (arith, length-append (bytesOf lengthSize (followingLength z)) (version ∷ []), length-bytesOf lengthSize (followingLength z))
+pub length-front : (z : Zone) (version : ℕ) → length (frontBytes z version) ≡ frontSize
+length-front z version =
+    omega (arith, length-append (bytesOf lengthSize (followingLength z)) (bytesOf versionSize version), length-bytesOf lengthSize (followingLength z), length-bytesOf versionSize version)
+
+one-byte : (version : ℕ) → version < 256 → getD (bytesOf versionSize version) 0 0 ≡ version
+unfolding bytesOf
+one-byte version h = omega arith
 
 length-trigger : (t : AchToTriggerHeating) → length (triggerBytes t) ≡ triggerSize
 length-trigger Absent = omega (arith, length-append (bytesOf 1 0) (bytesOf 8 0), length-bytesOf 1 0, length-bytesOf 8 0)
@@ -46,25 +51,36 @@ length-demand d =
     let row = d .«space_heat_demand» ∷ d .«space_cool_demand» ∷ d .«ach_cooling» ∷ [] in
     omega (arith, length-append (rowBytes row) (triggerBytes (d .«ach_to_trigger_heating»)), length-row row, length-trigger (d .«ach_to_trigger_heating»))
 
-module _ (z : Zone) (i : List ℕ) (d : Demand) (s : State) (l : length i ≡ conditionsLength (z .count)) where
-  pub length-entry : nodeCount z ≤ length (s .temps) → length (entryOf z i d s) ≡ wholeLength z
+module _ (z : Zone) (version : ℕ) (i : List ℕ) (d : Demand) (s : State) (l : length i ≡ conditionsLength (z .count)) where
+  pub length-entry : nodeCount z ≤ length (s .temps) → length (entryOf z version i d s) ≡ wholeLength z
   unfolding entryOf
   length-entry h =
       let T : List ℕ = temperatureBytes z s in
       omega (
         arith,
-        length-append (frontBytes z) (i ++ (demandBytes d ++ T)),
+        length-append (frontBytes z version) (i ++ (demandBytes d ++ T)),
         length-append i (demandBytes d ++ T),
         length-append (demandBytes d) T,
-        length-front z,
+        length-front z version,
         length-demand d,
         length-row (take (nodeCount z) (s .temps)),
         length-take (nodeCount z) (s .temps),
       )
 
   -- the conditions are read back as they were given
-  pub conditions-back : conditionsIn z (entryOf z i d s) ≡ i
+  pub conditions-back : conditionsIn z (entryOf z version i d s) ≡ i
   unfolding entryOf
   conditions-back =
-      ap (take (conditionsLength (z .count))) (drop-at (frontBytes z) (i ++ (demandBytes d ++ temperatureBytes z s)) frontSize (length-front z))
+      ap (take (conditionsLength (z .count))) (drop-at (frontBytes z version) (i ++ (demandBytes d ++ temperatureBytes z s)) frontSize (length-front z version))
       ∙ take-at i (demandBytes d ++ temperatureBytes z s) (conditionsLength (z .count)) l
+
+  -- and so is the version
+  pub version-back : version < 256 → versionIn (entryOf z version i d s) ≡ version
+  unfolding entryOf
+  version-back h =
+      let front = bytesOf lengthSize (followingLength z) in
+      let four = length-bytesOf lengthSize (followingLength z) in
+      List·getD-append (frontBytes z version) (i ++ (demandBytes d ++ temperatureBytes z s)) 0 lengthSize (omega (arith, length-front z version))
+      ∙ ap (λ (n : ℕ). getD (frontBytes z version) n 0) (omega (arith, four))
+      ∙ getD-append-add front (bytesOf versionSize version) 0 0
+      ∙ one-byte version h

@@ -17,8 +17,8 @@ use Rattle.zone.specs.declared.record.zone_record.Verdict.the-variants.{Accepte
 use Rattle.zone.specs.declared.format.head.Head.{Head}
 use Rattle.zone.specs.declared.calls.state.State.{State}
 use Rattle.zone.specs.declared.calls.state.StartUp.{StartUp}
-use Rattle.zone.proofs.Promise.{head-no, head-yes, head-judged, start-up-judges, structured-within, start-yes, ok-not-refused}
-use Rattle.book.specs.Year.{startUp}
+use Rattle.zone.proofs.Promise.{head-no, head-yes, head-judged, start-up-judges, structured-within, start-no, start-yes, ok-not-refused}
+use Rattle.book.specs.Year.{Carried, noEntryVersion, startUp}
 
 module _ (bs : List ℕ) (h : Head) (codes : List ℕ) (values : List Float) (e : headIn h codes values ≡ structuredHead bs) where
   abbrev said : ReadHead Zone
@@ -28,7 +28,7 @@ module _ (bs : List ℕ) (h : Head) (codes : List ℕ) (values : List Float) (e 
   head-inside f = structured-within bs said (head-yes (structuredHead bs) h codes values e f)
 
   -- what follows a head: its start-up first
-  module _ {A : Type 0} (k : ReadHead Zone → State → Result A) where
+  module _ {A : Type 0} (k : ReadHead Zone → Carried → Result A) where
     by-structure : bind (headOf bs) (λ x. bind (startUp (x .zone)) (k x)) ≡ bind (structuredHead bs) (λ x. bind (startUp (x .zone)) (k x))
     by-structure = head-judged (λ x. bind (startUp (x .zone)) (k x)) (λ x a b q. rw (start-up-judges (x .zone) a b q standardCoefficients)) bs
 
@@ -39,7 +39,7 @@ module _ (bs : List ℕ) (h : Head) (codes : List ℕ) (values : List Float) (e 
     head-goes-on f = by-structure ∙ rw (head-yes (structuredHead bs) h codes values e f)
 
 -- a zone that starts up has passed its test
-started-tested : (z : Zone) (s : State) → startUp z ≡ ok s → zoneTest z ≡ ok tt
+started-tested : (z : Zone) (s : State) → initNodeTemps standardCoefficients z ≡ ok s → zoneTest z ≡ ok tt
 started-tested z s e = go (zoneTest z) refl
   where
     go : (r : Result (Unit {0})) → zoneTest z ≡ r → zoneTest z ≡ ok tt
@@ -47,4 +47,12 @@ started-tested z s e = go (zoneTest z) refl
     go (refused a b) q = ok-not-refused s a b (sym e ∙ start-up-judges z a b q standardCoefficients)
 
 pub start-up-passed : (z : Zone) (s : StartUp) → s ≡ startUpReply (initNodeTemps standardCoefficients z) → s .verdict ≡ Accepted → zoneTest z ≡ ok tt
-start-up-passed z s e f = started-tested z (s .state) (start-yes (startUp z) s e f)
+start-up-passed z s e f = started-tested z (s .state) (start-yes (initNodeTemps standardCoefficients z) s e f)
+
+-- what start-up's reply says of the layers'
+module _ (z : Zone) (s : StartUp) (e : s ≡ startUpReply (initNodeTemps standardCoefficients z)) where
+  pub starts : s .verdict ≡ Accepted → startUp z ≡ ok (record { state = s .state; lastVersion = noEntryVersion })
+  starts f = rw (start-yes (initNodeTemps standardCoefficients z) s e f) refl
+
+  pub starts-not : (n j : ℕ) → s .verdict ≡ Refused n j → startUp z ≡ refused n j
+  starts-not n j f = rw (start-no (initNodeTemps standardCoefficients z) s e n j f) refl

@@ -8,18 +8,19 @@ use native.Mathlib.Omega.{arith}
 use lib.ListN.{length, take, length-append, length-take}
 use lib.Dec.{leb}
 use borrow.Author.Tests.{leb-true, le-leb, lt-leb}
-use Rattle.zone.specs.Promise.{ok}
-use Rattle.zone.proofs.Promise.{bind-ok, ok-inj}
+use Rattle.zone.specs.Promise.{ok, requireAt}
+use Rattle.zone.specs.Record.Numbers.{falseEntry}
+use Rattle.zone.specs.Record.BuildingElement.{standardCoefficients}
+use Rattle.zone.proofs.Promise.{and-true, bind-ok, ok-inj, require-ok}
 use Rattle.zone.specs.declared.record.zone_record.Zone.{Zone}
 use Rattle.zone.proofs.Claims.Head.{head-within, head-then, head-tested}
-use Rattle.zone.specs.Calls.Hour.{HourResult}
-use Rattle.zone.specs.declared.calls.state.State.{State}
+use Rattle.zone.specs.Calls.Hour.{HourResult, hourVersion, hourStep}
 use Rattle.book.specs.Model.Interface.{Written}
 use Rattle.book.proofs.Model.InterfaceLaws.{Laws}
 use Rattle.book.specs.Layout.{wholeLength}
 use Rattle.book.specs.Entry.{entryOf}
-use Rattle.book.specs.Year.{hour, hourEntry, entryLength, conditionsIn, yearInterface}
-use Rattle.book.proofs.Laws.Entry.{conditions-back}
+use Rattle.book.specs.Year.{Item, hour, Carried, mayFollow, hourEntry, entryLength, itemIn, yearInterface}
+use Rattle.book.proofs.Laws.Entry.{version-back, conditions-back}
 use Rattle.book.proofs.Laws.Accepted.{hour-conditions, hour-entry}
 
 module _ (z : Zone) (bs : List ℕ) where
@@ -40,18 +41,50 @@ module _ (z : Zone) (bs : List ℕ) where
       go false t q = absurd (let x : _≡_ {A = ℕ} 0 1 = cc in omega arith)
 
 -- an accepted hour's entry
-module _ (z : Zone) (k : ℕ) (s : State) (i : List ℕ) (e : Written State) (p : hourEntry z k s i ≡ ok e) where
-  pub step-hour : (r : HourResult) × (hour z s i ≡ ok r) × (ok (record { bytes = entryOf z i (r .demand) (r .state); after = r .state }) ≡ ok e)
+pub record HourEntered (z : Zone) (s : Carried) (version : ℕ) (i : List ℕ) (e : Written Carried) : Type 0 where
+  pub follows : mayFollow (s .lastVersion) version ≡ true
+  pub result : HourResult
+  pub stepped : hourStep standardCoefficients z version (s .state) i ≡ ok result
+  pub gives : record { bytes = entryOf z version i (result .demand) (result .state); after = record { state = result .state; lastVersion = version } } ≡ e
+
+module _ (z : Zone) (k : ℕ) (s : Carried) (version : ℕ) (i : List ℕ) (e : Written Carried) (p : hourEntry z k s (hour version i) ≡ ok e) where
+  pub step-hour : HourEntered z s version i e
   unfolding hourEntry
-  step-hour = bind-ok (hour z s i) _ e p
+  step-hour =
+      let f = bind-ok (requireAt (mayFollow (s .lastVersion) version) falseEntry k) _ e p in
+      let r = bind-ok (hourStep standardCoefficients z version (s .state) i) _ e (f .2) in
+      record {
+        follows = require-ok (mayFollow (s .lastVersion) version) falseEntry k (f .0) (f .1);
+        result = r .0;
+        stepped = r .1;
+        gives = ok-inj (r .2);
+      }
 
-  pub step-length : length (e .bytes) ≡ wholeLength z
-  step-length = let a = step-hour in sym (ap (λ x. length (x .bytes)) (ok-inj (a .2))) ∙ hour-entry z s i (a .0) (a .1)
+  -- versions that hours have are bytes
+  version-few : version < 256
+  version-few =
+      let a = and-true (hourVersion version) (leb (s .lastVersion) version) (step-hour .follows) in
+      let b = and-true (leb 1 version) (leb version 2) (a .0) in
+      let c = leb-true version 2 (b .1) in
+      omega arith
 
-  step-conditions : conditionsIn z (e .bytes) ≡ i
-  step-conditions =
+  step-item : itemIn z (e .bytes) ≡ hour version i
+  unfolding itemIn
+  step-item =
       let a = step-hour in
-      sym (ap (λ x. conditionsIn z (x .bytes)) (ok-inj (a .2))) ∙ conditions-back z i (a .0 .demand) (a .0 .state) (hour-conditions z s i (a .0) (a .1))
+      let d = a .result .demand in
+      let t = a .result .state in
+      let l = hour-conditions z version (s .state) i (a .result) (a .stepped) in
+      sym (ap (λ x. itemIn z (x .bytes)) (a .gives)) ∙ (λ j. hour (version-back z version i d t l version-few j) (conditions-back z version i d t l j))
+
+  step-whole : length (e .bytes) ≡ wholeLength z
+  step-whole = let a = step-hour in sym (ap (λ x. length (x .bytes)) (a .gives)) ∙ hour-entry z version (s .state) i (a .result) (a .stepped)
+
+pub step-length : (z : Zone) (k : ℕ) (s : Carried) (i : Item) (e : Written Carried) → hourEntry z k s i ≡ ok e → length (e .bytes) ≡ wholeLength z
+step-length z k s (hour version i) e p = step-whole z k s version i e p
+
+step-back : (z : Zone) (k : ℕ) (s : Carried) (i : Item) (e : Written Carried) → hourEntry z k s i ≡ ok e → itemIn z (e .bytes) ≡ i
+step-back z k s (hour version i) e p = step-item z k s version i e p
 
 pub year-laws : Laws yearInterface
 year-laws =
@@ -66,5 +99,5 @@ year-laws =
           let l = step-length z k s i e p in
           length-here z (e .bytes ++ rest) (omega (arith, l, length-append (e .bytes) rest)) ∙ ap some (sym l);
       length-short = λ z k s i e p m h. length-none z (take m (e .bytes)) (omega (arith, step-length z k s i e p, length-take m (e .bytes)));
-      item-back = step-conditions;
+      item-back = step-back;
     }

@@ -1,10 +1,12 @@
--- An hour of a zone that is tested: the entry that the zone's answer has.
+-- An hour of a zone and a version that are tested: the entry that the zone's answer has.
 use Prim.Native.Nat.{ℕ}
 use mathlib.Core.Path.{_≡_, sym, ap, _∙_}
+use mathlib.Core.Bool.{true, false}
 use mathlib.Core.List.{List}
 use native.Mathlib.Omega.{arith}
 use Rattle.zone.specs.Promise.{Result, ok, refused}
 use Rattle.zone.specs.Record.BuildingElement.{standardCoefficients}
+use Rattle.zone.specs.Record.Numbers.{falseEntry}
 use Rattle.zone.specs.Check.ZoneTest.{zoneTest}
 use Rattle.zone.specs.Inner.NextHour.{nextHour}
 use Rattle.zone.specs.Inner.NextHour.{nextHourReply}
@@ -13,9 +15,11 @@ use Rattle.zone.specs.declared.calls.state.State.{State}
 use Rattle.zone.specs.declared.calls.state.Demand.{Demand}
 use Rattle.zone.specs.declared.calls.state.DemandAnswer.the-variants as DemandAnswer
 use Rattle.zone.specs.declared.calls.state.DemandReply.{DemandReply}
-use Rattle.zone.proofs.Promise.{next-then}
+use Rattle.zone.proofs.Promise.{and-true, next-then}
+use Rattle.zone.specs.Calls.Hour.{hourVersion}
+use lib.Dec.{leb}
 use Rattle.book.specs.Entry.{entryOf}
-use Rattle.book.specs.Year.{hourEntry}
+use Rattle.book.specs.Year.{hour, Carried, mayFollow, hourEntry}
 
 module _ (s : State) where
   next-no : (d : Result (Demand × State)) (x : DemandReply) → x ≡ nextHourReply s d → (n j : ℕ) → x .answer ≡ DemandAnswer.Refused n j → d ≡ refused n j
@@ -35,16 +39,28 @@ module _ (s : State) where
       let q : DemandAnswer.Refused m k ≡ DemandAnswer.Accepted a = sym (ap (λ y. y .answer) e) ∙ f in
       absurd (let z : _≡_ {A = ℕ} 0 1 = cc in omega arith)
 
-module _ (z : Zone) (tested : zoneTest z ≡ ok tt) (s : State) (i : List ℕ) (x : DemandReply) (e : x ≡ nextHourReply s (nextHour standardCoefficients z s i)) where
-  pub step-refused : (n j : ℕ) → x .answer ≡ DemandAnswer.Refused n j → (k : ℕ) → hourEntry z k s i ≡ refused n j
+module _ (z : Zone) (tested : zoneTest z ≡ ok tt) (s : Carried) (version : ℕ) (follows : mayFollow (s .lastVersion) version ≡ true) (i : List ℕ) (x : DemandReply)
+    (e : x ≡ nextHourReply (s .state) (nextHour standardCoefficients z version (s .state) i)) where
+  known : hourVersion version ≡ true
+  known = and-true (hourVersion version) (leb (s .lastVersion) version) follows .0
+
+  pub step-refused : (n j : ℕ) → x .answer ≡ DemandAnswer.Refused n j → (k : ℕ) → hourEntry z k s (hour version i) ≡ refused n j
   unfolding hourEntry
   step-refused n j f k =
-      next-then standardCoefficients z s i tested (λ d after. ok (record { bytes = entryOf z i d after; after = after }))
-      ∙ rw (next-no s (nextHour standardCoefficients z s i) x e n j f)
+      rw follows
+      (next-then standardCoefficients z version (s .state) i tested known (λ d after. ok (record { bytes = entryOf z version i d after; after = record { state = after; lastVersion = version } }))
+      ∙ rw (next-no (s .state) (nextHour standardCoefficients z version (s .state) i) x e n j f))
 
   -- what the hour step gives, as an entry
-  pub step-given : (d : Demand) → x .answer ≡ DemandAnswer.Accepted d → (k : ℕ) → hourEntry z k s i ≡ ok (record { bytes = entryOf z i d (x .state); after = x .state })
+  pub step-given : (d : Demand) → x .answer ≡ DemandAnswer.Accepted d → (k : ℕ)
+      → hourEntry z k s (hour version i) ≡ ok (record { bytes = entryOf z version i d (x .state); after = record { state = x .state; lastVersion = version } })
   unfolding hourEntry
   step-given d f k =
-      next-then standardCoefficients z s i tested (λ y after. ok (record { bytes = entryOf z i y after; after = after }))
-      ∙ rw (next-yes s (nextHour standardCoefficients z s i) x e d f)
+      rw follows
+      (next-then standardCoefficients z version (s .state) i tested known (λ y after. ok (record { bytes = entryOf z version i y after; after = record { state = after; lastVersion = version } }))
+      ∙ rw (next-yes (s .state) (nextHour standardCoefficients z version (s .state) i) x e d f))
+
+-- a version that may not follow
+pub step-not-next : (z : Zone) (s : Carried) (version : ℕ) → mayFollow (s .lastVersion) version ≡ false → (i : List ℕ) (k : ℕ) → hourEntry z k s (hour version i) ≡ refused falseEntry k
+unfolding hourEntry
+step-not-next z s version p i k = rw p

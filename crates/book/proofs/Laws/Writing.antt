@@ -1,6 +1,6 @@
 -- An entry part by part: what the writers leave in the buffer, one behind the other.
 use Prim.Native.Nat.{ℕ, _+_, _≤_}
-use mathlib.Core.Path.{_≡_, refl, sym, ap, _∙_}
+use mathlib.Core.Path.{_≡_, sym, ap, _∙_}
 use mathlib.Core.Bool.{Bool}
 use mathlib.Core.List.{List, [], _∷_, _++_}
 use native.Mathlib.Omega.{arith}
@@ -21,22 +21,18 @@ use Rattle.book.specs.Model.Bytes.{equalBytes}
 use Rattle.zone.specs.Format.Encode.{floatBytes, rowBytes}
 use Rattle.book.specs.Inner.Replace.{replaceAt}
 use Rattle.zone.specs.Format.Layout.{lengthSize}
-use Rattle.book.specs.Layout.{version, frontSize, followingLength, wholeLength}
+use Rattle.book.specs.Layout.{versionSize, frontSize, followingLength, wholeLength}
 use Rattle.book.specs.Inner.Sizes.{triggerSize, ratesSize, demandSize}
 use Rattle.book.specs.Entry.{frontBytes, triggerBytes, demandBytes, temperatureBytes, entryOf}
 use Rattle.book.proofs.Laws.Replace.{replace-then, replace-four, replace-start}
 use Rattle.book.proofs.Laws.Entry.{length-front, length-demand}
 
-version-byte : bytesOf 1 1 ≡ version ∷ []
-unfolding bytesOf
-version-byte = refl
-
 module _ (at : ℕ) (b b₁ b₂ : List ℕ) where
-  pub front-written : (z : ZoneFront) (codes : List ℕ) (values : List Float) (m : ℕ) → m ≡ followingLength (zoneIn z codes values) → at + frontSize ≤ length b
-      → b₁ ≡ replaceAt at (bytesOf lengthSize m) b → b₂ ≡ replaceAt (at + lengthSize) (bytesOf 1 1) b₁ → b₂ ≡ replaceAt at (frontBytes (zoneIn z codes values)) b
-  front-written z codes values m l h e₁ e₂ =
-      replace-then at (at + lengthSize) (bytesOf lengthSize m) (bytesOf 1 1) b b₁ b₂ (omega arith) (omega (arith, length-bytesOf lengthSize m)) e₁ e₂
-      ∙ (λ i. replaceAt at (bytesOf lengthSize (l i) ++ version-byte i) b)
+  pub front-written : (z : ZoneFront) (codes : List ℕ) (values : List Float) (version m : ℕ) → m ≡ followingLength (zoneIn z codes values) → at + frontSize ≤ length b
+      → b₁ ≡ replaceAt at (bytesOf lengthSize m) b → b₂ ≡ replaceAt (at + lengthSize) (bytesOf versionSize version) b₁ → b₂ ≡ replaceAt at (frontBytes (zoneIn z codes values) version) b
+  front-written z codes values version m l h e₁ e₂ =
+      replace-then at (at + lengthSize) (bytesOf lengthSize m) (bytesOf versionSize version) b b₁ b₂ (omega arith) (omega (arith, length-bytesOf lengthSize m)) e₁ e₂
+      ∙ (λ i. replaceAt at (bytesOf lengthSize (l i) ++ bytesOf versionSize version) b)
 
   module _ (t : AchToTriggerHeating) (h : at + triggerSize ≤ length b) where
     pub trigger-absent : t ≡ Absent → b₁ ≡ replaceAt at (bytesOf 1 0) b → b₂ ≡ replaceAt (at + 1) (bytesOf 8 0) b₁ → b₂ ≡ replaceAt at (triggerBytes t) b
@@ -58,27 +54,27 @@ module _ (at : ℕ) (b b₁ b₂ : List ℕ) where
 
 pub ruleset trigger-cases = (trigger-absent, trigger-at)
 
-module _ (z : Zone) (i : List ℕ) (d : Demand) (s : State) where
+module _ (z : Zone) (version : ℕ) (i : List ℕ) (d : Demand) (s : State) where
   pub entry-written : (at n : ℕ) (b b₁ b₂ b₃ b₄ : List ℕ) → n ≡ nodeCount z → at + wholeLength z ≤ length b
-      → b₁ ≡ replaceAt at (frontBytes z) b
+      → b₁ ≡ replaceAt at (frontBytes z version) b
       → b₂ ≡ replaceAt (at + frontSize) (take (length i) i) b₁
       → b₃ ≡ replaceAt (at + frontSize + length i) (demandBytes d) b₂
       → b₄ ≡ replaceAt (at + frontSize + length i + demandSize) (rowBytes (take n (s .temps))) b₃
-      → b₄ ≡ replaceAt at (entryOf z i d s) b
+      → b₄ ≡ replaceAt at (entryOf z version i d s) b
   unfolding entryOf
   entry-written at n b b₁ b₂ b₃ b₄ l h e₁ e₂ e₃ e₄ =
-      replace-four at (at + frontSize) (at + frontSize + length i) (at + frontSize + length i + demandSize) (frontBytes z) i (demandBytes d) (temperatureBytes z s) b b₁ b₂ b₃ b₄
+      replace-four at (at + frontSize) (at + frontSize + length i) (at + frontSize + length i + demandSize) (frontBytes z version) i (demandBytes d) (temperatureBytes z s) b b₁ b₂ b₃ b₄
       (omega arith)
-      (omega (arith, length-front z))
-      (omega (arith, length-front z))
-      (omega (arith, length-front z, length-demand d))
+      (omega (arith, length-front z version))
+      (omega (arith, length-front z version))
+      (omega (arith, length-front z version, length-demand d))
       e₁
       (e₂ ∙ ap (λ (y : List ℕ). replaceAt (at + frontSize) y b₁) (take-length i))
       e₃
       (e₄ ∙ ap (λ (y : ℕ). replaceAt (at + frontSize + length i + demandSize) (rowBytes (take y (s .temps))) b₃) l)
 
   -- the entry written anew into a buffer's start, compared with a whole entry
-  pub entry-compared : (c b b₁ : List ℕ) (t : Bool) → length c ≡ wholeLength z → length (entryOf z i d s) ≡ wholeLength z
-      → b₁ ≡ replaceAt 0 (entryOf z i d s) b → t ≡ equalBytes (take (length c) b₁) c → t ≡ equalBytes (entryOf z i d s) c
+  pub entry-compared : (c b b₁ : List ℕ) (t : Bool) → length c ≡ wholeLength z → length (entryOf z version i d s) ≡ wholeLength z
+      → b₁ ≡ replaceAt 0 (entryOf z version i d s) b → t ≡ equalBytes (take (length c) b₁) c → t ≡ equalBytes (entryOf z version i d s) c
   entry-compared c b b₁ t l m e f =
-      f ∙ ap (λ (y : List ℕ). equalBytes y c) (ap (take (length c)) e ∙ replace-start (entryOf z i d s) b (length c) (m ∙ sym l))
+      f ∙ ap (λ (y : List ℕ). equalBytes y c) (ap (take (length c)) e ∙ replace-start (entryOf z version i d s) b (length c) (m ∙ sym l))

@@ -1,6 +1,6 @@
 -- What the book needs of the layers below it: the head's reader, start-up, the hour step and the bytes of an entry.
--- `Item` is what a book holds in order: in document 01 an hour, as its 113 + 41n bytes of conditions. `State` is what is carried from entry to
--- entry and handed back: the node temperatures. Nothing of specs/Model depends on what zones, states and items are.
+-- `Item` is what a book holds in order: an hour, as its version and its 113 + 41n bytes of conditions. `State` is what is carried from entry to
+-- entry and handed back: the node temperatures and the last version. Nothing of specs/Model depends on what zones, states and items are.
 use mathlib.Core.List.{List}
 use mathlib.Core.Option.{Option}
 use Prim.Native.Nat.{ℕ}

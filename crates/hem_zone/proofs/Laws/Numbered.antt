@@ -37,14 +37,18 @@ pub operative-numbered : (n i : ℕ) → Zone.OperativeRefusal n i → Numbered 
 operative-numbered n i (Zone.operativeZone p) = zone-numbered n i p
 operative-numbered n i Zone.operativeStateInvalid = search needs
 
+pub demand-numbered : (n i : ℕ) → Zone.DemandRefusal n i → Numbered n i
+demand-numbered n i (Zone.demandZone p) = zone-numbered n i p
+demand-numbered n i Zone.demandStateInvalid = search needs
+demand-numbered n i (Zone.demandConditions p) = conditions-numbered n i p
+demand-numbered n i Zone.demandCoolingBelowHeating = search needs
+demand-numbered n i Zone.demandVentilationBelowHeating = search needs
+demand-numbered n i (Zone.demandSolve p) = solve-numbered n i p
+demand-numbered n i Zone.demandNoEffect = search needs
+
 pub hour-numbered : (n i : ℕ) → Zone.HourRefusal n i → Numbered n i
-hour-numbered n i (Zone.hourZone p) = zone-numbered n i p
-hour-numbered n i Zone.hourStateInvalid = search needs
-hour-numbered n i (Zone.hourConditions p) = conditions-numbered n i p
-hour-numbered n i Zone.hourCoolingBelowHeating = search needs
-hour-numbered n i Zone.hourVentilationBelowHeating = search needs
-hour-numbered n i (Zone.hourSolve p) = solve-numbered n i p
-hour-numbered n i Zone.hourNoEffect = search needs
+hour-numbered n i (Zone.hourDemand p) = demand-numbered n i p
+hour-numbered n i Zone.hourEntryVersion = search needs
 
 pub update-numbered : (n i : ℕ) → Zone.UpdateRefusal n i → Numbered n i
 update-numbered n i (Zone.updateZone p) = zone-numbered n i p
@@ -68,7 +72,8 @@ begin-numbered n i Book.beginBufferShort = search needs
 pub append-numbered : (n i : ℕ) → Book.AppendRefusal n i → Numbered n i
 append-numbered n i (Book.appendZone p) = zone-numbered n i p
 append-numbered n i Book.appendBookFull = search needs
-append-numbered n i (Book.appendHour p) = hour-numbered n i p
+append-numbered n i (Book.appendEntryVersion count h) = search needs
+append-numbered n i (Book.appendHour p) = demand-numbered n i p
 append-numbered n i Book.appendBufferShort = search needs
 
 pub take-up-numbered : (n i : ℕ) → Book.TakeUpRefusal n i → Numbered n i

@@ -27,7 +27,7 @@ use Rattle.zone.specs.Physics.Equations.{rowsOf, rightSidesOf}
 use Rattle.zone.specs.Physics.NodeLayout.{firstNode, copyNodes, toSlots, toNodes}
 use Rattle.zone.specs.Calls.State.{stateTest, zoneAndStateTest, slotsOf, stateOf}
 use Rattle.zone.specs.Hour.Demand.{controlTemperature, fracConvGainsHeatCool, wanted, fracUpper, interpHeatCoolDemand, demandRecord, calcCoolingPotentialFromVentilation, shareOrZero, demandForLoad, spaceHeatCoolDemand}
-use Rattle.zone.specs.Calls.Hour.{testedHour, tested, step, updateTemperatures, demand, delivered, convectiveShare, hourStep}
+use Rattle.zone.specs.Calls.Hour.{testedHour, tested, testedStep, step, updateTemperatures, demand, delivered, deliveredFraction, convectiveShare, hourStep}
 use lib.Ieee.{add, sub, mul, div, lt, le, eq, ne, ofBits, toBits, neg}
 use Rattle.zone.specs.Format.Head.{headOf, structureOf, elementsEnd}
 use Rattle.zone.specs.Calls.StartUp.{startUpConditions, allClose, close, pass, settle, initNodeTemps}
@@ -91,7 +91,7 @@ unfolding calcCoolingPotentialFromVentilation shareOrZero demandForLoad spaceHea
 calls2 = tt
 
 unfoldable calls3 : Unit {0}
-unfolding pass settle initNodeTemps delivered convectiveShare hourStep
+unfolding pass settle initNodeTemps delivered deliveredFraction convectiveShare testedStep hourStep
 calls3 = tt
 
 -- all of them
@@ -101,7 +101,7 @@ computed = tt
 
 pub house-p : HousePClaims
 unfolding computed
-house-p = record { head = refl; start-up = refl; balance = _; hour = refl }
+house-p = record { head = refl; start-up = refl; balance = _; hour = refl; hour-2 = refl }
 
 pub claim : allHold table ≡ true
 unfolding allHold computed

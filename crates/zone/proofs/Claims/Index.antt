@@ -18,7 +18,7 @@ use Rattle.zone.specs.Check.ZoneTest.{elementHourInRange, elementInRange
 use Rattle.zone.specs.Format.Layout.{firstElementHour, conditionsLength}
 use Rattle.zone.specs.Format.Conditions.{conditionsAt, rateCodeValid, openBitsValid, hourAndGainsInRange, setpointsInRange, achArgsInRange, conditionsTest, conditionsOf}
 use Rattle.zone.specs.Calls.State.{allWithinStateBound, stateTest, zoneAndStateTest, slotsOf, operative}
-use Rattle.zone.specs.Calls.Hour.{testedHour, tested, demand, hourStep, updateTemperatures}
+use Rattle.zone.specs.Calls.Hour.{testedHour, tested, hourVersion, testedStep, demand, hourStep, updateTemperatures}
 use Rattle.zone.specs.Calls.StartUp.{startState, close, settle, initNodeTemps}
 use Rattle.zone.specs.Claims.Refusals.{OfZone, IndicesOfZone}
 use Rattle.zone.proofs.Laws.Refusals.{demand-refuses, step-refuses, pass-refuses}
@@ -75,12 +75,24 @@ module _ (z : Zone) where
         bind-refuses _ (bind-refuses _ zone-within λ _ _. state-within) λ _ _.
         accepts _
 
-    tested-within : (bytes : List ℕ) → RefusesOnly (OfZone z) (tested z s bytes)
-    unfolding tested testedHour
-    tested-within bytes =
-        bind-refuses _ zone-within λ _ _.
+    tested-hour-within : (bytes : List ℕ) → RefusesOnly (OfZone z) (testedHour z s bytes)
+    unfolding testedHour
+    tested-hour-within bytes =
         bind-refuses _ state-within λ _ _.
         conditions-within bytes
+
+    tested-within : (bytes : List ℕ) → RefusesOnly (OfZone z) (tested z s bytes)
+    unfolding tested
+    tested-within bytes =
+        bind-refuses _ zone-within λ _ _.
+        tested-hour-within bytes
+
+    tested-step-within : (version : ℕ) (bytes : List ℕ) → RefusesOnly (OfZone z) (testedStep z version s bytes)
+    unfolding testedStep
+    tested-step-within version bytes =
+        bind-refuses _ zone-within λ _ _.
+        test-refuses (hourVersion version) Number.falseEntry 0 _ none λ _.
+        tested-hour-within bytes
 
     module _ (c : Coefficients) (bytes : List ℕ) where
       demand-within : RefusesOnly (OfZone z) (demand c z s bytes)
@@ -89,10 +101,10 @@ module _ (z : Zone) where
           bind-refuses _ (tested-within bytes) λ h _.
           demand-refuses solve-none c z (slotsOf z s) h none (λ _. none) none
 
-      hour-within : RefusesOnly (OfZone z) (hourStep c z s bytes)
+      hour-within : (version : ℕ) → RefusesOnly (OfZone z) (hourStep c z version s bytes)
       unfolding hourStep
-      hour-within =
-          bind-refuses _ (tested-within bytes) λ h _.
+      hour-within version =
+          bind-refuses _ (tested-step-within version bytes) λ h _.
           bind-refuses _ (demand-refuses solve-none c z (slotsOf z s) h none (λ _. none) none) λ d _.
           bind-refuses _ (step-refuses solve-none c z s h _ _ _) λ r _.
           accepts _
@@ -123,7 +135,7 @@ indices-of-zone c z =
     record {
       operatives = operative-within z;
       demands = λ s bytes. demand-within z s c bytes;
-      hourSteps = λ s bytes. hour-within z s c bytes;
+      hourSteps = λ version s bytes. hour-within z s c bytes version;
       updates = λ s bytes gains fraction ach. update-within z s c bytes gains fraction ach;
       startUp = start-up-within z c;
     }

@@ -1,7 +1,7 @@
 -- Why each call is refused.
 use Prim.Native.Nat.{ℕ, zero, suc, _+_, _<_}
-use mathlib.Core.Path.{_≡_, refl}
-use mathlib.Core.Bool.{false, _&&_}
+use mathlib.Core.Path.{_≡_, refl, subst}
+use mathlib.Core.Bool.{true, false, _&&_}
 use mathlib.Core.List.{List}
 use native.Mathlib.Omega.{arith}
 use lib.Ieee.{Float}
@@ -15,7 +15,7 @@ use Rattle.zone.specs.declared.calls.state.State.{State}
 use Rattle.zone.specs.Check.Ranges.{gainsRange, fractionRange, rateRange}
 use Rattle.zone.specs.Check.ZoneTest.{zoneTest}
 use Rattle.zone.specs.Calls.State.{slotsOf}
-use Rattle.zone.specs.Calls.Hour.{tested, step, demand, hourStep, updateTemperatures}
+use Rattle.zone.specs.Calls.Hour.{testedHour, tested, hourVersion, testedStep, step, demand, hourStep, updateTemperatures}
 use Rattle.zone.specs.Calls.StartUp.{startUpConditions, startState, close, pass, settle, initNodeTemps}
 use Rattle.zone.specs.Claims.HeadRefusals.{ZoneRefusal, zoneStructure, zoneValue, ConditionsRefusal, conditionsSize, conditionsCode, conditionsValue}
 use Rattle.zone.specs.Claims.StartUpClaims.{Unsettled, start, further}
@@ -26,6 +26,10 @@ use Rattle.zone.specs.Claims.Reasons.{
   DemandReasons,
   asked,
   met,
+  HourStepReason,
+  byZone,
+  byVersion,
+  ofVersion,
   HourReasons,
   byConditionsValue,
   inStep,
@@ -38,6 +42,7 @@ use Rattle.zone.specs.Claims.Reasons.{
   StartUpReasons,
 }
 use Rattle.zone.proofs.Claims.HeadRefusals.{zone-refusals}
+use Rattle.zone.proofs.Laws.Versions.{step-passed}
 use Rattle.zone.proofs.Laws.Refusals as Laws
 
 -- what is refused, by the equation that says so
@@ -75,13 +80,30 @@ module _ (c : Coefficients) (z : Zone) where
   unfolding demand
   demand-reasons s bytes = tests-then z s bytes _ λ h. Laws.demand-reasons c z (slotsOf z s) h
 
+  module _ (version : ℕ) (s : State) (bytes : List ℕ) where
+    -- of a zone and a version that pass they are the demand's
+    hour-tests : zoneTest z ≡ ok tt → hourVersion version ≡ true → RefusesOnly (HourStepReason c z version s bytes) (testedHour z s bytes)
+    unfolding tested Below10
+    hour-tests a k =
+        subst (RefusesOnly (HourStepReason c z version s bytes)) (rw a refl)
+        (refuses-also (λ n i p. ofVersion a k (inTests (p .1) (p .0))) (by-equation (tested z s bytes) (tests-below z s bytes)))
+
+    step-tests : RefusesOnly (HourStepReason c z version s bytes) (testedStep z version s bytes)
+    unfolding testedStep
+    step-tests =
+        bind-refuses _ (refuses-also (λ n i p. byZone (p .1) (zone-below n i (p .0))) (by-equation (zoneTest z) (zone-refusals z))) λ _ a.
+        Laws.because (hourVersion version) 18 0 _ (byVersion a) λ k.
+        hour-tests a k
+
   pub hour-reasons : HourReasons c z
   unfolding hourStep step
-  hour-reasons s bytes =
-      tests-then z s bytes _ λ h.
+  hour-reasons version s bytes =
+      bind-refuses _ (step-tests version s bytes) λ h e.
+      let p = step-passed z version s bytes h e in
+      refuses-also (λ n i q. ofVersion (p .zone) (p .known) (after (p .tests) q)) (
       bind-refuses _ (refuses-also (λ n i p. asked p) (Laws.demand-reasons c z (slotsOf z s) h)) λ d e.
       bind-refuses _ (bind-refuses _ (refuses-also (λ n i p. met e p) (Laws.solve-reasons c z (slotsOf z s) h _ _ _)) λ t _. accepts _) λ r _.
-      accepts _
+      accepts _)
 
   pub update-reasons : UpdateReasons c z
   unfolding updateTemperatures step

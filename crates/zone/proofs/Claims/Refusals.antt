@@ -27,14 +27,17 @@ use Rattle.zone.specs.Claims.Refusals.{
   OperativeRefusal,
   operativeZone,
   operativeStateInvalid,
+  DemandRefusal,
+  demandZone,
+  demandStateInvalid,
+  demandConditions,
+  demandCoolingBelowHeating,
+  demandVentilationBelowHeating,
+  demandSolve,
+  demandNoEffect,
   HourRefusal,
-  hourZone,
-  hourStateInvalid,
-  hourConditions,
-  hourCoolingBelowHeating,
-  hourVentilationBelowHeating,
-  hourSolve,
-  hourNoEffect,
+  hourDemand,
+  hourEntryVersion,
   UpdateRefusal,
   updateZone,
   updateStateInvalid,
@@ -50,16 +53,16 @@ use Rattle.zone.specs.Claims.Refusals.{
   CallRefusals,
 }
 use Rattle.zone.specs.Claims.StateClaims.{StateKept}
-use Rattle.zone.proofs.Laws.Refusals.{before-refuses, tested-refuses, step-refuses, demand-refuses, pass-refuses}
+use Rattle.zone.proofs.Laws.Refusals.{before-refuses, tested-refuses, tested-step-refuses, step-refuses, demand-refuses, pass-refuses}
 use Rattle.zone.specs.Record.Numbers as Number
 
 module _ (c : Coefficients) (z : Zone) where
   module _ (s : State) (bytes : List ℕ) where
-    hour-tested : RefusesOnly HourRefusal (tested z s bytes)
-    hour-tested = tested-refuses (λ n i p. hourZone p) hourStateInvalid (λ n i p. hourConditions p) z s bytes
+    demand-tested : RefusesOnly DemandRefusal (tested z s bytes)
+    demand-tested = tested-refuses (λ n i p. demandZone p) demandStateInvalid (λ n i p. demandConditions p) z s bytes
 
-    hour-demand : (h : Conditions) → RefusesOnly HourRefusal (spaceHeatCoolDemand c z (slotsOf z s) h)
-    hour-demand h = demand-refuses (λ n i p. hourSolve p) c z (slotsOf z s) h hourNoEffect (λ _. hourCoolingBelowHeating) hourVentilationBelowHeating
+    demand-asked : (h : Conditions) → RefusesOnly DemandRefusal (spaceHeatCoolDemand c z (slotsOf z s) h)
+    demand-asked h = demand-refuses (λ n i p. demandSolve p) c z (slotsOf z s) h demandNoEffect (λ _. demandCoolingBelowHeating) demandVentilationBelowHeating
 
     pub operative-refusals : RefusesOnly OperativeRefusal (operative z s)
     unfolding operative
@@ -67,18 +70,18 @@ module _ (c : Coefficients) (z : Zone) where
         bind-refuses _ (before-refuses (λ n i p. operativeZone p) operativeStateInvalid z s) λ _ _.
         accepts _
 
-    pub demand-refusals : RefusesOnly HourRefusal (demand c z s bytes)
+    pub demand-refusals : RefusesOnly DemandRefusal (demand c z s bytes)
     unfolding demand
     demand-refusals =
-        bind-refuses _ hour-tested λ h _.
-        hour-demand h
+        bind-refuses _ demand-tested λ h _.
+        demand-asked h
 
-    pub hour-step-refusals : RefusesOnly HourRefusal (hourStep c z s bytes)
+    pub hour-step-refusals : (version : ℕ) → RefusesOnly HourRefusal (hourStep c z version s bytes)
     unfolding hourStep
-    hour-step-refusals =
-        bind-refuses _ hour-tested λ h _.
-        bind-refuses _ (hour-demand h) λ d _.
-        bind-refuses _ (step-refuses (λ n i p. hourSolve p) c z s h _ _ _) λ r _.
+    hour-step-refusals version =
+        bind-refuses _ (tested-step-refuses (λ n i p. hourDemand (demandZone p)) hourEntryVersion (hourDemand demandStateInvalid) (λ n i p. hourDemand (demandConditions p)) z version s bytes) λ h _.
+        bind-refuses _ (refuses-also (λ n i p. hourDemand p) (demand-asked h)) λ d _.
+        bind-refuses _ (step-refuses (λ n i p. hourDemand (demandSolve p)) c z s h _ _ _) λ r _.
         accepts _
 
     pub update-refusals : (gains fraction ach : Float) → RefusesOnly UpdateRefusal (updateTemperatures c z s bytes gains fraction ach)
@@ -119,7 +122,7 @@ call-refusals c z =
     record {
       operatives = λ s. operative-refusals c z s [];
       demands = demand-refusals c z;
-      hourSteps = hour-step-refusals c z;
+      hourSteps = λ version s bytes. hour-step-refusals c z s bytes version;
       updates = update-refusals c z;
       startUps = start-up-refusals c z;
     }

@@ -28,10 +28,10 @@ use Rattle.zone.specs.declared.record.zone_record.Verdict.{Verdict}
 use Rattle.zone.specs.declared.record.zone_record.Verdict.the-variants as Verdict
 use Rattle.zone.specs.declared.calls.state.State.{State}
 use Rattle.zone.specs.Record.BuildingElement.{nodeCount}
-use Rattle.zone.specs.Record.Numbers.{stateInvalid}
+use Rattle.zone.specs.Record.Numbers.{stateInvalid, falseEntry}
 use Rattle.zone.specs.Check.ZoneTest.{zoneTest, verdictOf}
 use Rattle.zone.specs.Calls.State.{allWithinStateBound, stateTest, zoneAndStateTest}
-use Rattle.zone.specs.Calls.Hour.{testedHour, tested}
+use Rattle.zone.specs.Calls.Hour.{testedHour, tested, hourVersion, testedStep}
 use Rattle.zone.specs.declared.format.conditions.HourFront.{HourFront}
 use Rattle.zone.proofs.Laws.Lists.{one-left, replaced, replaced-next}
 use Rattle.zone.proofs.Laws.Ranges.{verdict-accepted, verdict-refused}
@@ -150,7 +150,20 @@ module _ (z : Zone) (s : State) (v : Verdict) (zone : v ≡ verdictOf (zoneTest 
     unfolding tested
     tested-refused bytes = let w : zoneTest z ≡ refused n i = verdict-refused (zoneTest z) n i (sym zone ∙ e) in rw w refl
 
+    pub step-refused : (version : ℕ) (bytes : List ℕ) → testedStep z version s bytes ≡ refused n i
+    unfolding testedStep
+    step-refused version bytes = let w : zoneTest z ≡ refused n i = verdict-refused (zoneTest z) n i (sym zone ∙ e) in rw w refl
+
   module _ (good : v ≡ Verdict.Accepted) where
+    module _ (version : ℕ) (known : Bool) (known-is : known ≡ hourVersion version) (bytes : List ℕ) where
+      pub step-on : known ≡ true → testedStep z version s bytes ≡ testedHour z s bytes
+      unfolding testedStep
+      step-on k = let w : hourVersion version ≡ true = sym known-is ∙ k in rw (verdict-accepted (zoneTest z) (sym zone ∙ good), w) refl
+
+      pub step-unknown : known ≡ false → testedStep z version s bytes ≡ refused falseEntry 0
+      unfolding testedStep
+      step-unknown k = let w : hourVersion version ≡ false = sym known-is ∙ k in rw (verdict-accepted (zoneTest z) (sym zone ∙ good), w) refl
+
     pub tested-on : (bytes : List ℕ) → tested z s bytes ≡ testedHour z s bytes
     unfolding tested
     tested-on bytes = rw (verdict-accepted (zoneTest z) (sym zone ∙ good)) refl

@@ -51,9 +51,9 @@ module _ (zf : ZoneFront) (es : List Element) (s : State) (bytes : List ℕ) (v 
     pub held-refused : (x : Held) → x ≡ heldAfter z s (testedHour z s bytes) x
     held-refused x = rw is-refused refl
 
-    pub from-refused : (x : Held) (r : DemandReply) → r ≡ demandReply s (refused n i) → r ≡ nextHourReply s (nextHourFrom z s bytes x)
+    pub from-refused : (version : ℕ) (x : Held) (r : DemandReply) → r ≡ demandReply s (refused n i) → r ≡ nextHourReply s (nextHourFrom z version s bytes x)
     unfolding nextHourFrom
-    from-refused x r p = rw is-refused p
+    from-refused version x r p = rw is-refused p
 
   module _ (e : v ≡ Verdict.Accepted) (t : List Float) (t-is : t ≡ slotsOf z s) where
     is-accepted : testedHour z s bytes ≡ ok (conditionsIn h parts opens)
@@ -62,35 +62,35 @@ module _ (zf : ZoneFront) (es : List Element) (s : State) (bytes : List ℕ) (v 
     pub held-accepted : (x x' : Held) → x' ≡ keepFactors z (directionsOf z t) opens (deltaT (hourOf h [])) x → x' ≡ heldAfter z s (testedHour z s bytes) x
     held-accepted x x' p = p ∙ rw (is-accepted, ← t-is) (keep-agree z (directionsOf z t) opens (opensOf (conditionsIn h parts opens)) (deltaT (hourOf h [])) (opens-agree h parts opens) x)
 
-    pub from-accepted : (x : Held) (a : Result (Demand × List Float)) → a ≡ hourHeld z t h (elementHoursIn parts opens) (Asked.Demand WithGains) (replicate 121 zero64) x
-        → (r : DemandReply) → r ≡ nextHourReply s (solvedNext z a) → r ≡ nextHourReply s (nextHourFrom z s bytes x)
+    pub from-accepted : (version : ℕ) (x : Held) (a : Result (Demand × List Float)) → a ≡ hourHeld z t h (elementHoursIn parts opens) (Asked.Demand (WithGains version)) (replicate 121 zero64) x
+        → (r : DemandReply) → r ≡ nextHourReply s (solvedNext z a) → r ≡ nextHourReply s (nextHourFrom z version s bytes x)
     unfolding nextHourFrom
-    from-accepted x a p r q = rw (is-accepted, ← t-is, ← p) q
+    from-accepted version x a p r q = rw (is-accepted, ← t-is, ← p) q
 
 -- ---- where the arrays hold this zone's matrix, or none
 
-module _ (zf : ZoneFront) (es : List Element) (s : State) (bytes : List ℕ) where
+module _ (zf : ZoneFront) (es : List Element) (version : ℕ) (s : State) (bytes : List ℕ) where
   abbrev zone : Zone
   zone = zoneOf zf es
 
   opened : (h : Conditions) (e : ℕ) → e < 24 → getD (opensOf h) e 0 ≡ elementHour (h .elements) e .«treatments_open»
   opened h e l = counted-at (λ i. elementHour (h .elements) i .«treatments_open») 24 e 0 l
 
-  next-not : (n i : ℕ) → testedHour zone s bytes ≡ refused n i → nextHour standardCoefficients zone s bytes ≡ refused n i
+  next-not : (n i : ℕ) → testedHour zone s bytes ≡ refused n i → nextHour standardCoefficients zone version s bytes ≡ refused n i
   unfolding nextHour
   next-not n i e = rw e refl
 
   next-by : (y : Result Conditions) → testedHour zone s bytes ≡ y → (x : Held) → Kept zone x
-      → Kept zone (heldAfter zone s y x) × (nextHourFrom zone s bytes (heldAfter zone s y x) ≡ nextHour standardCoefficients zone s bytes)
+      → Kept zone (heldAfter zone s y x) × (nextHourFrom zone version s bytes (heldAfter zone s y x) ≡ nextHour standardCoefficients zone version s bytes)
   unfolding nextHourFrom
   next-by (ok h) e x k =
-      let p = kept-hour zf es (slotsOf zone s) (hourFrontOf h) (h .elements) (opensOf h) (opened h) (Asked.Demand WithGains) (replicate 121 zero64) x _ refl _ refl k in
-      (p .0, rw e (ap (solvedNext zone) (p .1)) ∙ sym (next-solved zone s bytes h e (slotsOf zone s) refl (replicate 121 zero64)))
+      let p = kept-hour zf es (slotsOf zone s) (hourFrontOf h) (h .elements) (opensOf h) (opened h) (Asked.Demand (WithGains version)) (replicate 121 zero64) x _ refl _ refl k in
+      (p .0, rw e (ap (solvedNext zone) (p .1)) ∙ sym (next-solved zone version s bytes h e (slotsOf zone s) refl (replicate 121 zero64)))
   next-by (refused n i) e x k = (k, rw e (sym (next-not n i e)))
 
   -- the reply of `next_hour_kept` is that of `next_hour`
-  pub next-kept : (x x' : Held) (r : DemandReply) → (x' ≡ heldAfter zone s (testedHour zone s bytes) x) × (r ≡ nextHourReply s (nextHourFrom zone s bytes x'))
-      → Kept zone x → Kept zone x' × (r ≡ nextHourReply s (nextHour standardCoefficients zone s bytes))
+  pub next-kept : (x x' : Held) (r : DemandReply) → (x' ≡ heldAfter zone s (testedHour zone s bytes) x) × (r ≡ nextHourReply s (nextHourFrom zone version s bytes x'))
+      → Kept zone x → Kept zone x' × (r ≡ nextHourReply s (nextHour standardCoefficients zone version s bytes))
   next-kept x x' r e k =
       let p = next-by (testedHour zone s bytes) refl x k in
-      (rw (e .0) (p .0), e .1 ∙ ap (nextHourReply s) (ap (nextHourFrom zone s bytes) (e .0) ∙ p .1))
+      (rw (e .0) (p .0), e .1 ∙ ap (nextHourReply s) (ap (nextHourFrom zone version s bytes) (e .0) ∙ p .1))

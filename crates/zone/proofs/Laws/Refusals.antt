@@ -30,7 +30,7 @@ use Rattle.zone.specs.declared.hour.windows.VentilationChoice.{Ventilati
 use Rattle.zone.specs.declared.hour.load.HeatCoolLoad.{HeatCoolLoad}
 use Rattle.zone.specs.declared.hour.load.HeatCoolLoad.the-variants.{NoLoad, Toward}
 use Rattle.zone.specs.Calls.State.{allWithinStateBound, stateTest, zoneAndStateTest, slotsOf}
-use Rattle.zone.specs.Calls.Hour.{testedHour, tested, step}
+use Rattle.zone.specs.Calls.Hour.{testedHour, tested, hourVersion, testedStep, step}
 use Rattle.zone.specs.Physics.Slots.{air}
 use Rattle.zone.specs.Hour.Demand.{deltaT, controlTemperature, achTarget, wanted, interpHeatCoolDemand, temperaturesWith, freeTemperatures, calcCoolingPotentialFromVentilation, demandForLoad, spaceHeatCoolDemand}
 use Rattle.zone.specs.Claims.Reasons.{SetpointsPass, stepMatrix, stepRightSide, SolveReason, byDivisor, byTemperature, Tried, DemandSolve, atTarget, atOpen, between, loaded, DemandReason, byCoolingBelowHeating, byVentilationBelowHeating, inSolve, byNoEffect}
@@ -46,15 +46,31 @@ module _ {P : ℕ → ℕ → Type 0} where
       bind-refuses _ (refuses-also zone (zone-refusals z)) λ _ _.
       require-refuses (eqb (s .nodes) (nodeCount z) && allWithinStateBound (take (s .nodes) (s .temps))) Number.stateInvalid 0 six
 
-  -- and the conditions' 7, 8, 9
+  -- the state's, and the conditions' 7, 8, 9
+  tested-hour-refuses : P Number.stateInvalid 0 → ((n i : ℕ) → ConditionsRefusal n i → P n i) → (z : Zone) (s : State) (bytes : List ℕ) → RefusesOnly P (testedHour z s bytes)
+  unfolding testedHour stateTest
+  tested-hour-refuses six conditions z s bytes =
+      test-refuses (eqb (s .nodes) (nodeCount z) && allWithinStateBound (take (s .nodes) (s .temps))) Number.stateInvalid 0 _ six λ _.
+      refuses-also conditions (conditions-refusals z bytes)
+
+  -- before them the zone's
   pub tested-refuses :
       ((n i : ℕ) → ZoneRefusal n i → P n i) → P Number.stateInvalid 0 → ((n i : ℕ) → ConditionsRefusal n i → P n i)
       → (z : Zone) (s : State) (bytes : List ℕ) → RefusesOnly P (tested z s bytes)
-  unfolding tested testedHour stateTest
+  unfolding tested
   tested-refuses zone six conditions z s bytes =
       bind-refuses _ (refuses-also zone (zone-refusals z)) λ _ _.
-      test-refuses (eqb (s .nodes) (nodeCount z) && allWithinStateBound (take (s .nodes) (s .temps))) Number.stateInvalid 0 _ six λ _.
-      refuses-also conditions (conditions-refusals z bytes)
+      tested-hour-refuses six conditions z s bytes
+
+  -- and of an hour step the version's 18
+  pub tested-step-refuses :
+      ((n i : ℕ) → ZoneRefusal n i → P n i) → P Number.falseEntry 0 → P Number.stateInvalid 0 → ((n i : ℕ) → ConditionsRefusal n i → P n i)
+      → (z : Zone) (version : ℕ) (s : State) (bytes : List ℕ) → RefusesOnly P (testedStep z version s bytes)
+  unfolding testedStep
+  tested-step-refuses zone eighteen six conditions z version s bytes =
+      bind-refuses _ (refuses-also zone (zone-refusals z)) λ _ _.
+      test-refuses (hourVersion version) Number.falseEntry 0 _ eighteen λ _.
+      tested-hour-refuses six conditions z s bytes
 
 -- a test that has to fail, and what comes after it, where it fails
 unless-refuses :

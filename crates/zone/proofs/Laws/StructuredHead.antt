@@ -19,7 +19,7 @@ use Rattle.zone.specs.declared.record.building_element.Coefficients.{Coe
 use Rattle.zone.specs.declared.record.zone_record.Zone.{Zone}
 use Rattle.zone.specs.declared.calls.state.State.{State}
 use Rattle.zone.specs.Calls.State.{zoneAndStateTest, operative}
-use Rattle.zone.specs.Calls.Hour.{tested, demand, hourStep, updateTemperatures}
+use Rattle.zone.specs.Calls.Hour.{tested, testedStep, demand, hourStep, updateTemperatures}
 use Rattle.zone.specs.Calls.StartUp.{initNodeTemps}
 use Rattle.zone.proofs.Laws.ElementLayout.{treatments-few}
 use Rattle.zone.proofs.Laws.Structure.{whole-of, Structured, structured}
@@ -142,9 +142,9 @@ module _ (z : Zone) (a b : ℕ) (e : zoneTest z ≡ refused a b) where
       unfolding demand tested
       demand-judges = rw e
 
-      pub hour-judges : hourStep c z s bytes ≡ refused a b
-      unfolding hourStep tested
-      hour-judges = rw e
+      pub hour-judges : (version : ℕ) → hourStep c z version s bytes ≡ refused a b
+      unfolding hourStep testedStep
+      hour-judges version = rw e
 
       pub update-judges : (gains fraction ach : Float) → updateTemperatures c z s bytes gains fraction ach ≡ refused a b
       unfolding updateTemperatures tested

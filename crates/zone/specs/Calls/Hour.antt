@@ -1,14 +1,15 @@
 -- Update, demand and hour step of document 01: the tests in the paper's order, then the calculation.
 use Prim.Native.Nat.{ℕ}
-use mathlib.Core.Bool.{_&&_}
+use mathlib.Core.Bool.{Bool, _&&_, cond}
 use mathlib.Core.List.{List}
-use lib.Ieee.{Float}
-use Rattle.solver.specs.F64.{_+ᶠ_, _*ᶠ_, _/ᶠ_, decimal}
+use lib.Dec.{leb}
+use lib.Ieee.{Float, lt}
+use Rattle.solver.specs.F64.{_+ᶠ_, _*ᶠ_, _/ᶠ_, decimal, zero64}
 use Rattle.solver.specs.Result.{Result, ok, bind, require}
 use Rattle.zone.specs.declared.record.building_element.Coefficients.{Coefficients}
 use Rattle.zone.specs.declared.record.zone_record.Zone.{Zone}
 use Rattle.zone.specs.declared.format.conditions.Conditions.{Conditions}
-use Rattle.zone.specs.Record.Numbers.{conditionsValue}
+use Rattle.zone.specs.Record.Numbers.{conditionsValue, falseEntry}
 use Rattle.zone.specs.Check.ZoneTest.{zoneTest}
 use Rattle.zone.specs.Check.Ranges.{gainsRange, fractionRange, rateRange}
 use Rattle.zone.specs.Format.Conditions.{conditionsOf}
@@ -20,12 +21,13 @@ use Rattle.zone.specs.declared.calls.state.Demand.{Demand}
 use Rattle.zone.specs.Calls.State.{stateTest, slotsOf, stateOf}
 use Rattle.zone.specs.Hour.Demand.{deltaT, gainsHeatCool, shareOrZero, spaceHeatCoolDemand}
 
--- the tests that demand, update and hour step share: 6, then the conditions' 7, 8, 9; before them the zone's 4, 5
+-- the tests that demand, update and hour step share: 6, then the conditions' 7, 8, 9
 unfoldable pub testedHour : Zone → State → List ℕ → Result Conditions
 testedHour z s bytes =
     bind (stateTest z s) λ _.
     conditionsOf z bytes
 
+-- those of demand and update: before them the zone's 4, 5
 unfoldable pub tested : Zone → State → List ℕ → Result Conditions
 tested z s bytes =
     bind (zoneTest z) λ _.
@@ -51,15 +53,30 @@ demand c z s bytes =
     bind (tested z s bytes) λ h.
     spaceHeatCoolDemand c z (slotsOf z s) h
 
--- ---- hour step (document 01): the demand is met
+-- ---- hour step (document 01): the demand is met, by the rule of the entry version that the call names
+
+-- the versions that hours have: 1 and 2
+abbrev pub hourVersion : (version : ℕ) → Bool
+hourVersion version = leb 1 version && leb version 2
+
+-- "An hour step alone names one too; an unknown one is 18, index 0, before 6": after the zone's 4, 5
+unfoldable pub testedStep : Zone → (version : ℕ) → State → List ℕ → Result Conditions
+testedStep z version s bytes =
+    bind (zoneTest z) λ _.
+    bind (require (hourVersion version) falseEntry) λ _.
+    testedHour z s bytes
 
 -- delivered W
 unfoldable pub delivered : Conditions → Demand → Float
 delivered h d = (d .«space_heat_demand» +ᶠ d .«space_cool_demand») *ᶠ decimal 1000 0 /ᶠ h .«delta_t_h»
 
+-- "From entry version 2 on, delivered power below 0 uses the cooling fraction, any other the heating fraction. Version 1 entries keep their own rule"
+unfoldable pub deliveredFraction : (version : ℕ) → Conditions → (w : Float) → Float
+deliveredFraction version h w = cond (leb 2 version && lt w zero64) (h .«frac_convective_cool») (h .«frac_convective_heat»)
+
 -- the convective share of the total gains g, 0 where g is close to 0
-unfoldable pub convectiveShare : Conditions → (w g : Float) → Float
-convectiveShare h w g = shareOrZero (h .«gains_heat_cool_convective» +ᶠ w *ᶠ h .«frac_convective_heat») g
+unfoldable pub convectiveShare : (version : ℕ) → Conditions → (w g : Float) → Float
+convectiveShare version h w g = shareOrZero (h .«gains_heat_cool_convective» +ᶠ w *ᶠ deliveredFraction version h w) g
 
 -- the demand, the state after the hour, and the heat balance
 pub record HourResult : Type 0 where
@@ -67,11 +84,11 @@ pub record HourResult : Type 0 where
   pub state : State
   pub balance : HeatBalance
 
-unfoldable pub hourStep : Coefficients → Zone → State → List ℕ → Result HourResult
-hourStep c z s bytes =
-    bind (tested z s bytes) λ h.
+unfoldable pub hourStep : Coefficients → Zone → (version : ℕ) → State → List ℕ → Result HourResult
+hourStep c z version s bytes =
+    bind (testedStep z version s bytes) λ h.
     bind (spaceHeatCoolDemand c z (slotsOf z s) h) λ d.
     let w = delivered h d in
     let g = gainsHeatCool h +ᶠ w in
-    bind (step c z s h g (convectiveShare h w g) (d .«ach_cooling»)) λ r.
+    bind (step c z s h g (convectiveShare version h w g) (d .«ach_cooling»)) λ r.
     ok (record { demand = d; state = r .0; balance = r .1 })

@@ -23,4 +23,4 @@ abbrev pub DemandCallSigns : Coefficients → Zone → Type 0
 DemandCallSigns c z = (s : State) (bytes : List ℕ) (d : Demand) → demand c z s bytes ≡ ok d → Signs d
 
 abbrev pub HourCallSigns : Coefficients → Zone → Type 0
-HourCallSigns c z = (s : State) (bytes : List ℕ) (r : HourResult) → hourStep c z s bytes ≡ ok r → Signs (r .demand)
+HourCallSigns c z = (version : ℕ) (s : State) (bytes : List ℕ) (r : HourResult) → hourStep c z version s bytes ≡ ok r → Signs (r .demand)

@@ -65,12 +65,14 @@ twenty = record { nodes = 3; temps = decimal 20 0 ∷ decimal 20 0 ∷ decimal 2
 abbrev pub noDemand : Demand
 noDemand = record { «space_heat_demand» = zero64; «space_cool_demand» = zero64; «ach_cooling» = zero64; «ach_to_trigger_heating» = Absent }
 
--- its head is 180 bytes; start-up finds 20, 20, 20; an hour with setpoints 20 and 24 wants nothing and leaves them; its heat balance is left open here
+-- its head is 180 bytes; start-up finds 20, 20, 20; an hour with setpoints 20 and 24 wants nothing and leaves them, in either version; its heat balance is
+-- left open here
 pub record HousePClaims : Type 0 where
   pub head : headOf headOfP ≡ ok (record { zone = houseP; length = 180 })
   pub start-up : initNodeTemps standardCoefficients houseP ≡ ok twenty
   pub balance : HeatBalance
-  pub hour : hourStep standardCoefficients houseP twenty hourOfP ≡ ok (record { demand = noDemand; state = twenty; balance = balance })
+  pub hour : hourStep standardCoefficients houseP 1 twenty hourOfP ≡ ok (record { demand = noDemand; state = twenty; balance = balance })
+  pub hour-2 : hourStep standardCoefficients houseP 2 twenty hourOfP ≡ ok (record { demand = noDemand; state = twenty; balance = balance })
 
 -- ---- the table
 

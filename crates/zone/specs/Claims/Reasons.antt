@@ -19,7 +19,7 @@ use Rattle.zone.specs.declared.calls.state.State.{State}
 use Rattle.zone.specs.declared.calls.state.Demand.{Demand}
 use Rattle.zone.specs.declared.hour.windows.VentilationChoice.{VentilationChoice}
 use Rattle.zone.specs.declared.hour.load.HeatCoolLoad.the-variants.{Toward}
-use Rattle.zone.specs.Record.Numbers.{conditionsValue, coolingBelowHeating, ventilationBelowHeating, noEffect, notSettled}
+use Rattle.zone.specs.Record.Numbers.{conditionsValue, coolingBelowHeating, ventilationBelowHeating, noEffect, notSettled, falseEntry}
 use Rattle.zone.specs.Check.Ranges.{gainsRange, fractionRange, rateRange}
 use Rattle.zone.specs.Check.ZoneTest.{zoneTest}
 use Rattle.zone.specs.Physics.Slots.{air}
@@ -41,7 +41,7 @@ use Rattle.zone.specs.Hour.Demand.{
   spaceHeatCoolDemand,
 }
 use Rattle.zone.specs.Calls.State.{slotsOf}
-use Rattle.zone.specs.Calls.Hour.{tested, demand, delivered, convectiveShare, hourStep, updateTemperatures}
+use Rattle.zone.specs.Calls.Hour.{hourVersion, tested, demand, delivered, convectiveShare, hourStep, updateTemperatures}
 use Rattle.zone.specs.Calls.StartUp.{startUpConditions, startState, initNodeTemps}
 use Rattle.zone.specs.Claims.StartUpClaims.{Unsettled, LimitUnsettled}
 
@@ -112,14 +112,21 @@ module _ (c : Coefficients) (z : Zone) where
   DemandReasons = (s : State) (bytes : List ℕ) → RefusesOnly (AfterTests z s bytes (DemandReason c z (slotsOf z s))) (demand c z s bytes)
 
   -- the demand's, or those of the solve that meets it
-  pub data HourReason (s : State) (h : Conditions) : (number index : ℕ) → Type 0 where
-    asked : {number index : ℕ} → DemandReason c z (slotsOf z s) h number index → HourReason s h number index
+  pub data HourReason (version : ℕ) (s : State) (h : Conditions) : (number index : ℕ) → Type 0 where
+    asked : {number index : ℕ} → DemandReason c z (slotsOf z s) h number index → HourReason version s h number index
     met : {d : Demand} {number index : ℕ} → spaceHeatCoolDemand c z (slotsOf z s) h ≡ ok d
-        → SolveReason c z (slotsOf z s) h (gainsHeatCool h +ᶠ delivered h d) (convectiveShare h (delivered h d) (gainsHeatCool h +ᶠ delivered h d)) (d .«ach_cooling») number index
-        → HourReason s h number index
+        → SolveReason c z (slotsOf z s) h (gainsHeatCool h +ᶠ delivered h d) (convectiveShare version h (delivered h d) (gainsHeatCool h +ᶠ delivered h d)) (d .«ach_cooling») number index
+        → HourReason version s h number index
+
+  -- "An hour step alone names one too; an unknown one is 18, index 0, before 6": between the zone's 4, 5 and all others
+  pub data HourStepReason (version : ℕ) (s : State) (bytes : List ℕ) : (number index : ℕ) → Type 0 where
+    byZone : {number index : ℕ} → zoneTest z ≡ refused number index → number < 6 → HourStepReason version s bytes number index
+    byVersion : zoneTest z ≡ ok tt → hourVersion version ≡ false → HourStepReason version s bytes falseEntry 0
+    ofVersion : {number index : ℕ} → zoneTest z ≡ ok tt → hourVersion version ≡ true → AfterTests z s bytes (HourReason version s) number index
+        → HourStepReason version s bytes number index
 
   abbrev pub HourReasons : Type 0
-  HourReasons = (s : State) (bytes : List ℕ) → RefusesOnly (AfterTests z s bytes (HourReason s)) (hourStep c z s bytes)
+  HourReasons = (version : ℕ) (s : State) (bytes : List ℕ) → RefusesOnly (HourStepReason version s bytes) (hourStep c z version s bytes)
 
   -- "its own gains, fraction and rate tested in 9 after the conditions, index 0, then 12, 13"
   pub data UpdateReason (s : State) (gains fraction ach : Float) (h : Conditions) : (number index : ℕ) → Type 0 where

@@ -9,7 +9,7 @@ use Rattle.zone.specs.declared.calls.state.State.{State}
 use Rattle.zone.specs.Calls.State.{operative}
 use Rattle.zone.specs.Calls.Hour.{demand, hourStep, updateTemperatures}
 use Rattle.zone.specs.Calls.StartUp.{initNodeTemps}
-use Rattle.zone.specs.Record.Numbers.{stateInvalid, conditionsValue, coolingBelowHeating, ventilationBelowHeating, noEffect, notSettled}
+use Rattle.zone.specs.Record.Numbers.{stateInvalid, conditionsValue, coolingBelowHeating, ventilationBelowHeating, noEffect, notSettled, falseEntry}
 use Rattle.zone.specs.Claims.HeadRefusals.{ZoneRefusal, ConditionsRefusal}
 
 -- the operative temperature: the zone's 4, 5, then the state's 6
@@ -18,21 +18,26 @@ pub data OperativeRefusal : (number index : ℕ) → Type 0 where
   operativeStateInvalid : OperativeRefusal stateInvalid 0
 
 -- "Demand and hour step"
-pub data HourRefusal : (number index : ℕ) → Type 0 where
+pub data DemandRefusal : (number index : ℕ) → Type 0 where
   -- the zone's 4, 5
-  hourZone : {number index : ℕ} → ZoneRefusal number index → HourRefusal number index
+  demandZone : {number index : ℕ} → ZoneRefusal number index → DemandRefusal number index
   -- "state of wrong node count or with a value not finite or beyond ±1e6"
-  hourStateInvalid : HourRefusal stateInvalid 0
+  demandStateInvalid : DemandRefusal stateInvalid 0
   -- 7, 8, 9
-  hourConditions : {number index : ℕ} → ConditionsRefusal number index → HourRefusal number index
+  demandConditions : {number index : ℕ} → ConditionsRefusal number index → DemandRefusal number index
   -- "cooling below heating setpoint"
-  hourCoolingBelowHeating : HourRefusal coolingBelowHeating 0
+  demandCoolingBelowHeating : DemandRefusal coolingBelowHeating 0
   -- "ventilation below heating"
-  hourVentilationBelowHeating : HourRefusal ventilationBelowHeating 0
+  demandVentilationBelowHeating : DemandRefusal ventilationBelowHeating 0
   -- "then per solve": 12, 13
-  hourSolve : {number index : ℕ} → SolveRefusal number index → HourRefusal number index
+  demandSolve : {number index : ℕ} → SolveRefusal number index → DemandRefusal number index
   -- "last, loaded and free temperature differ by something close to 0"
-  hourNoEffect : HourRefusal noEffect 0
+  demandNoEffect : DemandRefusal noEffect 0
+
+-- the hour step has 18 besides: "an unknown one is 18, index 0"
+pub data HourRefusal : (number index : ℕ) → Type 0 where
+  hourDemand : {number index : ℕ} → DemandRefusal number index → HourRefusal number index
+  hourEntryVersion : HourRefusal falseEntry 0
 
 -- "Update: 6 to 9, its own gains, fraction and rate tested in 9 after the conditions, index 0, then 12, 13."
 pub data UpdateRefusal : (number index : ℕ) → Type 0 where
@@ -57,14 +62,14 @@ OfZone z number index = index ≤ z .count
 pub record IndicesOfZone (c : Coefficients) (z : Zone) : Type 0 where
   pub operatives : (s : State) → RefusesOnly (OfZone z) (operative z s)
   pub demands : (s : State) (bytes : List ℕ) → RefusesOnly (OfZone z) (demand c z s bytes)
-  pub hourSteps : (s : State) (bytes : List ℕ) → RefusesOnly (OfZone z) (hourStep c z s bytes)
+  pub hourSteps : (version : ℕ) (s : State) (bytes : List ℕ) → RefusesOnly (OfZone z) (hourStep c z version s bytes)
   pub updates : (s : State) (bytes : List ℕ) (gains fraction ach : Float) → RefusesOnly (OfZone z) (updateTemperatures c z s bytes gains fraction ach)
   pub startUp : RefusesOnly (OfZone z) (initNodeTemps c z)
 
 -- which refusals each call can give, for every input
 pub record CallRefusals (c : Coefficients) (z : Zone) : Type 0 where
   pub operatives : (s : State) → RefusesOnly OperativeRefusal (operative z s)
-  pub demands : (s : State) (bytes : List ℕ) → RefusesOnly HourRefusal (demand c z s bytes)
-  pub hourSteps : (s : State) (bytes : List ℕ) → RefusesOnly HourRefusal (hourStep c z s bytes)
+  pub demands : (s : State) (bytes : List ℕ) → RefusesOnly DemandRefusal (demand c z s bytes)
+  pub hourSteps : (version : ℕ) (s : State) (bytes : List ℕ) → RefusesOnly HourRefusal (hourStep c z version s bytes)
   pub updates : (s : State) (bytes : List ℕ) (gains fraction ach : Float) → RefusesOnly UpdateRefusal (updateTemperatures c z s bytes gains fraction ach)
   pub startUps : RefusesOnly StartUpRefusal (initNodeTemps c z)

@@ -22,7 +22,7 @@ module _ (c : Coefficients) (z : Zone) where
       → updateTemperatures c z s bytes gains fraction ach ≡ ok r → zoneAndStateTest z (r .0) ≡ ok tt
 
   abbrev pub HourStateTested : Type 0
-  HourStateTested = (s : State) (bytes : List ℕ) (r : HourResult) → hourStep c z s bytes ≡ ok r → zoneAndStateTest z (r .state) ≡ ok tt
+  HourStateTested = (version : ℕ) (s : State) (bytes : List ℕ) (r : HourResult) → hourStep c z version s bytes ≡ ok r → zoneAndStateTest z (r .state) ≡ ok tt
 
   abbrev pub StartUpStateTested : Type 0
   StartUpStateTested = (s : State) → initNodeTemps c z ≡ ok s → zoneAndStateTest z s ≡ ok tt

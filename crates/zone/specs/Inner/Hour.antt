@@ -1,5 +1,6 @@
 -- An hour's calculations, as the code has them: a given load, or the demand and the last calculation where it is met. answer-solved (proofs/Laws/PreparedDemand.antt)
 -- ties `answerIn` to `hourSolved`, and Laws/Hour.antt and StartUp.antt tie that to the calls.
+use Prim.Native.Nat.{ℕ}
 use mathlib.Core.Bool.{Bool, true}
 use mathlib.Core.List.{List}
 use lib.Ieee.{Float}
@@ -29,10 +30,10 @@ use Rattle.zone.specs.Inner.Demand.{demandIn}
 
 abbrev pub metLoad : Conditions → Demand → Meeting → MetLoad
 metLoad h d NotMet = NoLoad
-metLoad h d WithGains =
+metLoad h d (WithGains version) =
     let w = delivered h d in
     let g = gainsHeatCool h +ᶠ w in
-    Load g (convectiveShare h w g)
+    Load g (convectiveShare version h w g)
 metLoad h d Alone = Load (delivered h d) (h .«frac_convective_heat»)
 
 -- what stands beside an update, which asks for no demand
@@ -92,9 +93,9 @@ abbrev pub settledState : Zone → Result (Demand × List Float) → Result Stat
 settledState z x = bind x λ u. ok (stateOf z (u .1))
 
 -- the hour step, from the demand and the temperatures after it
-abbrev pub stepped : Zone → (t : List Float) → Conditions → Demand × List Float → Result HourResult
-stepped z t h u =
+abbrev pub stepped : Zone → (version : ℕ) → (t : List Float) → Conditions → Demand × List Float → Result HourResult
+stepped z version t h u =
     let d = u .0 in
     let w = delivered h d in
     let g = gainsHeatCool h +ᶠ w in
-    ok (record { demand = d; state = stateOf z (u .1); balance = heatBalance standardCoefficients z t h (deltaT h) g (convectiveShare h w g) (d .«ach_cooling») (u .1) })
+    ok (record { demand = d; state = stateOf z (u .1); balance = heatBalance standardCoefficients z t h (deltaT h) g (convectiveShare version h w g) (d .«ach_cooling») (u .1) })

@@ -22,14 +22,14 @@ use Rattle.zone.specs.Inner.Arrays.{hourFrontOf}
 use Rattle.zone.specs.Inner.Kept.{Held, keepFactors, directionsOf, hourHeld}
 use Rattle.zone.specs.Calls.Hour.{testedHour, delivered, convectiveShare}
 
--- the hour step of a zone that is tested already, and whose heat balance nobody asks for: the demand, and the state after the hour
-unfoldable pub nextHour : Coefficients → Zone → State → List ℕ → Result (Demand × State)
-nextHour c z s bytes =
+-- the hour step of a zone and a version that are tested already, and whose heat balance nobody asks for: the demand, and the state after the hour
+unfoldable pub nextHour : Coefficients → Zone → (version : ℕ) → State → List ℕ → Result (Demand × State)
+nextHour c z version s bytes =
     bind (testedHour z s bytes) λ h.
     bind (spaceHeatCoolDemand c z (slotsOf z s) h) λ d.
     let w = delivered h d in
     let g = gainsHeatCool h +ᶠ w in
-    bind (temperaturesWith c z (slotsOf z s) h g (convectiveShare h w g) (d .«ach_cooling»)) λ t.
+    bind (temperaturesWith c z (slotsOf z s) h g (convectiveShare version h w g) (d .«ach_cooling»)) λ t.
     ok (d, stateOf z t)
 
 -- the same, from the demand and the temperatures after the hour
@@ -53,7 +53,7 @@ heldAfter z s (ok h) k = keepFactors z (directionsOf z (slotsOf z s)) (opensOf h
 heldAfter z s (refused number index) k = k
 
 -- `nextHour` from that
-unfoldable pub nextHourFrom : Zone → State → List ℕ → Held → Result (Demand × State)
-nextHourFrom z s bytes k =
+unfoldable pub nextHourFrom : Zone → (version : ℕ) → State → List ℕ → Held → Result (Demand × State)
+nextHourFrom z version s bytes k =
     bind (testedHour z s bytes) λ h.
-    solvedNext z (hourHeld z (slotsOf z s) (hourFrontOf h) (h .elements) (Asked.Demand WithGains) (replicate 121 zero64) k)
+    solvedNext z (hourHeld z (slotsOf z s) (hourFrontOf h) (h .elements) (Asked.Demand (WithGains version)) (replicate 121 zero64) k)

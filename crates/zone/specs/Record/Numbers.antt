@@ -1,4 +1,4 @@
--- Document 01's numbers of refusals, "Refused, operation by operation". 12 and 13 are the solver's, 16 to 18 the book's.
+-- Document 01's numbers of refusals, "Refused, operation by operation". 12 and 13 are the solver's, 16 to 18 the book's; 18 is an hour step's too.
 use Prim.Native.Nat.{ℕ}
 
 -- "fewer than 4 bytes", "bytes end early"
@@ -51,3 +51,7 @@ noEffect = 14
 -- "when the limit passes without settling"
 abbrev pub notSettled : ℕ
 notSettled = 15
+
+-- "a false one 18"; document 02 (a): 18 "as for a version that no hour has"
+abbrev pub falseEntry : ℕ
+falseEntry = 18

@@ -7,12 +7,13 @@ use crate::calls::state::State;
 use crate::calls::state::slots_of;
 use crate::calls::state::state_of;
 use crate::check::arguments::tested;
+use crate::check::arguments::tested_step;
 use crate::format::conditions::HourFront;
+use crate::hour::delivered::convective_share;
+use crate::hour::delivered::delivered_of;
+use crate::hour::delivered::total_gains;
 use crate::hour::hour::Asked;
 use crate::hour::hour::Meeting;
-use crate::hour::hour::convective_share;
-use crate::hour::hour::delivered_of;
-use crate::hour::hour::total_gains;
 use crate::hour::hour_kept::hour_in;
 use crate::hour::simulation_time::delta_t_of;
 use crate::physics::balance::heat_balance;
@@ -58,17 +59,18 @@ fn hour_step_reply(
     h: HourFront,
     parts: &[f64; 120],
     opens: &[u8; 24],
+    version: u64,
     demand: DemandAnswer,
     after: &[f64; 121],
 ) -> HourStepReply
-    ensures { λ r. ⌜ r ≡ hourStepReply s (bind (answerWith demand (now (after .entry))) (stepped (zoneIn z (now (codes .entry)) (now (values .entry))) (now (t .entry)) (conditionsIn h (now (parts .entry)) (now (opens .entry))))) ⌝ }
+    ensures { λ r. ⌜ r ≡ hourStepReply s (bind (answerWith demand (now (after .entry))) (stepped (zoneIn z (now (codes .entry)) (now (values .entry))) version (now (t .entry)) (conditionsIn h (now (parts .entry)) (now (opens .entry))))) ⌝ }
 {
     match demand {
         DemandAnswer::Refused { number, index } => refuse(s, number, index),
         DemandAnswer::Accepted(d) => {
             let w = delivered_of(h, d);
             let g = total_gains(h, w);
-            let share = convective_share(h, w, g);
+            let share = convective_share(version, h, w, g);
             let c = standard_coefficients();
             let delta_t = delta_t_of(h);
             let balance = heat_balance(
@@ -142,12 +144,22 @@ impl State {
         codes: &[u8; 72],
         values: &[f64; 600],
         conditions: &[u8],
+        version: u64,
     ) -> HourStepReply
-        ensures { λ r. ⌜ r ≡ hourStepReply self (hourStep standardCoefficients (zoneIn z (now (codes .entry)) (now (values .entry))) self (now (conditions .entry))) ⌝ }
+        ensures { λ r. ⌜ r ≡ hourStepReply self (hourStep standardCoefficients (zoneIn z (now (codes .entry)) (now (values .entry))) version self (now (conditions .entry))) ⌝ }
     {
         let mut parts = [0.0; 120];
         let mut opens = [0; 24];
-        let read = tested(z, codes, values, self, conditions, &mut parts, &mut opens);
+        let read = tested_step(
+            z,
+            codes,
+            values,
+            version,
+            self,
+            conditions,
+            &mut parts,
+            &mut opens,
+        );
         let verdict = read.verdict;
         match verdict {
             Verdict::Refused { number, index } => {
@@ -157,7 +169,7 @@ impl State {
         }
         let h = read.front;
         let t = slots_of(z, codes, values, self);
-        let asked = Asked::Demand(Meeting::WithGains);
+        let asked = Asked::Demand(Meeting::WithGains(version));
         let mut after = [0.0; 121];
         let demand = hour_in(z, codes, values, &t, h, &parts, &opens, asked, &mut after);
         hour_step_reply(
@@ -169,6 +181,7 @@ impl State {
             h,
             &parts,
             &opens,
+            version,
             demand,
             &after,
         )

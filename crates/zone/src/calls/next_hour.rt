@@ -1,4 +1,4 @@
-// The hour step as the book asks for it: of a zone that is tested already, and without its heat balance.
+// The hour step as the book asks for it: of a zone and a version that are tested already, and without its heat balance.
 use crate::calls::hour_step::refuse_demand;
 use crate::calls::state::DemandAnswer;
 use crate::calls::state::DemandReply;
@@ -51,6 +51,7 @@ impl State {
         codes: &[u8; 72],
         values: &[f64; 600],
         conditions: &[u8],
+        version: u64,
         flags: &mut [bool; 2],
         numbers: &mut [f64; 3],
         key: &mut [u8; 48],
@@ -64,7 +65,7 @@ impl State {
     ) -> DemandReply
         ensures { λ r. ⌜ (held (now (flags .exit)) (now (numbers .exit)) (now (key .exit)) (arrays (now («two_nodes» .exit)) (now (diag .exit)) (now (next .exit)) (now (prev .exit)) (now (dense .exit)) (now (interchanges .exit))) (now (column .exit))
             ≡ heldAfter (zoneIn z (now (codes .entry)) (now (values .entry))) self (testedHour (zoneIn z (now (codes .entry)) (now (values .entry))) self (now (conditions .entry))) (held (now (flags .entry)) (now (numbers .entry)) (now (key .entry)) (arrays (now («two_nodes» .entry)) (now (diag .entry)) (now (next .entry)) (now (prev .entry)) (now (dense .entry)) (now (interchanges .entry))) (now (column .entry))))
-            × (r ≡ nextHourReply self (nextHourFrom (zoneIn z (now (codes .entry)) (now (values .entry))) self (now (conditions .entry)) (held (now (flags .exit)) (now (numbers .exit)) (now (key .exit)) (arrays (now («two_nodes» .exit)) (now (diag .exit)) (now (next .exit)) (now (prev .exit)) (now (dense .exit)) (now (interchanges .exit))) (now (column .exit))))) ⌝ }
+            × (r ≡ nextHourReply self (nextHourFrom (zoneIn z (now (codes .entry)) (now (values .entry))) version self (now (conditions .entry)) (held (now (flags .exit)) (now (numbers .exit)) (now (key .exit)) (arrays (now («two_nodes» .exit)) (now (diag .exit)) (now (next .exit)) (now (prev .exit)) (now (dense .exit)) (now (interchanges .exit))) (now (column .exit))))) ⌝ }
     {
         let mut parts = [0.0; 120];
         let mut opens = [0; 24];
@@ -77,7 +78,7 @@ impl State {
             Verdict::Accepted => {}
         }
         let t = slots_of(z, codes, values, self);
-        let asked = Asked::Demand(Meeting::WithGains);
+        let asked = Asked::Demand(Meeting::WithGains(version));
         let mut after = [0.0; 121];
         let demand = hour_kept(
             z,
@@ -110,8 +111,9 @@ impl State {
         codes: &[u8; 72],
         values: &[f64; 600],
         conditions: &[u8],
+        version: u64,
     ) -> DemandReply
-        ensures { λ r. ⌜ r ≡ nextHourReply self (nextHour standardCoefficients (zoneIn z (now (codes .entry)) (now (values .entry))) self (now (conditions .entry))) ⌝ }
+        ensures { λ r. ⌜ r ≡ nextHourReply self (nextHour standardCoefficients (zoneIn z (now (codes .entry)) (now (values .entry))) version self (now (conditions .entry))) ⌝ }
     {
         let mut flags = [false; 2];
         let mut numbers = [0.0; 3];
@@ -128,6 +130,7 @@ impl State {
             codes,
             values,
             conditions,
+            version,
             &mut flags,
             &mut numbers,
             &mut key,

@@ -3,32 +3,30 @@ use crate::calls::state::AchToTriggerHeating;
 use crate::calls::state::Demand;
 use crate::calls::state::DemandAnswer;
 use crate::format::conditions::HourFront;
+use crate::hour::delivered::convective_share;
+use crate::hour::delivered::delivered_of;
+use crate::hour::delivered::total_gains;
 use crate::hour::demand::hour_demand;
 use crate::hour::load::demand_record;
 use crate::hour::solves::calc_temperatures;
-use crate::hour::solves::gains_heat_cool_of;
 use crate::hour::time_step::ZoneTerms;
 use crate::hour::time_step::solve_load;
 use crate::hour::windows::VentilationChoice;
 use crate::physics::ventilation::calc_vent_heat_transfer_coeff;
-use crate::record::units::WATTS_PER_KILOWATT;
 use crate::record::zone_record::ZoneFront;
-use solver::close_in_demand;
 ghost use mathlib.Core.Path.{_≡_};
 ghost use mathlib.Core.List.{[]};
-ghost use Rattle.solver.specs.F64.{_+ᶠ_};
 ghost use Rattle.zone.specs.Inner.Lent.{hourOf};
-ghost use Rattle.zone.specs.Hour.Demand.{gainsHeatCool};
-ghost use Rattle.zone.specs.Calls.Hour.{delivered, convectiveShare};
 ghost use Rattle.zone.specs.Inner.Operative.{controlBy};
 ghost use Rattle.zone.specs.Inner.Prepared.{prepared};
 ghost use Rattle.zone.specs.Inner.Demand.{answerWith};
 ghost use Rattle.zone.specs.Inner.Hour.{metLoad, noDemand, updateIn, demandMetIn, answerIn};
 
-// Whether the demand is met, and how: with the total gains and their convective share, or alone with the fraction of heating.
+// Whether the demand is met, and how: with the total gains and their convective share, by the rule of an entry version, or alone with the fraction of
+// heating.
 pub enum Meeting {
     NotMet,
-    WithGains,
+    WithGains(u64),
     Alone,
 }
 
@@ -48,39 +46,15 @@ pub enum MetLoad {
     Load { gains: f64, fraction: f64 },
 }
 
-// Delivered W.
-pub fn delivered_of(h: HourFront, d: Demand) -> f64
-    ensures { λ r. ⌜ r ≡ delivered (hourOf h []) d ⌝ }
-{
-    (d.space_heat_demand + d.space_cool_demand) * WATTS_PER_KILOWATT / h.delta_t_h
-}
-
-pub fn total_gains(h: HourFront, w: f64) -> f64
-    ensures { λ r. ⌜ r ≡ gainsHeatCool (hourOf h []) +ᶠ w ⌝ }
-{
-    gains_heat_cool_of(h) + w
-}
-
-// The convective share of the total gains.
-pub fn convective_share(h: HourFront, w: f64, g: f64) -> f64
-    ensures { λ r. ⌜ r ≡ convectiveShare (hourOf h []) w g ⌝ }
-{
-    if close_in_demand(g, 0.0) {
-        0.0
-    } else {
-        (h.gains_heat_cool_convective + w * h.frac_convective_heat) / g
-    }
-}
-
 fn met_load(h: HourFront, d: Demand, meeting: Meeting) -> MetLoad
     ensures { λ r. ⌜ r ≡ metLoad (hourOf h []) d meeting ⌝ }
 {
     let w = delivered_of(h, d);
     match meeting {
         Meeting::NotMet => MetLoad::NoLoad,
-        Meeting::WithGains => {
+        Meeting::WithGains(version) => {
             let g = total_gains(h, w);
-            let share = convective_share(h, w, g);
+            let share = convective_share(version, h, w, g);
             MetLoad::Load {
                 gains: g,
                 fraction: share,

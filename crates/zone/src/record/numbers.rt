@@ -24,3 +24,6 @@ pub const VENTILATION_BELOW_HEATING: u32 = 11;
 pub const NO_EFFECT: u32 = 14;
 
 pub const NOT_SETTLED: u32 = 15;
+
+// An entry version that no hour has; in a book a false entry too.
+pub const FALSE_ENTRY: u32 = 18;

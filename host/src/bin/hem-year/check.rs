@@ -5,7 +5,7 @@ use crate::files;
 use crate::inputs::{self, Year};
 use crate::words::{count, hours};
 use hem_zone::text::{conditions_faults, head_faults, read_hours, read_house, Faults, Plan};
-use hem_zone::{Book, Conditions, Head, Zone};
+use hem_zone::{Book, Conditions, Head, Zone, ENTRY_VERSION};
 use std::path::Path;
 
 pub fn check(house: &Path, hours: &Path) -> Result<(), Failure> {
@@ -108,7 +108,7 @@ fn check_year(path: &Path, zone: &Zone, year: &Year, faults: &mut Faults) -> Vec
     hours.collect()
 }
 
-/// Runs start-up and the hours: what they lead to can be refused too.
+/// Runs start-up and the hours, as in a new book: what they lead to can be refused too.
 fn check_run(house: &Path, path: &Path, zone: &Zone, year: &[Vec<u8>], faults: &mut Faults) {
     let mut book = match Book::begin(zone.head()) {
         Ok(book) => book,
@@ -116,7 +116,7 @@ fn check_run(house: &Path, path: &Path, zone: &Zone, year: &[Vec<u8>], faults: &
     };
     let mut start = 0.0;
     for (place, hour) in year.iter().enumerate() {
-        if let Err(refusal) = book.append(hour) {
+        if let Err(refusal) = book.append(hour, ENTRY_VERSION) {
             let at = format!("{}: {}", path.display(), hour_name(place, start));
             return faults
                 .add(at, format_args!("{refusal}; the hours after it were not calculated"));

@@ -10,8 +10,14 @@ pub struct Command {
 }
 
 /// Options that take a value, and what it is.
-pub const VALUED: &[(&str, &str)] =
-    &[("csv", "file"), ("svg", "file"), ("name", "name"), ("head", "file"), ("hour", "number")];
+pub const VALUED: &[(&str, &str)] = &[
+    ("csv", "file"),
+    ("svg", "file"),
+    ("name", "name"),
+    ("head", "file"),
+    ("hour", "number"),
+    ("entry-version", "number"),
+];
 
 /// Options that take none.
 pub const FLAGS: &[&str] = &["balance", "force", "hours", "nodes"];
@@ -26,7 +32,12 @@ pub const COMMANDS: &[Command] = &[
         help: HOURS,
     },
     Command { name: "check", places: &["HOUSE", "HOURS"], options: &[], help: CHECK },
-    Command { name: "run", places: &["HOUSE", "HOURS", "BOOK"], options: &[], help: RUN },
+    Command {
+        name: "run",
+        places: &["HOUSE", "HOURS", "BOOK"],
+        options: &["entry-version"],
+        help: RUN,
+    },
     Command {
         name: "report",
         places: &["BOOK"],
@@ -104,12 +115,12 @@ const CHECK: &str = "\
 hem-year check HOUSE HOURS
 
 Lists all faults of a house (HOUSE.toml or HEAD) and its hours (HOURS.csv or YEAR), a line each:
-the first 100, then their number. Where there are none, start-up and all hours are calculated, and
-what the engine refuses is told. Nothing is written.
+the first 100, then their number. Where there are none, start-up and all hours are calculated, as
+in a new book, and what the engine refuses is told. Nothing is written.
 ";
 
 const RUN: &str = "\
-hem-year run HOUSE HOURS BOOK
+hem-year run HOUSE HOURS BOOK [--entry-version N]
 
 Begins BOOK for a house (HOUSE.toml or HEAD), or takes it up, and appends those of its hours
 (HOURS.csv or YEAR) that it does not hold yet. Every hour that is held is calculated again first
@@ -120,6 +131,12 @@ from there, and the finished book is the same, byte for byte. After Ctrl-C it sa
 
 A book that is damaged, that belongs to another house or other hours, or that another run is
 writing is left as it is. Where a part of it is good, `hem-year cut` keeps that part.
+
+  --entry-version N
+               the version of the entries that are appended, which says how heating and cooling are
+               shared between the air and the surfaces. 1: both by frac_convective_heat. 2: cooling
+               by frac_convective_cool. Without it they have that of the book's last entry; in a new
+               book, or one that holds no hour yet, 2. A book may pass from 1 to 2, never back
 ";
 
 const REPORT: &str = "\
@@ -127,12 +144,12 @@ hem-year report BOOK [--csv FILE [--balance] [--nodes]] [--svg FILE]
                      [--head HOUSE] [--name NAME] [--force]
 
 Calculates the hours of BOOK again and prints totals, kWh/m², a table of months, the ten hours of
-greatest heating and cooling load and the fingerprints (SHA-256) of head, conditions and book. Two
-prints with one fingerprint are of one book.
+greatest heating and cooling load, how many entries are of which version, and the fingerprints
+(SHA-256) of head, conditions and book. Two prints with one fingerprint are of one book.
 
   --csv FILE   writes the hours as a table: number, beginning, length, all that was given for the hour,
-               demand, air change rate and temperatures. Lines with # say what it is of. The
-               beginning is written with the year 2001, since hours have no year
+               entry version, demand, air change rate and temperatures. Lines with # say what it is
+               of. The beginning is written with the year 2001, since hours have no year
   --balance    adds the heat balance's 25 columns, W
   --nodes      adds the temperature of each node, °C
   --svg FILE   draws the year
@@ -141,8 +158,8 @@ prints with one fingerprint are of one book.
   --force      replaces FILE whatever it holds; without it, only a table or drawing of a report
 
 An hour that is damaged is found, because it is not what its conditions give. What cannot be found
-is a changed condition that has no effect in its hour (as a cooling setpoint in winter): that is
-another true book, and has another fingerprint.
+is a changed condition or entry version that has no effect in its hour (as a cooling setpoint in
+winter): that is another true book, and has another fingerprint.
 ";
 
 const SHOW: &str = "\

@@ -31,6 +31,7 @@ mod store;
 mod svg;
 mod table;
 mod terrace;
+mod version;
 mod weather;
 mod words;
 
@@ -71,7 +72,12 @@ fn command(words: &Words) -> Result<(), Failure> {
         }
         "check" => check::check(words.path(0), words.path(1)),
         "show" => show(words),
-        "run" => run::run(words.path(0), words.path(1), words.path(2)),
+        "run" => run::run(&run::Run {
+            house: words.path(0),
+            hours: words.path(1),
+            book: words.path(2),
+            version: words.number_of("entry-version")?.map(|version| version as u64),
+        }),
         "cut" => cut::cut(&cut::Cut {
             book: words.path(0),
             keep: words.number(1)?,

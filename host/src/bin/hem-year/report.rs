@@ -99,6 +99,7 @@ fn text(path: &Path, print: &Print, torn: usize) -> String {
         text.push('\n');
         text += &totals(print);
         text += &extremes(&print.hours);
+        let _ = writeln!(text, "Entries    {}", print.versions());
         text += &monthly(&print.hours);
         text += &highest("heating", &print.hours, &HEATING);
         text += &highest("cooling", &print.hours, &COOLING);

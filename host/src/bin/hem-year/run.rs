@@ -6,32 +6,44 @@ use crate::inputs::{House, Year};
 use crate::places::conditions_differ;
 use crate::stop::Stop;
 use crate::store::Store;
+use crate::version;
 use crate::words::{count, grouped, hours};
 use hem_zone::Book;
 use std::path::Path;
 
-pub fn run(head: &Path, conditions: &Path, book: &Path) -> Result<(), Failure> {
-    must_be_apart(head, conditions, book)?;
-    let house = House::read(head)?;
-    let year = Year::read(conditions, &house)?;
+/// What is calculated, and into which book.
+pub struct Run<'a> {
+    pub house: &'a Path,
+    pub hours: &'a Path,
+    pub book: &'a Path,
+    /// The version of the entries that are appended, where it is given.
+    pub version: Option<u64>,
+}
+
+pub fn run(given: &Run) -> Result<(), Failure> {
+    must_be_apart(given)?;
+    let house = House::read(given.house)?;
+    let year = Year::read(given.hours, &house)?;
+    version::must_be_known(&house.zone, given.version)?;
     let stop = Stop::listen();
-    let mut store = Store::open(book, head, &house.zone)?;
-    must_agree(book, &store.book, conditions, &year)?;
+    let mut store = Store::open(given.book, given.house, &house.zone)?;
+    must_agree(given.book, &store.book, given.hours, &year)?;
+    let version = version::to_append(given.book, &mut store.book, given.version)?;
     let dropped = store.drop_torn_tail()?;
     let held = store.book.hours();
-    store.append_missing(&year, &stop)?;
-    files::print(&summary(book, held, dropped, &store.book))?;
+    store.append_missing(&year, version, &stop)?;
+    files::print(&summary(given.book, held, dropped, &store.book))?;
     match held > year.len() {
-        true => files::print(&fewer(conditions, &year)),
+        true => files::print(&fewer(given.hours, &year)),
         false => Ok(()),
     }
 }
 
 /// The book must not be written over one of the files that it is made from.
-fn must_be_apart(head: &Path, conditions: &Path, book: &Path) -> Result<(), Failure> {
-    for other in [head, conditions] {
-        if files::same_file(book, other) {
-            return Err(Failure::file(book, "is given as the book and as another file too"));
+fn must_be_apart(given: &Run) -> Result<(), Failure> {
+    for other in [given.house, given.hours] {
+        if files::same_file(given.book, other) {
+            return Err(Failure::file(given.book, "is given as the book and as another file too"));
         }
     }
     Ok(())
@@ -66,12 +78,15 @@ fn summary(path: &Path, held: usize, dropped: usize, book: &Book) -> String {
             count(dropped, "byte")
         );
     }
+    let appended = match book.hours() - held {
+        0 => "0 appended".into(),
+        more => format!("{} appended with entry version {}", grouped(more), book.last_version()),
+    };
     text += &format!(
-        "{}: {} {} held, {} appended, {} bytes\n",
+        "{}: {} {} held, {appended}, {} bytes\n",
         path.display(),
         hours(held),
         if held == 1 { "was" } else { "were" },
-        grouped(book.hours() - held),
         grouped(book.bytes().len())
     );
     text

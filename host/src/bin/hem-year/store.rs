@@ -60,12 +60,17 @@ impl<'a> Store<'a> {
         Ok(torn)
     }
 
-    /// Appends the hours that the book does not hold yet.
-    pub fn append_missing(&mut self, year: &Year, stop: &Stop) -> Result<(), Failure> {
+    /// Appends the hours that the book does not hold yet, as entries of this version.
+    pub fn append_missing(
+        &mut self,
+        year: &Year,
+        version: u64,
+        stop: &Stop,
+    ) -> Result<(), Failure> {
         let mut progress = Progress::new(year.len());
         for place in self.book.hours()..year.len() {
             let done = match stop.asked() {
-                None => self.append(year.hour(place)),
+                None => self.append(year.hour(place), version),
                 Some(status) => Err(Failure::Stopped(self.stopped(), status)),
             };
             if let Err(failure) = done {
@@ -78,10 +83,10 @@ impl<'a> Store<'a> {
         self.sync()
     }
 
-    fn append(&mut self, conditions: &[u8]) -> Result<(), Failure> {
+    fn append(&mut self, conditions: &[u8], version: u64) -> Result<(), Failure> {
         let held = self.book.hours();
         let name = hour_name(held, self.end);
-        let entry = self.book.append(conditions).map_err(|refusal| {
+        let entry = self.book.append(conditions, version).map_err(|refusal| {
             let text = format!("{name}: {refusal}; the book holds the {} before it", hours(held));
             Failure::Refused(text)
         })?;

@@ -139,6 +139,7 @@ fn open_treatments(bits: u8) -> String {
 
 fn results(row: &mut Row, hour: &HourFigures, entry: &Entry) {
     let Demand { ach_cooling: rate, ach_to_trigger_heating, .. } = entry.demand();
+    row.text("entry_version", entry.version().to_string());
     row.number("heating_kWh", hour.heating);
     row.number("cooling_kWh", hour.cooling);
     row.number("ach_chosen", rate);
@@ -169,7 +170,7 @@ fn start(print: &Print, columns: &Columns) -> Result<Option<State>, Failure> {
 
 /// The heat balance of an hour, which is calculated again; the state moves on.
 fn step(print: &Print, state: &mut State, entry: &Entry) -> Result<HeatBalance, Failure> {
-    let step = print.book.zone().hour_step(state, entry.conditions_bytes());
+    let step = print.book.zone().hour_step(state, entry.conditions_bytes(), entry.version());
     let (after, _, balance) = step.map_err(|r| Failure::Refused(r.to_string()))?;
     *state = after;
     Ok(balance)

@@ -10,8 +10,8 @@ entry-length-requires c κs = search tested-few
 put-entry-requires : tie.Need-put-entry-requires
 put-entry-requires c κs = (search tested-few, search step-size, search append-room)
 
-add-accept-2 : tie.Need-add-accept-2
-add-accept-2 c = search (needs, append-sum)
+add-end : tie.Need-add-end
+add-end c = search (needs, append-sum)
 
 returns : tie.Need-returns
 returns c = search append-cases
@@ -22,5 +22,5 @@ returns-2 c = search append-cases
 pub append-entry-spec : {M : Type 1} → statement M
 append-entry-spec =
     tie.close
-    (tie.spec entry-length-requires (λ c κs. tt) put-entry-requires (λ c. search needs) add-accept-2
+    (tie.spec entry-length-requires (λ c κs. tt) add-end put-entry-requires (λ c. search needs)
     (λ c κs. tt) (λ c κs. tt) (λ c. search needs) returns returns-2)

@@ -5,7 +5,7 @@ use lib.ListN.{length, drop}
 use Rattle.zone.specs.Inner.Lent.{zoneIn}
 use Rattle.zone.specs.Inner.Kept.{arrays, held, Kept}
 use Rattle.book.specs.Model.Calls as Book
-use Rattle.book.specs.Year.{yearInterface}
+use Rattle.book.specs.Year.{noEntryVersion, yearInterface}
 use Rattle.zone.proofs.Promise.{tested-few}
 use Rattle.book.proofs.TakeUp.{loop-cases, left-length, check-false, check-right}
 use borrow.Author.Needs.{needs}
@@ -13,13 +13,13 @@ use Rattle.book.proofs.entries.check_entries.Statement.{statement}
 use Rattle.book.proofs.entries.check_entries.Tie as tie
 
 abbrev Inv-loop : tie.InvT-loop
-Inv-loop z codes values n given bytes flags₀ numbers₀ key₀ two₀ diag₀ next₀ prev₀ dense₀ interchanges₀ column₀ m state₀ count₀ at₀ flags numbers key two diag next prev dense interchanges column state count at =
+Inv-loop z codes values n given bytes flags₀ numbers₀ key₀ two₀ diag₀ next₀ prev₀ dense₀ interchanges₀ column₀ m state₀ last₀ count₀ at₀ flags numbers key two diag next prev dense interchanges column state last count at =
     (at ≤ length bytes)
-    × (Book.checkEntries yearInterface (zoneIn z codes values) 0 state₀ n (Book.wholeEntries yearInterface (zoneIn z codes values) (drop n bytes)) ≡ Book.checkEntries yearInterface (zoneIn z codes values) count state at (Book.wholeEntries yearInterface (zoneIn z codes values) (drop at bytes)))
+    × (Book.checkEntries yearInterface (zoneIn z codes values) 0 (record { state = state₀; lastVersion = noEntryVersion }) n (Book.wholeEntries yearInterface (zoneIn z codes values) (drop n bytes)) ≡ Book.checkEntries yearInterface (zoneIn z codes values) count (record { state = state; lastVersion = last }) at (Book.wholeEntries yearInterface (zoneIn z codes values) (drop at bytes)))
     × Kept (zoneIn z codes values) (held flags numbers key (arrays two diag next prev dense interchanges) column)
 
 abbrev μ-loop : tie.MeasureT-loop
-μ-loop z codes values n given bytes flags₀ numbers₀ key₀ two₀ diag₀ next₀ prev₀ dense₀ interchanges₀ column₀ m state₀ count₀ at₀ flags numbers key two diag next prev dense interchanges column state count at = length bytes - at
+μ-loop z codes values n given bytes flags₀ numbers₀ key₀ two₀ diag₀ next₀ prev₀ dense₀ interchanges₀ column₀ m state₀ last₀ count₀ at₀ flags numbers key two diag next prev dense interchanges column state last count at = length bytes - at
 
 loop-holds : tie.Need-loop-holds Inv-loop μ-loop
 loop-holds c = (c .before .before .pre .1, refl, c .before .before .pre .2)
@@ -43,7 +43,7 @@ returns-2 c =
     let l = a .loop in
     let n = a .before in
     let s = n .before .before in
-    check-false (zoneIn (s .args .z) (s .args .codes .now) (s .args .values .now)) _ (n .entry-length .ensures .0) (l .count) (l .state) (l .at) (s .args .bytes .now) (s .args .given) _
+    check-false (zoneIn (s .args .z) (s .args .codes .now) (s .args .values .now)) _ (n .entry-length .ensures .0) (l .count) (l .state) (l .last-version) (l .at) (s .args .bytes .now) (s .args .given) _
     (l .inv .0) (l .inv .1) (m .loop-test .taken) (o .if1 .left) _ (x .check-entry .ensures .0) _ _ (c .before .before .v .given .1) _ (c .refuse2 .ensures)
 
 add-at : tie.Need-add-at Inv-loop μ-loop
@@ -64,7 +64,7 @@ loop-again c =
     let e = x .check-entry .ensures in
     let more = m .loop-test .taken in (
       omega (arith, l .inv .0, more),
-      check-right (zoneIn (s .args .z) (s .args .codes .now) (s .args .values .now)) _ (n .entry-length .ensures .0) (l .count) (l .state) (l .at) (s .args .bytes .now) (s .args .given) _
+      check-right (zoneIn (s .args .z) (s .args .codes .now) (s .args .values .now)) _ (n .entry-length .ensures .0) (l .count) (l .state) (l .last-version) (l .at) (s .args .bytes .now) (s .args .given) _
           (l .inv .0) (l .inv .1) more (o .if1 .left) _ (e .0) (c .before .enum-told .given .1),
       e .1,
     )

@@ -6,10 +6,10 @@ use Rattle.book_torture.proofs.full.hours_of.Statement.{statement}
 use Rattle.book_torture.proofs.full.hours_of.Tie as tie
 
 abbrev Inv-loop : tie.InvT-loop
-Inv-loop b t₀ at₀ counter₀ t at counter = Unit {0}
+Inv-loop b from t₀ at₀ counter₀ t at counter = Unit {0}
 
 abbrev μ-loop : tie.MeasureT-loop
-μ-loop b t₀ at₀ counter₀ t at counter = 8784 - counter
+μ-loop b from t₀ at₀ counter₀ t at counter = 4392 - counter
 
 pub hours-of-spec : {M : Type 1} → statement M
 hours-of-spec =

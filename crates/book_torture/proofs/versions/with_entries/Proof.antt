@@ -2,16 +2,16 @@
 use Prim.Native.Nat.{_-_}
 use native.Mathlib.Omega.{arith}
 use borrow.Author.Needs.{needs}
-use Rattle.replay.proofs.refusals.all_are.Statement.{statement}
-use Rattle.replay.proofs.refusals.all_are.Tie as tie
+use Rattle.book_torture.proofs.versions.with_entries.Statement.{statement}
+use Rattle.book_torture.proofs.versions.with_entries.Tie as tie
 
 abbrev Inv-loop : tie.InvT-loop
-Inv-loop s x same₀ i₀ same i = Unit {0}
+Inv-loop change b₀ out₀ entry₀ b out entry = Unit {0}
 
 abbrev μ-loop : tie.MeasureT-loop
-μ-loop s x same₀ i₀ same i = 1024 - i
+μ-loop change b₀ out₀ entry₀ b out entry = 40 - entry
 
-pub all-are-spec : {M : Type 1} → statement M
-all-are-spec =
+pub with-entries-spec : {M : Type 1} → statement M
+with-entries-spec =
     tie.close
     (tie.spec Inv-loop μ-loop (λ c. tt) (λ c κs. search needs) (λ c. search needs) (λ c. omega arith) (λ c. search needs) (λ c. search needs))

@@ -1,6 +1,6 @@
 use mathlib.Core.Path.{refl}
-use Rattle.zone.proofs.hour.hour.total_gains.Statement.{statement}
-use Rattle.zone.proofs.hour.hour.total_gains.Tie as tie
+use Rattle.zone.proofs.hour.delivered.total_gains.Statement.{statement}
+use Rattle.zone.proofs.hour.delivered.total_gains.Tie as tie
 
 returns : tie.Need-returns
 returns c = rw (c .gains-heat-cool-of .ensures) refl

@@ -2,8 +2,8 @@ use Rattle.zone.specs.Calls.Hour.{delivered}
 use Rattle.solver.specs.F64.{decimal}
 use lib.Ieee.{ofBits}
 use mathlib.Core.Path.{refl}
-use Rattle.zone.proofs.hour.hour.delivered_of.Statement.{statement}
-use Rattle.zone.proofs.hour.hour.delivered_of.Tie as tie
+use Rattle.zone.proofs.hour.delivered.delivered_of.Statement.{statement}
+use Rattle.zone.proofs.hour.delivered.delivered_of.Tie as tie
 
 returns : tie.Need-returns
 unfolding delivered ofBits decimal

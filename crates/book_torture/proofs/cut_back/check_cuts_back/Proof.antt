@@ -1,0 +1,17 @@
+-- Safe, and the loop counts up to its end.
+use Prim.Native.Nat.{_-_}
+use native.Mathlib.Omega.{arith}
+use borrow.Author.Needs.{needs}
+use Rattle.book_torture.proofs.cut_back.check_cuts_back.Statement.{statement}
+use Rattle.book_torture.proofs.cut_back.check_cuts_back.Tie as tie
+
+abbrev Inv-loop : tie.InvT-loop
+Inv-loop z codes values passed plain end from count right₀ cut₀ counter₀ right cut counter = Unit {0}
+
+abbrev μ-loop : tie.MeasureT-loop
+μ-loop z codes values passed plain end from count right₀ cut₀ counter₀ right cut counter = count - counter
+
+pub check-cuts-back-spec : {M : Type 1} → statement M
+check-cuts-back-spec =
+    tie.close
+    (tie.spec Inv-loop μ-loop (λ c. tt) (λ c κs. search needs) (λ c κs. search needs) (λ c κs. search needs) (λ c. search needs) (λ c. omega arith) (λ c. search needs) (λ c. search needs))
