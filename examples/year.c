@@ -6,6 +6,9 @@
 #include <stdlib.h>
 #include <string.h>
 
+/* Entries of version 2, as in new books of hem-year: power that cools is shared by the fraction of cooling. */
+#define VERSION 2
+
 static void fail(const char *what, const char *why) {
     fprintf(stderr, "year: %s: %s\n", what, why);
     exit(2);
@@ -53,7 +56,7 @@ int main(int argc, char **argv) {
     for (size_t at = 0; at < year_len; at += size) {
         const uint8_t *added = book + used;
         answer = hem_append(head, head_len, book, room, temps, &nodes, &count, &used, &last_version, year + at, size,
-                            HEM_ENTRY_VERSION);
+                            VERSION);
         if (answer)
             return fprintf(stderr, "year: hour %zu: refusal %u, element %u\n", at / size + 1, HEM_NUMBER(answer), HEM_INDEX(answer)), 1;
         double need = float_at(added + HEM_ENTRY_AT_HEATING(n)), length = float_at(year + at);

@@ -49,7 +49,7 @@ extern "C" {
 /* The newest version of entries; hours have 1 and 2. It says how the power that heating or cooling delivers
    is shared between the air and the surfaces. Version 1: by the convective fraction of heating, always.
    Version 2: a power below 0 by the convective fraction of cooling, any other by that of heating. */
-#define HEM_ENTRY_VERSION 2
+#define HEM_NEWEST_ENTRY_VERSION 2
 
 /* The stack, in bytes, that suffices for every call (31 KB were measured, by hem_take_up; bench/stack). */
 #define HEM_STACK 49152
@@ -271,7 +271,8 @@ uint32_t hem_update(const uint8_t *head, size_t head_len, double temps[HEM_TEMPS
                     double balance[HEM_BALANCE]);
 
 /* One hour: its demand, and the temperatures after that demand was met, by the rule of an entry version
-   (HEM_ENTRY_VERSION; every number is taken, so 257 is not 1). Replaces `temps`, writes `out` and `balance`.
+   (1 to HEM_NEWEST_ENTRY_VERSION; every number is taken, so 257 is not 1). Replaces `temps`, writes `out`
+   and `balance`.
    Refused with 1 to 5, 18 for a version that no hour has, then 6 to 14. */
 uint32_t hem_hour_step(const uint8_t *head, size_t head_len, double temps[HEM_TEMPS], uint64_t nodes,
                        const uint8_t *cond, size_t cond_len, uint64_t version, double out[HEM_OUT],

@@ -3,7 +3,7 @@ use crate::houses;
 use hem_zone::ffi::*;
 
 /// Entries have version 1, whose hours are those of the original.
-const VERSION: u64 = hem_zone::VERSION_1;
+const VERSION: u64 = hem_zone::ENTRY_VERSION_1;
 
 /// Node temperatures.
 #[derive(Clone)]

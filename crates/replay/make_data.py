@@ -18,16 +18,18 @@ greatest number of elements and the start-up limit that stand there. A case and 
           start-up the node temperatures; of an hour step all of these
 
 The Rust's hour is version 1's. Each hour step that it answers with values is also kept as one of version 2, with the
-answer that `in_version_2` gets from the Rust. Numbers of the answers that are no values: see NUMBERS. Left out are cases whose values lie beyond a million (13 in the
-paper, a value in the Rust).
+answer that `in_version_2` gets from the Rust. At least COOLED of them are cooled with two fractions that differ: only
+there do the versions part. Numbers of the answers that are no values: see NUMBERS. Left out are cases whose values lie
+beyond a million (13 in the paper, a value in the Rust).
 
-data/refusals: rows made from the papers' rules alone (document 01, and document 02's (a) for entry versions). `head_answer`, `conditions_answer` and `state_answer` below
-are the paper's tests in the paper's order; the houses that give 12 to 15 are constructed, the entries of take-up rows
-are those of House P in balance, where every result is 0 and every temperature 20. A row:
+data/refusals: rows made from the papers' rules alone (document 01, and document 02's (a) for entry versions).
+`head_answer`, `conditions_answer` and `state_answer` below are the paper's tests in the paper's order; the houses that
+give 12 to 15 are constructed, the entries of take-up rows are those of House P in balance, where every result is 0 and
+every temperature 20, or heated and cooled by hand (`make_powered`). A row:
 
     u32   length of what follows
     u8    call (1 demand, 2 update, 3 start-up, 4 hour step, 5 begin, 6 append, 7 take-up, 8 the head alone,
-          structure and values, printed as zone_of_head, 9 zone_test)
+          structure and values, printed as read_head, 9 zone_test)
     u8    expected number (0: accepted), u16 expected index
     u32   length, the head (of a take-up: the whole book)
     u8    change of the zone after its head is read (0 none, 1 count, 2 treatments of the first element,
@@ -35,8 +37,10 @@ are those of House P in balance, where every result is 0 and every temperature 2
     u16   the state's node count, u16 count of temperatures, the temperatures
     u16   length, the conditions; 3 f64 update's gains, fraction and rate
     u32   count of entries and u32 used length that the call is given, u32 length of the buffer
-    u64   version that an hour step or an append names, u64 last version that a call on a book is given, u64 last
-          version that it hands back where it is accepted
+    u64   version that an hour step or an append names, u64 last version that a call on a book is given
+    u16   count, the expected values of an accepted call, each 8 bytes: of an hour step as above; of a call on a book
+          the count of entries, the used length, the last version and the node temperatures that it hands back, and
+          of an append the version byte that it writes; none of a head or of a refused call
 """
 import collections
 import itertools
@@ -78,6 +82,8 @@ MILLION = 1e6
 HEATING_FRACTION, COOLING_FRACTION = 32, 40
 # entry versions that hours have, and some that none has
 VERSIONS, NO_VERSIONS = (1, 2), (0, 3, 257, 2 ** 64 - 1)
+# cases that the versions answer differently, and how many there are at least
+COOLED_BY_TWO, COOLED = "op 5 cooled, fractions differ", 100
 
 
 def u16(n):
@@ -169,6 +175,10 @@ def beyond(op, values, nodes):
     return any(not abs(struct.unpack(">d", struct.pack(">Q", v))[0]) <= MILLION for v in temps)
 
 
+def fractions_differ(conditions):
+    return floats_at(conditions, HEATING_FRACTION, 1) != floats_at(conditions, COOLING_FRACTION, 1)
+
+
 def cover(seen, profile, op, head, conditions, number, values):
     seen["%s op %d" % (profile, op)] += 1
     seen["number %d" % number] += 1
@@ -182,6 +192,8 @@ def cover(seen, profile, op, head, conditions, number, values):
             seen["treatment closed"] += t - bin(bits).count("1")
     if op in (1, 4, 5) and number == 0:
         seen["heating" if values[0] else "cooling" if values[1] % 2 ** 63 else "neither"] += 1
+        if op == 5 and values[1] % 2 ** 63 and fractions_differ(conditions):
+            seen[COOLED_BY_TWO] += 1
         if conditions[96] == 1:
             target = int.from_bytes(conditions[97:105], "big")
             seen["windows used" if values[2] != target else "windows not used"] += 1
@@ -248,7 +260,8 @@ def make_cases(oracle, program, out):
                 cover(seen, profile, op, head, conditions, number, values)
         total = f.tell()
     for name in sorted(seen):
-        print("  %-18s %d" % (name, seen[name]))
+        print("  %-29s %d" % (name, seen[name]))
+    assert COOLED <= seen[COOLED_BY_TWO]
     print("cases: %d kept, %d left out (beyond a million), %d bytes" % (kept, left_out, total))
 
 
@@ -408,20 +421,61 @@ HOT_START = head_of([element(area=1e-6, h=(1e-6, 0.0, 0.0), k=(0.0, 0.0))],
                     values=(1e5, 1e-3, 1e-9, 10.0, 20.0, NO_CONTROL))
 
 
+# House P in balance: bytes of its head and of an entry, and its temperatures
+HEAD, ENTRY, BALANCE = 180, 216, (20.0, 20.0, 20.0)
+VERSION_PLACE = 4
+
+
+def hour_values():
+    """demand, temperatures and heat balance of House P in balance"""
+    return [f64(x) for x in (0.0,) * 5 + BALANCE + (0.0,) * 25]
+
+
+def book_values(count, used, last, temps):
+    """what a call on a book hands back"""
+    return [u64(count), u64(used), u64(last)] + [f64(t) for t in temps]
+
+
+def values_after(call, head, count, used, version, after):
+    """what an accepted call gives, on a book with these temperatures; but for a head alone, every accepted row is of
+    House P"""
+    if call == 8:
+        return []
+    assert head[:HEAD] == HOUSE_P
+    if call == 4:
+        return hour_values()
+    if call == 5:
+        return book_values(0, HEAD, 1, after)
+    if call == 6:
+        return book_values(count + 1, used + ENTRY, version, after) + [u64(version)]
+    assert call == 7
+    entries = (len(head) - HEAD) // ENTRY
+    end = HEAD + ENTRY * entries
+    return book_values(entries, end, head[end - ENTRY + VERSION_PLACE] if entries else 1, after)
+
+
 class Rows:
     def __init__(self):
-        self.rows, self.numbers, self.calls = [], collections.Counter(), collections.Counter()
+        self.rows, self.numbers, self.calls, self.versions = [], collections.Counter(), collections.Counter(), set()
 
     def add(self, call, expected, head=b"", change=(0, 0), nodes=None, temps=(), conditions=b"", own=(0.0, 0.0, 0.0),
-            count=0, used=0, room=0, version=1, last=1, after=1):
+            count=0, used=0, room=0, version=1, last=1, after=BALANCE):
         number, index = expected
         nodes = len(temps) if nodes is None else nodes
+        values = [] if number else values_after(call, head, count, used, version, after)
         b = bytes([call, number]) + u16(index) + u32(len(head)) + head + bytes([change[0]]) + u16(change[1])
         b += u16(nodes) + u16(len(temps)) + f64(*temps) + u16(len(conditions)) + conditions + f64(*own)
-        b += u32(count) + u32(used) + u32(room) + u64(version) + u64(last) + u64(after)
+        b += u32(count) + u32(used) + u32(room) + u64(version) + u64(last)
+        b += u16(len(values)) + b"".join(values)
         self.rows.append(record(b))
         self.numbers[number] += 1
         self.calls[call] += 1
+        self.versions.add((call, version, number))
+
+    def add_each(self, call, *row, **given):
+        """a row; of an hour step or an append, which name a version, one for each"""
+        for version in VERSIONS if call in (4, 6) else (1,):
+            self.add(call, *row, version=version, **given)
 
 
 def first(*answers):
@@ -486,9 +540,9 @@ def make_heads(rows, r):
         rows.add(9, answer, HOUSE_Q, change)
         rows.add(3, answer, HOUSE_Q, change)
         for call in (1, 2, 4):
-            rows.add(call, answer, HOUSE_Q, change, None, t, c)
-            rows.add(call, answer, HOUSE_Q, change, None, [1e7] * 3, c[:-1])
-        rows.add(6, answer, HOUSE_Q, change, None, t, c, count=9000, used=0, room=0)
+            rows.add_each(call, answer, HOUSE_Q, change, None, t, c)
+            rows.add_each(call, answer, HOUSE_Q, change, None, [1e7] * 3, c[:-1])
+        rows.add_each(6, answer, HOUSE_Q, change, None, t, c, count=9000, used=0, room=0)
 
 
 def state_faults(head):
@@ -519,12 +573,12 @@ def make_calls(rows, r):
         variants = [c[:-1], c + b"\0", b"", crossed, low_vent, both] + [put(c, at, new) for at, new in faults if new]
         for nodes, temps in bad:
             for call in (1, 2, 4):
-                rows.add(call, (6, 0), head, (0, 0), nodes, temps, r.choice(variants))
+                rows.add_each(call, (6, 0), head, (0, 0), nodes, temps, r.choice(variants))
         for b in variants:
             for call in (1, 4) if head is HOUSE_P else (r.choice((1, 4)),):
                 answer = first(conditions_answer(head, b), tail(b))
                 if answer[0]:
-                    rows.add(call, answer, head, (0, 0), good[0], good[1], b)
+                    rows.add_each(call, answer, head, (0, 0), good[0], good[1], b)
             answer = conditions_answer(head, b)
             if answer[0]:
                 rows.add(2, answer, head, (0, 0), good[0], good[1], b, (1e9, -1.0, -1.0))
@@ -537,21 +591,21 @@ def make_calls(rows, r):
             b = put(put(r.choice((c, both)), a1, n1), a2, n2)
             answer = first(conditions_answer(head, b), tail(b))
             if answer[0]:
-                rows.add(r.choice((1, 4)), answer, head, (0, 0), good[0], good[1], b)
+                rows.add_each(r.choice((1, 4)), answer, head, (0, 0), good[0], good[1], b)
 
 
 def make_solves(rows):
     """12, 13, 14, 15 by constructed houses"""
     t = [20.0] * 3
     for call in (1, 2, 4):
-        rows.add(call, (12, 0), SINGULAR, (0, 0), 3, t, conditions_of(SINGULAR))
+        rows.add_each(call, (12, 0), SINGULAR, (0, 0), 3, t, conditions_of(SINGULAR))
     rows.add(3, (12, 0), SINGULAR)
     crossed = put(put(conditions_of(SINGULAR), 48, f64(22.0)), 56, f64(21.0))
     rows.add(1, (10, 0), SINGULAR, (0, 0), 3, t, crossed)
-    rows.add(4, (11, 0), SINGULAR, (0, 0), 3, t, put(conditions_of(SINGULAR), 64, f64(19.0)))
+    rows.add_each(4, (11, 0), SINGULAR, (0, 0), 3, t, put(conditions_of(SINGULAR), 64, f64(19.0)))
     hot = put(conditions_of(LIGHT), 16, f64(1e7))
     for call in (1, 2, 4):
-        rows.add(call, (13, 0), LIGHT, (0, 0), 3, t, hot)
+        rows.add_each(call, (13, 0), LIGHT, (0, 0), 3, t, hot)
     rows.add(2, (13, 0), LIGHT, (0, 0), 3, t, conditions_of(LIGHT), (1e7, 1.0, 0.0))
     rows.add(3, (13, 0), HOT_START)
     # 12 before 13: no pivot, and gains that would carry any house beyond a million
@@ -560,7 +614,7 @@ def make_solves(rows):
     cooling = put(put(conditions_of(WEAK), 48, f64(15.0)), 56, f64(19.0))
     for c in (wanted, cooling):
         rows.add(1, (14, 0), WEAK, (0, 0), 3, t, c)
-        rows.add(4, (14, 0), WEAK, (0, 0), 3, t, c)
+        rows.add_each(4, (14, 0), WEAK, (0, 0), 3, t, c)
     # 14 is tested before the setpoint's equality: the free temperature is just below the setpoint, and close to it
     near = put(conditions_of(WEAK), 48, f64(20.000000000001))
     rows.add(1, (14, 0), WEAK, (0, 0), 3, t, near)
@@ -575,10 +629,11 @@ def make_solves(rows):
     rows.add(1, (9, 1), SINGULAR, (0, 0), 3, t, put(conditions_of(SINGULAR), 113, f64(101.0)))
 
 
-def entry_p(version=1):
-    """the entry of House P in balance: no power is delivered, so it is the same under every version but for its byte"""
-    b = bytes([version]) + conditions_of(HOUSE_P) + f64(0.0, 0.0, 0.0) + b"\0" + f64(0.0) + f64(20.0, 20.0, 20.0)
-    assert len(b) == 212
+def entry_p(version=1, conditions=None, heating=0.0, cooling=0.0, temps=BALANCE):
+    """an entry of House P; in balance no power is delivered, so it is the same under every version but for its byte"""
+    b = bytes([version]) + (conditions or conditions_of(HOUSE_P)) + f64(heating, cooling, 0.0) + b"\0" + f64(0.0)
+    b += f64(*temps)
+    assert len(b) == ENTRY - 4
     return record(b)
 
 
@@ -603,25 +658,33 @@ def make_books(rows, r):
         if head_answer(b)[0]:
             rows.add(5, head_answer(b), b, room=r.choice((0, 500)), **given)
     # append: 17, the hour step's, the buffer
-    rows.add(6, (0, 0), p, (0, 0), 3, t, c, count=8783, used=180, room=396)
+    rows.add_each(6, (0, 0), p, (0, 0), 3, t, c, count=8783, used=180, room=396)
     crossed = put(put(c, 48, f64(22.0)), 56, f64(21.0))
     for count in (8784, 8785, 2 ** 32 - 1):
-        rows.add(6, (17, 0), p, (0, 0), 3, t, c, count=count, used=180, room=396)
-        rows.add(6, (17, 0), p, (0, 0), 3, t, c, count=count, used=180, room=0)
-        rows.add(6, (17, 0), p, (0, 0), 2, t, c[:-1], count=count, used=180, room=396)
-        rows.add(6, (17, 0), p, (0, 0), 3, t, crossed, count=count, used=180, room=396)
+        rows.add_each(6, (17, 0), p, (0, 0), 3, t, c, count=count, used=180, room=396)
+        rows.add_each(6, (17, 0), p, (0, 0), 3, t, c, count=count, used=180, room=0)
+        rows.add_each(6, (17, 0), p, (0, 0), 2, t, c[:-1], count=count, used=180, room=396)
+        rows.add_each(6, (17, 0), p, (0, 0), 3, t, crossed, count=count, used=180, room=396)
     for used, room in ((180, 395), (180, 180), (180, 0), (397, 396), (2 ** 32 - 1, 396), (181, 396)):
-        rows.add(6, (16, 0), p, (0, 0), 3, t, c, count=5, used=used, room=room)
-        rows.add(6, (10, 0), p, (0, 0), 3, t, crossed, count=5, used=used, room=room)
-        rows.add(6, (6, 0), p, (0, 0), 4, t, crossed, count=5, used=used, room=room)
-        rows.add(6, (7, 0), p, (0, 0), 3, t, c[1:], count=5, used=used, room=room)
-    rows.add(6, (12, 0), SINGULAR, (0, 0), 3, t, conditions_of(SINGULAR), count=5, used=180, room=0)
-    rows.add(6, (14, 0), WEAK, (0, 0), 3, t, put(c, 48, f64(21.0)), count=5, used=180, room=0)
+        rows.add_each(6, (16, 0), p, (0, 0), 3, t, c, count=5, used=used, room=room)
+        rows.add_each(6, (10, 0), p, (0, 0), 3, t, crossed, count=5, used=used, room=room)
+        rows.add_each(6, (6, 0), p, (0, 0), 4, t, crossed, count=5, used=used, room=room)
+        rows.add_each(6, (7, 0), p, (0, 0), 3, t, c[1:], count=5, used=used, room=room)
+    no_room = {"count": 5, "used": 180, "room": 0}
+    for number, b in ((8, put(c, 96, b"\2")), (9, put(c, 0, f64(0.0))), (11, put(c, 64, f64(19.0)))):
+        rows.add_each(6, (number, 0), p, (0, 0), 3, t, b, **no_room)
+    rows.add_each(6, (9, 1), p, (0, 0), 3, t, put(c, 113, f64(101.0)), **no_room)
+    rows.add_each(6, (12, 0), SINGULAR, (0, 0), 3, t, conditions_of(SINGULAR), **no_room)
+    rows.add_each(6, (13, 0), LIGHT, (0, 0), 3, t, put(conditions_of(LIGHT), 16, f64(1e7)), **no_room)
+    rows.add_each(6, (14, 0), WEAK, (0, 0), 3, t, put(c, 48, f64(21.0)), **no_room)
     # take-up: head, start-up, then entry by entry; a rest shorter than an entry is dropped, whatever it holds
     book = p + e * 5
     rows.add(7, (0, 0), book, **given)
     rows.add(7, (0, 0), book[:-1], **given)
-    rows.add(7, (0, 0), book + b"\xff" * 215, **given)
+    for n in (4, 5, 6, 100, 215):
+        rows.add(7, (0, 0), book + b"\xff" * n, **given)
+        for version in (0, 3):
+            rows.add(7, (0, 0), book + put(e, VERSION_PLACE, bytes([version]))[:n], **given)
     rows.add(7, (0, 0), p, **given)
     for n in (0, 3, 4, 179):
         rows.add(7, head_answer(book[:n]), book[:n], **given)
@@ -636,16 +699,16 @@ def make_books(rows, r):
     places = [0, 1, 2, 3, 4, 159, 166, 167, 174, 175, 182, 183, 184, 191, 192, 199, 200, 208, 215]
     for i in range(5):
         for at in places:
-            k = 180 + 216 * i + at
+            k = HEAD + ENTRY * i + at
             rows.add(7, (18, i), put(book, k, bytes([book[k] ^ r.choice((1, 128, 255))])), **given)
         # conditions that the hour step refuses: 9, 8, 10
         for at, new in ((5, f64(0.0)), (101, b"\2"), (110, b"\1"), (53, f64(25.0)), (118, f64(101.0)), (158, b"\1")):
-            rows.add(7, (18, i), put(book, 180 + 216 * i + at, new), **given)
+            rows.add(7, (18, i), put(book, HEAD + ENTRY * i + at, new), **given)
     for _ in range(10):
         i, j = sorted(r.sample(range(5), 2))
-        b = put(put(book, 180 + 216 * i + 4, b"\7"), 180 + 216 * j + 4, b"\7")
+        b = put(put(book, HEAD + ENTRY * i + 4, b"\7"), HEAD + ENTRY * j + 4, b"\7")
         rows.add(7, (18, i), b, **given)
-        rows.add(7, (0, 0) if j == 4 else (18, j), put(book, 180 + 216 * j + 4, b"\7")[:-1], **given)
+        rows.add(7, (0, 0) if j == 4 else (18, j), put(book, HEAD + ENTRY * j + 4, b"\7")[:-1], **given)
     # one more byte in front: every later entry is false
     rows.add(7, (18, 0), p + b"\0" + e * 5, **given)
 
@@ -672,9 +735,9 @@ def make_append_versions(rows):
     room = {"used": 180, "room": 396}
     # a last version that no book hands back is compared all the same
     for version, last in ((1, 0), (1, 1), (2, 0), (2, 1), (2, 2)):
-        rows.add(6, (0, 0), p, (0, 0), 3, t, c, count=5, version=version, last=last, after=version, **room)
+        rows.add(6, (0, 0), p, (0, 0), 3, t, c, count=5, version=version, last=last, **room)
     falling = [(1, 2), (1, 3), (2, 3), (1, 2 ** 64 - 1), (2, 2 ** 64 - 1)]
-    unknown = [(version, last) for version in NO_VERSIONS for last in (1, 2, 2 ** 64 - 1)]
+    unknown = [(version, last) for version in NO_VERSIONS for last in (0, 1, 2, 2 ** 64 - 1)]
     for version, last in falling + unknown:
         named = {"version": version, "last": last}
         for count in (0, 1, 5, 8783):
@@ -690,13 +753,13 @@ def make_append_versions(rows):
 
 
 def book_answer(versions):
-    """number and index of a book whose entries are true but for these versions, and the last version held"""
+    """number and index of a book whose entries are true but for these versions"""
     last = 1
     for i, version in enumerate(versions):
         if version not in VERSIONS or version < last:
-            return (18, i), 1
+            return 18, i
         last = version
-    return (0, 0), last
+    return 0, 0
 
 
 def make_book_versions(rows):
@@ -705,12 +768,57 @@ def make_book_versions(rows):
     orders += [order[:i] + (version,) + order[i + 1:] for order in ((1, 1, 1, 1, 1), (1, 1, 2, 2, 2), (2, 2, 2, 2, 2))
                for i in range(5) for version in (0, 3, 4, 255)]
     for order in orders:
-        answer, last = book_answer(order)
         book = HOUSE_P + b"".join(entry_p(version) for version in order)
-        rows.add(7, answer, book, after=last, **GIVEN)
+        rows.add(7, book_answer(order), book, **GIVEN)
         # without its last byte the last entry is no entry, whatever its version
-        answer, last = book_answer(order[:-1])
-        rows.add(7, answer, book[:-1], after=last, **GIVEN)
+        rows.add(7, book_answer(order[:-1]), book[:-1], **GIVEN)
+
+
+# House P from balance, worked out by hand. The inner surface is x, the air y above 20, and of the power w the share f
+# goes to the air: (100 + 43.0625) y + 2.5 (y - x) = f w, and 4 x = 2.5 y + (1 - f) w. So 144 W by the share 1 bring the
+# air to 21, and -144 W to 19; in the last row -144 W by the share 0.5. The outer surface lies halfway from 20 to the
+# inner one.
+HEATED, COOLED_BY_ALL = (20.3125, 20.625, 21.0), (19.6875, 19.375, 19.0)
+COOLED_BY_HALF = (10.74609375, 1.4921875, 19.1875)
+
+
+def make_powered(rows):
+    """House P heated, and cooled with heating fraction 0.5 and cooling fraction 1: version 1 shares that out by 0.5,
+    version 2 by 1"""
+    p, t, c = HOUSE_P, list(BALANCE), conditions_of(HOUSE_P)
+    room = {"count": 5, "used": HEAD, "room": HEAD + ENTRY}
+    heated = put(c, 48, f64(21.0))
+    cooled = put(put(c, 48, f64(15.0, 19.0)), HEATING_FRACTION, f64(0.5))
+    cooled_temps = {1: COOLED_BY_HALF, 2: COOLED_BY_ALL}
+    for version in VERSIONS:
+        rows.add(6, (0, 0), p, (0, 0), 3, t, heated, version=version, after=HEATED, **room)
+        rows.add(6, (0, 0), p, (0, 0), 3, t, cooled, version=version, after=cooled_temps[version], **room)
+        book = p + entry_p() + entry_p(version, heated, 0.144, 0.0, HEATED)
+        rows.add(7, (0, 0), book, after=HEATED, **GIVEN)
+        for temps in cooled_temps.values():
+            book = p + entry_p() + entry_p(version, cooled, 0.0, -0.144, temps)
+            answer = (0, 0) if temps == cooled_temps[version] else (18, 1)
+            rows.add(7, answer, book, after=temps, **GIVEN)
+
+
+def make_last_zero(rows):
+    """a last version of 0, which no book hands back: refused calls hand it back, accepted ones their own"""
+    p, c, t, given = HOUSE_P, conditions_of(HOUSE_P), [20.0] * 3, dict(GIVEN, last=0)
+    rows.add(5, (0, 0), p, room=180, **given)
+    rows.add(5, (16, 0), p, room=179, **given)
+    rows.add(5, (15, 0), SLOW, room=500, **given)
+    rows.add(5, (3, 0), put(p, 4, b"\2"), room=500, **given)
+    append = {"used": 180, "last": 0}
+    rows.add_each(6, (17, 0), p, (0, 0), 3, t, c, count=8784, room=396, **append)
+    rows.add_each(6, (6, 0), p, (0, 0), 2, t, c, count=5, room=396, **append)
+    rows.add_each(6, (7, 0), p, (0, 0), 3, t, c[1:], count=5, room=396, **append)
+    rows.add_each(6, (16, 0), p, (0, 0), 3, t, c, count=5, room=395, **append)
+    book = p + entry_p() * 5
+    rows.add(7, (0, 0), book, **given)
+    rows.add(7, (1, 0), p[:3], **given)
+    rows.add(7, (15, 0), SLOW + entry_p(), **given)
+    for i in range(5):
+        rows.add(7, (18, i), put(book, HEAD + ENTRY * i + VERSION_PLACE, b"\0"), **given)
 
 
 def make_refusals(out):
@@ -722,6 +830,8 @@ def make_refusals(out):
     make_hour_versions(rows)
     make_append_versions(rows)
     make_book_versions(rows)
+    make_powered(rows)
+    make_last_zero(rows)
     with open(out, "wb") as f:
         f.write(b"".join(rows.rows))
         total = f.tell()
@@ -729,6 +839,9 @@ def make_refusals(out):
     print("  by number", dict(sorted(rows.numbers.items())))
     print("  by call  ", dict(sorted(rows.calls.items())))
     assert all(rows.numbers[n] for n in range(1, 19))
+    for version in VERSIONS:
+        assert all((4, version, n) in rows.versions for n in range(6, 15))
+        assert all((6, version, n) in rows.versions for n in (*range(6, 15), 16, 17, 18))
 
 
 def main():

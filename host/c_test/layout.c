@@ -180,7 +180,7 @@ static int balances(const House *h, uint64_t nodes) {
     for (int i = 0; i < HEM_TEMPS; i++) temps[i] = 20;
     memset(out, 0, sizeof out);
     memset(b, 0, sizeof b);
-    if (hem_hour_step(h->head, h->head_len, temps, nodes, h->hour, h->hour_len, HEM_ENTRY_VERSION, out, b)) return 0;
+    if (hem_hour_step(h->head, h->head_len, temps, nodes, h->hour, h->hour_len, VERSION, out, b)) return 0;
     for (int i = HEM_AIR_SOLAR_GAINS; i <= HEM_AIR_FABRIC_HEAT_LOSS; i++) air += b[i];
     for (int i = HEM_EXT_FABRIC_EXT_AIR_CONVECTIVE; i <= HEM_EXT_FABRIC_EXT_SKY; i++) cause += b[i];
     for (int i = HEM_EXT_OPAQUE_FABRIC_EXT; i <= HEM_EXT_ZTU_FABRIC_EXT; i++) kind += b[i];
@@ -192,7 +192,7 @@ void test_sizes(void) {
     House largest = house(HEM_ELEMENTS, 0, 0), smallest = house(0, 1, 0), mixed = house(1, 1, 2);
     expect("HEM_HEAD_MOST", largest.head_len == HEM_HEAD_MOST && hem_head(largest.head, largest.head_len) == 0);
     expect("HEM_HEAD_LEAST", smallest.head_len == HEM_HEAD_LEAST && hem_head(smallest.head, smallest.head_len) == 0);
-    for (uint64_t version = 1; version <= HEM_ENTRY_VERSION; version++) {
+    for (uint64_t version = 1; version <= HEM_NEWEST_ENTRY_VERSION; version++) {
         expect("HEM_ENTRY of 24 elements", entry_takes(&largest, HEM_TEMPS, HEM_ENTRY(HEM_ELEMENTS, HEM_TEMPS), version));
         expect("HEM_ENTRY of a window", entry_takes(&smallest, 3, HEM_ENTRY(1, 3), version));
         expect("HEM_ENTRY of a wall and a window", entry_takes(&mixed, 8, HEM_ENTRY(2, 8), version));

@@ -20,11 +20,11 @@ static void *every_call(void *given) {
     c->answers |= hem_start_up(c->head, c->head_len, c->temps, &c->nodes);
     c->answers |= hem_demand(c->head, c->head_len, c->temps, c->nodes, c->hour, c->hour_len, c->out);
     c->answers |= hem_update(c->head, c->head_len, c->temps, c->nodes, c->hour, c->hour_len, 0, 1, 0.5, c->balance);
-    c->answers |= hem_hour_step(c->head, c->head_len, c->temps, c->nodes, c->hour, c->hour_len, HEM_ENTRY_VERSION, c->out, c->balance);
+    c->answers |= hem_hour_step(c->head, c->head_len, c->temps, c->nodes, c->hour, c->hour_len, VERSION, c->out, c->balance);
     c->answers |= hem_operative(c->head, c->head_len, c->temps, c->nodes, c->out);
     c->answers |= hem_begin(c->head, c->head_len, c->book, c->book_len, c->temps, &c->nodes, &c->count, &c->used, &c->last);
     c->answers |= hem_append(c->head, c->head_len, c->book, c->book_len, c->temps, &c->nodes, &c->count, &c->used, &c->last, c->hour,
-                             c->hour_len, HEM_ENTRY_VERSION);
+                             c->hour_len, VERSION);
     c->answers |= hem_take_up(c->book, c->book_len, c->temps, &c->nodes, &c->count, &c->used, &c->last);
     return NULL;
 }

@@ -170,7 +170,7 @@ static void write_year(const char *dir, const uint8_t *p, const uint8_t *warm) {
     memcpy(year + HOUR, warm, HOUR);
     hem_begin(p, HEAD, book, HEAD + 2 * ENTRY, temps, &nodes, &count, &used, &last);
     for (int i = 0; i < 2; i++)
-        hem_append(p, HEAD, book, HEAD + 2 * ENTRY, temps, &nodes, &count, &used, &last, warm, HOUR, HEM_ENTRY_VERSION);
+        hem_append(p, HEAD, book, HEAD + 2 * ENTRY, temps, &nodes, &count, &used, &last, warm, HOUR, VERSION);
     expect("a book of two hours", count == 2 && used == HEAD + 2 * ENTRY);
     write_file(dir, "house.head", p, HEAD);
     write_file(dir, "house.year", year, 2 * HOUR);

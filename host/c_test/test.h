@@ -5,6 +5,9 @@
 #include <stddef.h>
 #include <stdint.h>
 
+/* The version of entries, where one will do. */
+#define VERSION 2
+
 extern int failures;
 
 /* Prints what was looked at and counts it where it does not hold. */

@@ -2,6 +2,12 @@
 
 _hem_year() {
     local word=${COMP_WORDS[COMP_CWORD]} before=${COMP_WORDS[COMP_CWORD - 1]} command='' i
+    # Bash takes the = of --option=value for a word of its own.
+    if [[ $word == '=' ]]; then
+        word=''
+    elif [[ $before == '=' ]]; then
+        before=${COMP_WORDS[COMP_CWORD - 2]}
+    fi
     local commands='sample house hours check run report show cut help'
     for ((i = 1; i < COMP_CWORD; i++)); do
         if [[ ${COMP_WORDS[i]} != -* && " $commands " == *" ${COMP_WORDS[i]} "* ]]; then
@@ -14,7 +20,7 @@ _hem_year() {
     case $command in
         house) options+=' --force' ;;
         hours) options+=' --head --force' ;;
-        run) options+=' --entry-version' ;;
+        check | run) options+=' --entry-version' ;;
         report) options+=' --csv --svg --balance --nodes --head --name --force' ;;
         show) options+=' --hour --hours --head' ;;
         cut) options+=' --head --force' ;;
@@ -24,6 +30,8 @@ _hem_year() {
     COMPREPLY=()
     if [[ $before == --hour || $before == --name ]]; then
         return
+    elif [[ $word == --hour=* || $word == --name=* || $word == --entry-version=* ]]; then
+        return # where = ends no word, there is nothing to offer
     elif [[ $before == --entry-version ]]; then
         mapfile -t COMPREPLY < <(compgen -W '1 2' -- "$word")
     elif [[ $word == -* && $before != --csv && $before != --svg && $before != --head ]]; then

@@ -2,12 +2,15 @@
 //!
 //!     cargo run --release --offline --example replay CASES ANSWERS
 //!
-//! A case is: a byte that names the call (1 demand, 2 update, 3 start-up, 4 hour step, 5 start-up with
-//! its passes), a 4-byte length and the head, a 2-byte count and the node temperatures, a 4-byte length
-//! and the conditions, and for 2 gains, fraction and rate; all big-endian. Its answer is a line: floats as
-//! 16 hexadecimal digits, or the original's error. An answer of the original that the engine refuses with
-//! 12 or 13 is no difference: the original tests for less. Signs of zeros are counted for themselves.
-use hem_zone::{Demand, HeatBalance, Refusal, State, Zone, VERSION_1};
+//! A case is: a byte that names the call (1 demand, 2 update, 3 start-up, 4 hour step of entry version 1,
+//! 5 start-up with its passes, 6 hour step of entry version 2), a 4-byte length and the head, a 2-byte
+//! count and the node temperatures, a 4-byte length and the conditions, and for 2 gains, fraction and
+//! rate; all big-endian. Its answer is a line: floats as 16 hexadecimal digits, or the original's error.
+//! The original shares all power by the heating fraction, as version 1 does; its answer to 6 is the one
+//! that it gives where a cooled hour has the cooling fraction in the place of the heating fraction. An
+//! answer of the original that the engine refuses with 12 or 13 is no difference: the original tests for
+//! less. Signs of zeros are counted for themselves.
+use hem_zone::{Demand, HeatBalance, Refusal, State, Zone, ENTRY_VERSION_1, ENTRY_VERSION_2};
 use std::process::ExitCode;
 
 struct Case<'a> {
@@ -59,10 +62,10 @@ impl<'a> Case<'a> {
                     zone.update_temperatures(&self.state, self.conditions, gains, fraction, rate)?;
                 Ok(updated(&after.0, &after.1))
             }
-            4 => {
-                // The original shares all power by the heating fraction, as version 1 does.
-                let step = zone.hour_step(&self.state, self.conditions, VERSION_1);
-                let (state, met, balance) = step?;
+            4 | 6 => {
+                let version = if self.call == 4 { ENTRY_VERSION_1 } else { ENTRY_VERSION_2 };
+                let (state, met, balance) =
+                    zone.hour_step(&self.state, self.conditions, version)?;
                 Ok([demand(&met), updated(&state, &balance)].concat())
             }
             _ => Ok(zone.start_up()?.temps().to_vec()),

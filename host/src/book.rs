@@ -69,7 +69,7 @@ impl Book {
             )
         };
         if answer & 255 == Reason::FalseEntry as u32 {
-            return Err(Refusal::new(answer, |_, index| false_entry(bytes, index as usize)));
+            return Err(Refusal::of_entry(answer, |index| false_entry(bytes, index as usize)));
         }
         judge(answer, &Given { head: bytes, ..Given::default() })?;
         let zone = Zone::from_head(bytes)?;
@@ -77,8 +77,8 @@ impl Book {
     }
 
     /// Adds an hour, given as [`Conditions`] or in bytes, and gives the bytes of its entry. The entry has
-    /// this version ([`ENTRY_VERSION`](crate::ENTRY_VERSION) is the newest); one that no hour has, or that
-    /// is below the last entry's, is refused with 18. A refusal leaves the book as it was.
+    /// this version, as [`ENTRY_VERSION_2`](crate::ENTRY_VERSION_2); one that no hour has, or that is below
+    /// the last entry's, is refused with 18. A refusal leaves the book as it was.
     pub fn append(
         &mut self,
         conditions: &(impl AsConditions + ?Sized),
@@ -86,7 +86,8 @@ impl Book {
     ) -> Result<&[u8], Refusal> {
         float::must_be_standard()?;
         let conditions = &*conditions.conditions_bytes();
-        let (held, last) = (self.bytes.len(), self.last_version);
+        let held = self.bytes.len();
+        let before = (self.count > 0).then_some(self.last_version);
         let mut used = held as u64;
         self.bytes.resize(held + self.zone.layout().entry_len(), 0);
         // SAFETY: byte strings are valid for their lengths; the buffer is the book's own and apart
@@ -113,7 +114,7 @@ impl Book {
             temps: &self.state.temps,
             nodes: self.state.nodes as usize,
             conditions,
-            version: Some(NamedVersion { version, last: Some(last) }),
+            version: Some(NamedVersion { version, before }),
             ..Given::default()
         };
         judge(answer, &given)?;
@@ -239,8 +240,8 @@ fn find_fault(bytes: &[u8], place: usize) -> Option<String> {
     if length + 4 != entry.bytes.len() {
         return Some(format!("its length is {length}, not {}", entry.bytes.len() - 4));
     }
-    let last = before.map(|before| before.version());
-    if let Some(fault) = (NamedVersion { version, last }).fault() {
+    let named = NamedVersion { version, before: before.map(|before| before.version()) };
+    if let Some(fault) = named.fault() {
         return Some(format!("its {fault}"));
     }
     let state = match before {

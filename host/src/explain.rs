@@ -2,11 +2,11 @@
 //! looked up in the bytes, by the layouts and ranges of docs/FORMATS.md.
 use crate::bytes::{f64_at, length_at};
 use crate::conditions::{ElementHour, COMMON_SIZE, RATE_CODE};
-use crate::ffi::ENTRY_VERSION;
 use crate::layout::{element_size, Layout, HEAD_COMMON};
 use crate::ranges::{plain, FRACTION, GAINS, OPEN, RATE};
 use crate::refusal::Reason;
 use crate::values::{conditions_values, head_values, treatments_text, Value};
+use crate::versions::{entry_versions_to, ENTRY_VERSION_1, NEWEST_ENTRY_VERSION};
 
 /// What a call was given, as far as its refusal may speak of it.
 #[derive(Clone, Copy, Default)]
@@ -22,12 +22,11 @@ pub(crate) struct Given<'a> {
     pub(crate) version: Option<NamedVersion>,
 }
 
-/// An entry version that a call names or an entry has, and that of the entry before it where there is a
-/// book.
+/// An entry version that a call names or an entry has, and that of the entry before it, if there is one.
 #[derive(Clone, Copy)]
 pub(crate) struct NamedVersion {
     pub(crate) version: u64,
-    pub(crate) last: Option<u64>,
+    pub(crate) before: Option<u64>,
 }
 
 /// The sentence of a refusal for this reason, with this index.
@@ -132,12 +131,13 @@ impl NamedVersion {
     /// What is wrong with the version: no hour has it, or it is below that of the entry before.
     pub(crate) fn fault(&self) -> Option<String> {
         let version = self.version;
-        match self.last {
-            _ if !(1..=ENTRY_VERSION).contains(&version) => {
-                Some(format!("version is {version}, not 1 or {ENTRY_VERSION}"))
+        match self.before {
+            _ if !(ENTRY_VERSION_1..=NEWEST_ENTRY_VERSION).contains(&version) => {
+                let known = entry_versions_to(NEWEST_ENTRY_VERSION, "or");
+                Some(format!("version is {version}, not {known}"))
             }
-            Some(last) if version < last => {
-                Some(format!("version is {version}, below that of the entry before it, {last}"))
+            Some(before) if version < before => {
+                Some(format!("version is {version}, below that of the entry before it, {before}"))
             }
             _ => None,
         }

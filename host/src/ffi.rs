@@ -12,8 +12,8 @@ pub const OUT: usize = 5;
 pub const BALANCE: usize = 25;
 /// The most entries that a book holds (`HEM_ENTRIES`).
 pub const ENTRIES: usize = 8784;
-/// The newest version of entries (`HEM_ENTRY_VERSION`).
-pub const ENTRY_VERSION: u64 = 2;
+/// The newest version of entries (`HEM_NEWEST_ENTRY_VERSION`).
+pub const NEWEST_ENTRY_VERSION: u64 = 2;
 
 #[allow(missing_docs)]
 unsafe extern "C" {

@@ -10,7 +10,7 @@
 //! - [`Book`] is a year: a head and the entry of each hour, which can be written to a file as it
 //!   grows and taken up again after a power cut.
 //! - An hour step and an entry have a version, by whose rule heating and cooling are shared between air
-//!   and surfaces: [`ENTRY_VERSION`] is the newest.
+//!   and surfaces: [`ENTRY_VERSION_1`], [`ENTRY_VERSION_2`].
 //! - `text` (feature `text`) reads and writes heads as TOML and hours as CSV.
 //! - [`Refusal`] says why a call was turned away: its [`Reason`], number and index, and one sentence.
 //!
@@ -18,10 +18,10 @@
 //! floating-point environment is refused ([`Reason::FloatEnvironment`]) before the engine is called.
 //!
 //! ```
-//! use hem_zone::{samples, Book, ENTRY_VERSION};
+//! use hem_zone::{samples, Book, ENTRY_VERSION_2};
 //!
 //! let mut book = Book::begin(&samples::house_p())?;
-//! book.append(&samples::hour_p(21.0, 24.0), ENTRY_VERSION)?;
+//! book.append(&samples::hour_p(21.0, 24.0), ENTRY_VERSION_2)?;
 //! assert_eq!(book.entry(0).unwrap().demand().space_heat_demand, 0.144);
 //!
 //! let again = Book::take_up(book.bytes())?;
@@ -57,5 +57,5 @@ pub use heat_balance::{
 pub use layout::Layout;
 pub use lent::{AsConditions, AsHead};
 pub use refusal::{Reason, Refusal};
-pub use versions::{ENTRY_VERSION, VERSION_1, VERSION_2};
+pub use versions::{entry_versions_to, ENTRY_VERSION_1, ENTRY_VERSION_2, NEWEST_ENTRY_VERSION};
 pub use zone::{Demand, State, Zone};

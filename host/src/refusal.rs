@@ -81,7 +81,7 @@ pub struct Refusal {
     number: u32,
     index: u32,
     sentence: String,
-    /// Whether the index is the place of an entry: that of 18, but for an hour step.
+    /// Whether the index is the place of an entry that there is: that of 18 at a take-up.
     of_entry: bool,
 }
 
@@ -89,13 +89,12 @@ impl Refusal {
     /// The refusal that an answer of the C interface stands for.
     pub(crate) fn new(answer: u32, sentence: impl FnOnce(u32, u32) -> String) -> Self {
         let (number, index) = (answer & 255, answer >> 8);
-        let of_entry = Reason::of_number(number) == Reason::FalseEntry;
-        Self { number, index, sentence: sentence(number, index), of_entry }
+        Self { number, index, sentence: sentence(number, index), of_entry: false }
     }
 
-    /// The same where the call was on no book.
-    pub(crate) fn of_no_entry(self) -> Self {
-        Self { of_entry: false, ..self }
+    /// The refusal of an entry that a take-up found to be false.
+    pub(crate) fn of_entry(answer: u32, sentence: impl FnOnce(u32) -> String) -> Self {
+        Self { of_entry: true, ..Self::new(answer, |_, index| sentence(index)) }
     }
 
     /// Why the call was refused.

@@ -96,11 +96,7 @@ pub(crate) fn judge(answer: u32, given: &Given) -> Result<(), Refusal> {
         0 => Ok(()),
         _ => {
             let of_number = |number, index| sentence(Reason::of_number(number), index, given);
-            let refusal = Refusal::new(answer, of_number);
-            Err(match given.version {
-                Some(NamedVersion { last: None, .. }) => refusal.of_no_entry(),
-                _ => refusal,
-            })
+            Err(Refusal::new(answer, of_number))
         }
     }
 }
@@ -226,7 +222,7 @@ impl Zone {
     }
 
     /// One hour: its demand, the state after the demand was met, and the heat balance. The demand is met
-    /// by the rule of an entry version ([`ENTRY_VERSION`](crate::ENTRY_VERSION)); one that no hour has is
+    /// by the rule of an entry version, as [`ENTRY_VERSION_2`](crate::ENTRY_VERSION_2); one that no hour has is
     /// refused with 18.
     pub fn hour_step(
         &self,
@@ -254,7 +250,7 @@ impl Zone {
                 balance.as_mut_ptr(),
             )
         };
-        let version = Some(NamedVersion { version, last: None });
+        let version = Some(NamedVersion { version, before: None });
         judge(answer, &Given { version, ..self.given(before, conditions) })?;
         Ok((after, Demand::of_values(&out), HeatBalance::of_values(&balance)))
     }

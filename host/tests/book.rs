@@ -1,6 +1,6 @@
 //! Books: what is held, what a cut leaves, what take-up turns away.
 use hem_zone::samples::{hour_p, house_p};
-use hem_zone::{AirChangesPerHour, Book, Conditions, ENTRY_VERSION};
+use hem_zone::{AirChangesPerHour, Book, Conditions, ENTRY_VERSION_2};
 
 /// Hours of House P that differ from each other, some of them with windows.
 fn hours(count: usize) -> Vec<Vec<u8>> {
@@ -21,7 +21,7 @@ fn hours(count: usize) -> Vec<Vec<u8>> {
 fn book(count: usize) -> Book {
     let mut book = Book::begin(&house_p().to_bytes()).unwrap();
     for hour in hours(count) {
-        book.append(&hour, ENTRY_VERSION).unwrap();
+        book.append(&hour, ENTRY_VERSION_2).unwrap();
     }
     book
 }
@@ -42,8 +42,8 @@ fn entries_are_the_hour_steps() {
     for (entry, hour) in book.entries().zip(hours(30)) {
         assert_eq!(entry.conditions_bytes(), hour);
         assert_eq!(entry.conditions().to_bytes(), hour);
-        let (after, demand, _) = book.zone().hour_step(&state, &hour, ENTRY_VERSION).unwrap();
-        assert_eq!(entry.version(), ENTRY_VERSION);
+        let (after, demand, _) = book.zone().hour_step(&state, &hour, ENTRY_VERSION_2).unwrap();
+        assert_eq!(entry.version(), ENTRY_VERSION_2);
         assert_eq!(entry.demand(), demand);
         assert_eq!(entry.state(), after);
         state = after;
@@ -58,7 +58,7 @@ fn entries_are_the_hour_steps() {
 fn append_gives_the_bytes_that_it_added() {
     let mut book = book(2);
     let before = book.bytes().to_vec();
-    let added = book.append(&hours(3)[2], ENTRY_VERSION).unwrap().to_vec();
+    let added = book.append(&hours(3)[2], ENTRY_VERSION_2).unwrap().to_vec();
     assert_eq!(added.len(), 216);
     assert_eq!(book.bytes(), [before, added].concat());
 }
@@ -68,8 +68,8 @@ fn a_refused_append_leaves_the_book() {
     let mut book = book(2);
     let before = book.clone();
     let crossed = hour_p(22.0, 21.0).to_bytes();
-    assert_eq!(book.append(&crossed, ENTRY_VERSION).unwrap_err().number(), 10);
-    assert_eq!(book.append(&[], ENTRY_VERSION).unwrap_err().number(), 7);
+    assert_eq!(book.append(&crossed, ENTRY_VERSION_2).unwrap_err().number(), 10);
+    assert_eq!(book.append(&[], ENTRY_VERSION_2).unwrap_err().number(), 7);
     assert_eq!((book.bytes(), book.state()), (before.bytes(), before.state()));
     assert_eq!(book.hours(), 2);
 }
@@ -89,7 +89,7 @@ fn every_cut_keeps_the_whole_entries_and_goes_on_to_the_same_book() {
         assert_eq!(taken.hours(), (cut - 180) / 216);
         assert_eq!(taken.bytes(), &whole.bytes()[..180 + taken.hours() * 216]);
         for hour in &hours[taken.hours()..] {
-            taken.append(hour, ENTRY_VERSION).unwrap();
+            taken.append(hour, ENTRY_VERSION_2).unwrap();
         }
         assert_eq!((taken.bytes(), taken.state()), (whole.bytes(), whole.state()));
     }

@@ -4,6 +4,7 @@ mod lent;
 
 use hem_zone::ffi::*;
 use hem_zone::samples::house_p;
+use hem_zone::ENTRY_VERSION_2;
 use lent::*;
 
 #[test]
@@ -47,13 +48,13 @@ fn update_of_house_p() {
 #[test]
 fn hour_step_of_house_p() {
     let mut lent = Lent::at_twenty(0);
-    assert_eq!(hour_step(&p(), &hour(21.0, 24.0), ENTRY_VERSION, &mut lent), 0);
+    assert_eq!(hour_step(&p(), &hour(21.0, 24.0), ENTRY_VERSION_2, &mut lent), 0);
     assert_eq!(lent.out[0], 0.144);
     assert_eq!(lent.temps[2], 21.0);
     assert!(lent.balance.iter().all(|v| *v != MARK));
     let mut wrong = Lent::at_twenty(0);
     wrong.nodes = 4;
-    refused(wrong, 6, |lent| hour_step(&p(), &hour(21.0, 24.0), ENTRY_VERSION, lent));
+    refused(wrong, 6, |lent| hour_step(&p(), &hour(21.0, 24.0), ENTRY_VERSION_2, lent));
 }
 
 #[test]
@@ -90,13 +91,13 @@ fn begin_writes_the_head_and_no_more() {
 fn append_writes_one_entry() {
     let mut lent = Lent::new(400);
     assert_eq!(begin(&p(), &mut lent), 0);
-    assert_eq!(append(&p(), &hour(21.0, 24.0), ENTRY_VERSION, &mut lent), 0);
+    assert_eq!(append(&p(), &hour(21.0, 24.0), ENTRY_VERSION_2, &mut lent), 0);
     assert_eq!((lent.nodes, lent.count, lent.used, lent.temps[2]), (3, 1, 396, 21.0));
-    assert_eq!(lent.last_version, ENTRY_VERSION);
+    assert_eq!(lent.last_version, ENTRY_VERSION_2);
     assert_eq!(lent.buf[180..185], [0, 0, 0, 212, 2]);
     assert_eq!(lent.buf[185..339], hour(21.0, 24.0));
     assert_eq!(lent.buf[396..], [0xA5; 4]);
-    refused(lent, 16, |lent| append(&p(), &hour(21.0, 24.0), ENTRY_VERSION, lent));
+    refused(lent, 16, |lent| append(&p(), &hour(21.0, 24.0), ENTRY_VERSION_2, lent));
 }
 
 #[test]
@@ -104,13 +105,13 @@ fn append_needs_room_and_takes_all_of_it() {
     for (room, answer) in [(395, 16), (396, 0)] {
         let mut lent = Lent::new(room);
         assert_eq!(begin(&p(), &mut lent), 0);
-        assert_eq!(append(&p(), &hour(21.0, 24.0), ENTRY_VERSION, &mut lent), answer);
+        assert_eq!(append(&p(), &hour(21.0, 24.0), ENTRY_VERSION_2, &mut lent), answer);
     }
     // A used length beyond the buffer, up to the greatest: refused, and no address overflows.
     for used in [201, u64::MAX - 10, u64::MAX] {
         let mut lent = Lent::at_twenty(200);
         (lent.count, lent.used, lent.last_version) = (0, used, 1);
-        refused(lent, 16, |lent| append(&p(), &hour(21.0, 24.0), ENTRY_VERSION, lent));
+        refused(lent, 16, |lent| append(&p(), &hour(21.0, 24.0), ENTRY_VERSION_2, lent));
     }
 }
 
@@ -122,18 +123,18 @@ fn append_counts_to_8784() {
         lent
     };
     let mut last = full(8783, 180);
-    assert_eq!(append(&p(), &hour(21.0, 24.0), ENTRY_VERSION, &mut last), 0);
+    assert_eq!(append(&p(), &hour(21.0, 24.0), ENTRY_VERSION_2, &mut last), 0);
     assert_eq!(last.count, 8784);
-    refused(full(8784, 180), 17, |lent| append(&p(), &hour(21.0, 24.0), ENTRY_VERSION, lent));
+    refused(full(8784, 180), 17, |lent| append(&p(), &hour(21.0, 24.0), ENTRY_VERSION_2, lent));
     // 17 comes before the hour's own refusals.
-    refused(full(u64::MAX, 180), 17, |lent| append(&p(), &hour(22.0, 21.0), ENTRY_VERSION, lent));
+    refused(full(u64::MAX, 180), 17, |lent| append(&p(), &hour(22.0, 21.0), ENTRY_VERSION_2, lent));
 }
 
 #[test]
 fn take_up_of_a_book() {
     let mut book = Lent::new(396);
     assert_eq!(begin(&p(), &mut book), 0);
-    assert_eq!(append(&p(), &hour(21.0, 24.0), ENTRY_VERSION, &mut book), 0);
+    assert_eq!(append(&p(), &hour(21.0, 24.0), ENTRY_VERSION_2, &mut book), 0);
     for (cut, count, used, air) in [(180, 0, 180, 20.0), (395, 0, 180, 20.0), (396, 1, 396, 21.0)] {
         let mut lent = Lent::new(0);
         assert_eq!(take_up(&book.buf[..cut], &mut lent), 0);

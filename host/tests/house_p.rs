@@ -1,6 +1,6 @@
 //! The rows of House P in docs/FORMATS.md, through the wrapper.
 use hem_zone::samples::{hour_p, house_p};
-use hem_zone::{Kind, State, Zone, ENTRY_VERSION};
+use hem_zone::{Kind, State, Zone, ENTRY_VERSION_2};
 
 fn zone() -> Zone {
     Zone::new(&house_p()).unwrap()
@@ -63,7 +63,7 @@ fn no_solution_without_capacity_and_loss() {
 #[test]
 fn an_hour_ends_at_its_setpoint() {
     let (after, demand, balance) =
-        zone().hour_step(&twenty(), &hour_p(21.0, 24.0).to_bytes(), ENTRY_VERSION).unwrap();
+        zone().hour_step(&twenty(), &hour_p(21.0, 24.0).to_bytes(), ENTRY_VERSION_2).unwrap();
     assert_eq!(demand.space_heat_demand, 0.144);
     assert_eq!(after.temp_internal_air(), 21.0);
     assert_eq!(balance.air_node.heating_or_cooling_system_gains, 144.0);

@@ -71,7 +71,7 @@ fn hours() {
         let mut bytes = hour().to_bytes();
         change(&mut bytes);
         let demand = numbers(zone.space_heat_cool_demand(state, &bytes));
-        for version in [VERSION_1, VERSION_2] {
+        for version in [ENTRY_VERSION_1, ENTRY_VERSION_2] {
             assert_eq!(demand, numbers(zone.hour_step(state, &bytes, version)));
         }
         demand

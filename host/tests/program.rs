@@ -13,7 +13,7 @@ fn a_sample_year_from_end_to_end() {
     folder.call(&["run", "terrace.head", "terrace.year", "terrace.book"]).done();
     let first = folder.read("terrace.book");
     let again = folder.call(&["run", "terrace.head", "terrace.year", "terrace.book"]).done();
-    assert!(again.contains("8,760 hours were held, 0 appended"), "{again}");
+    assert!(again.contains("8,760 hours were held (8,760 of version 2), 0 appended"), "{again}");
     assert_eq!(folder.read("terrace.book"), first);
 
     let options = ["--csv", "year.csv", "--svg", "year.svg"];
@@ -51,7 +51,7 @@ fn a_year_in_parts_is_the_year_at_once() {
     // Fewer hours than are held: nothing to do, and it is said.
     folder.write("p.year", &year[..HOUR]);
     let said = folder.run().done();
-    assert!(said.contains("50 hours were held, 0 appended"), "{said}");
+    assert!(said.contains("50 hours were held (50 of version 2), 0 appended"), "{said}");
     assert!(said.contains("p.year has only 1 hour; the others stay in the book"), "{said}");
     assert_eq!(folder.read("p.book"), whole);
 }
@@ -65,8 +65,12 @@ fn a_cut_at_any_byte_loses_only_the_hour_being_written() {
         folder.write("p.book", &whole[..cut]);
         let said = folder.run().done();
         let held = (cut - HEAD) / ENTRY;
-        let were = if held == 1 { "1 hour was".into() } else { format!("{held} hours were") };
-        assert!(said.contains(&format!("{were} held, {} appended", 3 - held)), "{said}");
+        let before = [
+            "0 hours were held",
+            "1 hour was held (1 of version 2)",
+            "2 hours were held (2 of version 2)",
+        ][held];
+        assert!(said.contains(&format!(": {before}, {} appended", 3 - held)), "{said}");
         assert_eq!(said.contains("were dropped"), (cut - HEAD) % ENTRY != 0);
         assert_eq!(folder.read("p.book"), whole);
     }

@@ -2,19 +2,13 @@
 mod common;
 
 use common::hours::{varied, with_year};
+use common::table::table;
 use common::{Folder, ENTRY, HEAD};
 use hem_zone::samples::hour_p;
 use hem_zone::{AirChangesPerHour, Conditions};
 use sha2::{Digest, Sha256};
 
 // ---- the table ----
-
-/// The columns of a table by name, and its rows.
-fn table(text: &str) -> (Vec<&str>, Vec<Vec<&str>>) {
-    let mut lines =
-        text.lines().filter(|line| !line.starts_with('#')).map(|l| l.split(',').collect());
-    (lines.next().unwrap(), lines.collect())
-}
 
 #[test]
 fn the_table_has_every_value_to_the_bit() {
@@ -201,7 +195,7 @@ fn every_print_has_the_name_and_the_fingerprints() {
     let (csv, svg) = (folder.text("x.csv"), folder.text("x.svg"));
     assert!(
         csv.contains("# house: Mill <4> & \"Co\"\n")
-            && csv.contains("# useful floor area: 36 m2\n")
+            && csv.contains("# useful floor area: 36 m2\n# entries: 30 of version 2\n")
     );
     assert!(
         svg.contains(">Mill &lt;4&gt; &amp; &quot;Co&quot;: heating and cooling</text>"),
@@ -211,6 +205,7 @@ fn every_print_has_the_name_and_the_fingerprints() {
     assert!(
         svg.contains("floor area 36 m²")
             && svg.contains(" kWh/m²)")
+            && svg.contains(">entries: 30 of version 2</text>")
             && svg.contains(concat!("hem-year ", env!("CARGO_PKG_VERSION")))
     );
     for (name, file) in [("head", "p.head"), ("conditions", "p.year"), ("book", "p.book")] {
@@ -304,4 +299,6 @@ fn a_report_leaves_an_unfinished_hour_out() {
     let report = folder.call(&["report", "p.book", "--svg", "x.svg", "--csv", "x.csv"]).done();
     assert!(report.contains("no hours held"), "{report}");
     assert!(!folder.text("x.svg").contains("NaN"));
+    assert!(folder.text("x.svg").contains(">entries: none</text>"));
+    assert!(folder.text("x.csv").contains("\n# entries: none\n"));
 }

@@ -66,7 +66,7 @@ fn a_limit_of_size_is_told_and_loses_nothing() {
     folder.shell(run).failed(2, words);
     assert_eq!(folder.read("p.book"), &whole[..8192]);
     let said = folder.run().done();
-    assert!(said.contains("37 hours were held, 63 appended"), "{said}");
+    assert!(said.contains("37 hours were held (37 of version 2), 63 appended"), "{said}");
     assert_eq!(folder.read("p.book"), whole);
 
     // The drawing does not fit, so the table is not put in place either.

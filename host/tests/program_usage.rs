@@ -2,6 +2,7 @@
 mod common;
 
 use common::Folder;
+use hem_zone::{ENTRY_VERSION_1, NEWEST_ENTRY_VERSION};
 use std::fs;
 use std::path::Path;
 use std::process::Command;
@@ -39,12 +40,18 @@ fn a_usage_error_is_one_sentence_with_where_to_read_more() {
         (&["run", "a", "b", "c", "--entry-version"], "run: --entry-version needs a number; see"),
         (
             &["run", "a", "b", "c", "--entry-version=two"],
-            "run: --entry-version is \"two\", which is not a whole number from 0; see",
+            "run: --entry-version is \"two\", which is not a whole number from 0 to \
+             18,446,744,073,709,551,615; see",
+        ),
+        (
+            &["check", "a", "b", "--entry-version=18446744073709551616"],
+            "check: --entry-version is \"18446744073709551616\", which is not a whole number from 0 to \
+             18,446,744,073,709,551,615; see",
         ),
         (&["cut", "a", "-1", "b"], "cut: -1 is not an option; see"),
         (
             &["cut", "a", "1.5", "b"],
-            "cut: HOURS is \"1.5\", which is not a whole number from 0; see",
+            "cut: HOURS is \"1.5\", which is not a whole number from 0 to 18,446,744,073,709,551,615; see",
         ),
         (&["show", "a", "--hour", "x"], "show: --hour is \"x\", which is not a whole number"),
         (&["show", "a", "--hour=1", "--hours"], "show: --hours and --hour exclude each other; see"),
@@ -199,5 +206,17 @@ fn the_completion_offers_commands_options_and_files() {
     assert_eq!(completed(&folder, &["report", "p.book", "--csv", "p.y"]), ["p.year"]);
     assert_eq!(completed(&folder, &["--force", "report", "--s"]), ["--svg"]);
     assert!(completed(&folder, &["show", "p.book", "--hour", ""]).is_empty());
-    assert_eq!(completed(&folder, &["run", "p.head", "--entry-version", ""]), ["1", "2"]);
+    assert!(completed(&folder, &["show", "p.book", "--hour", "=", ""]).is_empty());
+    assert!(completed(&folder, &["show", "p.book", "--hour="]).is_empty());
+    assert_eq!(completed(&folder, &["report", "p.book", "--csv", "=", "p.y"]), ["p.year"]);
+    let versions: Vec<String> =
+        (ENTRY_VERSION_1..=NEWEST_ENTRY_VERSION).map(|version| version.to_string()).collect();
+    for command in ["check", "run"] {
+        // Bash gives the = of an option as a word of its own, unless it is told otherwise.
+        for typed in [&[""][..], &["="], &["=", ""]] {
+            let words = [&[command, "p.head", "--entry-version"], typed].concat();
+            assert_eq!(completed(&folder, &words), versions, "{words:?}");
+        }
+        assert!(completed(&folder, &[command, "p.head", "--entry-version="]).is_empty());
+    }
 }

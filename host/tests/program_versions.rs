@@ -2,8 +2,9 @@
 mod common;
 
 use common::hours::varied;
+use common::table::column;
 use common::{Answer, Folder, ENTRY, HEAD, HOUR};
-use hem_zone::{Book, VERSION_1, VERSION_2};
+use hem_zone::{Book, ENTRY_VERSION_1, ENTRY_VERSION_2};
 
 /// House P and some hours, heated, cooled and neither.
 fn folder(name: &str) -> Folder {
@@ -26,7 +27,7 @@ fn versions(folder: &Folder) -> Vec<u64> {
 /// The book that the wrapper makes of the hours with these versions.
 fn made(folder: &Folder, versions: &[u64]) -> Vec<u8> {
     let mut book = Book::begin(&folder.read("p.head")).unwrap();
-    for (hour, version) in varied(10, 1.0).chunks(HOUR).zip(versions) {
+    for (hour, version) in varied(versions.len(), 1.0).chunks(HOUR).zip(versions) {
         book.append(hour, *version).unwrap();
     }
     book.bytes().to_vec()
@@ -37,7 +38,7 @@ fn a_new_book_has_version_2() {
     let folder = folder("new");
     let said = run(&folder, 10, &[]).done();
     assert!(said.contains("0 hours were held, 10 appended with entry version 2, "), "{said}");
-    assert_eq!(versions(&folder), [VERSION_2; 10]);
+    assert_eq!(versions(&folder), [ENTRY_VERSION_2; 10]);
     assert_eq!(folder.read("p.book"), made(&folder, &[2; 10]));
     assert_ne!(folder.read("p.book"), made(&folder, &[1; 10]));
 }
@@ -48,13 +49,72 @@ fn a_book_keeps_the_version_of_its_last_entry() {
     let said = run(&folder, 3, &["--entry-version", "1"]).done();
     assert!(said.contains("3 appended with entry version 1, "), "{said}");
     run(&folder, 5, &[]).done();
-    assert_eq!(versions(&folder), [VERSION_1; 5]);
-    // The same command without hours to append says nothing of a version.
-    let said = run(&folder, 5, &["--entry-version=2"]).done();
-    assert!(said.contains("5 hours were held, 0 appended, "), "{said}");
-    run(&folder, 7, &["--entry-version", "2"]).done();
-    run(&folder, 10, &[]).done();
+    assert_eq!(versions(&folder), [ENTRY_VERSION_1; 5]);
+    let said = run(&folder, 7, &["--entry-version", "2"]).done();
+    let words = ": 5 hours were held (5 of version 1), 2 appended with entry version 2, ";
+    assert!(said.contains(words), "{said}");
+    let said = run(&folder, 10, &[]).done();
+    let words =
+        ": 7 hours were held (5 of version 1, 2 of version 2), 3 appended with entry version 2, ";
+    assert!(said.contains(words), "{said}");
     assert_eq!(folder.read("p.book"), made(&folder, &[1, 1, 1, 1, 1, 2, 2, 2, 2, 2]));
+}
+
+#[test]
+fn a_version_without_an_hour_to_append_is_no_fault() {
+    let folder = folder("unused");
+    for (held, named) in [("1", "2"), ("2", "1")] {
+        run(&folder, 5, &["--entry-version", held]).done();
+        let book = folder.read("p.book");
+        let was =
+            format!("p.book: 5 hours were held (5 of version {held}), 0 appended, 1,260 bytes\n");
+        assert_eq!(run(&folder, 5, &[]).done(), was);
+        assert_eq!(run(&folder, 5, &["--entry-version", held]).done(), was);
+        let kept =
+            format!("the hours held keep their version; for version {named} begin another book\n");
+        assert_eq!(run(&folder, 5, &["--entry-version", named]).done(), format!("{was}{kept}"));
+        let fewer = "part.year has only 3 hours; the others stay in the book\n";
+        let said = run(&folder, 3, &["--entry-version", named]).done();
+        assert_eq!(said, format!("{was}{fewer}{kept}"));
+        assert_eq!(folder.read("p.book"), book);
+        folder.remove("p.book");
+    }
+}
+
+#[test]
+fn a_full_book_has_nothing_to_append() {
+    let folder = folder("full");
+    let book = made(&folder, &[2; 8784]);
+    folder.write("p.book", &book);
+    folder.write("p.year", &varied(8784, 1.0));
+    for version in ["1", "2"] {
+        let words = [&Folder::RUN[..], &["--entry-version", version]].concat();
+        let said = folder.call(&words).done();
+        let was = ": 8,784 hours were held (8,784 of version 2), 0 appended, ";
+        assert!(said.contains(was), "{said}");
+        assert_eq!(said.contains("; for version 1 begin another book\n"), version == "1");
+        assert_eq!(folder.read("p.book"), book);
+    }
+}
+
+#[test]
+fn a_script_of_two_steps_can_be_run_again() {
+    let folder = folder("script");
+    let script = || {
+        run(&folder, 4, &["--entry-version", "1"]).done()
+            + &run(&folder, 10, &["--entry-version", "2"]).done()
+    };
+    script();
+    let book = made(&folder, &[1, 1, 1, 1, 2, 2, 2, 2, 2, 2]);
+    assert_eq!(folder.read("p.book"), book);
+    let said = script();
+    assert_eq!(
+        said.matches("10 hours were held (4 of version 1, 6 of version 2), 0 app").count(),
+        2
+    );
+    // The hours that each step gives are of the version that it names.
+    assert!(!said.contains("begin another book"), "{said}");
+    assert_eq!(folder.read("p.book"), book);
 }
 
 #[test]
@@ -66,7 +126,7 @@ fn a_book_that_holds_no_hour_is_a_new_one() {
     for left in [HEAD, HEAD + 100] {
         folder.write("p.book", &whole[..left]);
         run(&folder, 3, &[]).done();
-        assert_eq!(versions(&folder), [VERSION_2; 3]);
+        assert_eq!(versions(&folder), [ENTRY_VERSION_2; 3]);
         folder.write("p.book", &whole[..left]);
         run(&folder, 3, &["--entry-version", "1"]).done();
         assert_eq!(folder.read("p.book"), whole);
@@ -81,29 +141,39 @@ fn a_book_never_goes_back() {
     let mut book = folder.read("p.book");
     book.extend([0; 7]);
     folder.write("p.book", &book);
-    let words = "p.book: the entry version is 1, below that of the entry before it, 2 \
-                 (refusal 18, entry 6); the entry versions are 1 and 2, and a book never goes back; \
+    let back =
+        "p.book: --entry-version is 1, but its last hour is of version 2, and a book never goes \
+                back (refusal 18); ";
+    let words = "its first 4 hours are of version 1: `hem-year cut p.book 4 NEW` keeps them; \
                  the book is left as it is";
-    // Also where there is nothing to append.
-    for hours in [3, 6, 10] {
-        run(&folder, hours, &["--entry-version", "1"]).failed(1, words);
+    for hours in [7, 10] {
+        run(&folder, hours, &["--entry-version", "1"]).failed(1, &format!("{back}{words}\n"));
         assert_eq!(folder.read("p.book"), book);
     }
-    // Cut back to its hours of version 1 it takes them again.
-    folder.call(&["cut", "p.book", "4", "new.book"]).done();
-    folder.call(&["run", "p.head", "p.year", "new.book", "--entry-version", "1"]).done();
-    assert_eq!(folder.read("new.book"), made(&folder, &[1; 10]));
+    // Cut back to its hours of version 1 it takes them again, without being told to.
+    for named in [&[][..], &["--entry-version", "1"]] {
+        folder.call(&["cut", "p.book", "4", "new.book"]).done();
+        folder.call(&[&["run", "p.head", "p.year", "new.book"], named].concat()).done();
+        assert_eq!(folder.read("new.book"), made(&folder, &[1; 10]));
+    }
+    for (versions, words) in [
+        (&[1, 2, 2][..], "its first hour is of version 1: `hem-year cut p.book 1 NEW` keeps it; "),
+        (&[2, 2], "for version 1 begin another book; "),
+    ] {
+        folder.write("p.book", &made(&folder, versions));
+        let words = format!("{back}{words}the book is left as it is\n");
+        run(&folder, 10, &["--entry-version", "1"]).failed(1, &words);
+    }
 }
 
 #[test]
 fn a_version_that_no_hour_has_begins_no_book() {
     let folder = folder("unknown");
     for version in ["0", "3", "257", "18446744073709551615"] {
-        let words = format!(
-            "--entry-version: the entry version is {version}, not 1 or 2 (refusal 18); \
-             the entry versions are 1 and 2, and a book never goes back"
-        );
+        let words = format!("hem-year: --entry-version is {version}, not 1 or 2 (refusal 18)\n");
         run(&folder, 2, &["--entry-version", version]).failed(1, &words);
+        let check = ["check", "p.head", "p.year", "--entry-version", version];
+        folder.call(&check).failed(1, &words);
     }
     run(&folder, 2, &["--entry-version", "18446744073709551616"]).failed(2, "not a whole number");
     run(&folder, 2, &["--entry-version=-1"]).failed(2, "not a whole number");
@@ -134,19 +204,19 @@ fn a_report_counts_the_entries_of_each_version() {
         let report = folder.call(&["report", "p.book", "--csv", "x.csv", "--balance"]).done();
         assert!(report.contains(&format!("\nEntries    {entries}\n")), "{report}");
     };
+    let (one, two) = ("(cooling by frac_convective_heat)", "(cooling by frac_convective_cool)");
     run(&folder, 4, &["--entry-version", "1"]).done();
-    line("4 of version 1");
+    line(&format!("4 of version 1 {one}"));
+    assert!(folder.text("x.csv").contains("\n# entries: 4 of version 1\n"));
     run(&folder, 10, &["--entry-version", "2"]).done();
-    line("4 of version 1, 6 of version 2");
+    line(&format!("4 of version 1 {one}, 6 of version 2 {two}"));
     let csv = folder.text("x.csv");
-    let mut rows = csv.lines().filter(|line| !line.starts_with('#'));
-    let names: Vec<&str> = rows.next().unwrap().split(',').collect();
-    let column = names.iter().position(|name| *name == "entry_version").unwrap();
-    let held: Vec<&str> = rows.map(|row| row.split(',').nth(column).unwrap()).collect();
-    assert_eq!(held, ["1", "1", "1", "1", "2", "2", "2", "2", "2", "2"]);
+    assert!(csv.contains("\n# entries: 4 of version 1, 6 of version 2\n"));
+    let held = ["1", "1", "1", "1", "2", "2", "2", "2", "2", "2"];
+    assert_eq!(column(&csv, "entry_version"), held);
     folder.remove("p.book");
     run(&folder, 10, &[]).done();
-    line("10 of version 2");
+    line(&format!("10 of version 2 {two}"));
 }
 
 #[test]
@@ -159,17 +229,13 @@ fn the_balance_of_an_hour_is_that_of_its_version() {
     assert!(book.entries().any(|e| e.version() == 2 && e.demand().space_cool_demand < 0.0));
     folder.call(&["report", "p.book", "--csv", "x.csv", "--balance"]).done();
     let csv = folder.text("x.csv");
-    let mut rows = csv.lines().filter(|line| !line.starts_with('#'));
-    let names: Vec<&str> = rows.next().unwrap().split(',').collect();
-    let gains = "air_node.heating_or_cooling_system_gains";
-    let column = names.iter().position(|name| *name == gains).unwrap();
+    let gains = column(&csv, "air_node.heating_or_cooling_system_gains");
     let mut state = book.zone().start_up().unwrap();
-    for (entry, row) in book.entries().zip(rows) {
+    for (entry, cell) in book.entries().zip(gains) {
         let conditions = entry.conditions_bytes();
         let (after, _, balance) =
             book.zone().hour_step(&state, conditions, entry.version()).unwrap();
-        let cell: f64 = row.split(',').nth(column).unwrap().parse().unwrap();
-        assert_eq!(cell, balance.air_node.heating_or_cooling_system_gains);
+        assert_eq!(cell.parse(), Ok(balance.air_node.heating_or_cooling_system_gains));
         state = after;
     }
 }
@@ -183,4 +249,67 @@ fn an_hour_that_is_shown_has_its_version() {
         let shown = folder.call(&["show", "p.book", "--hour", number]).done();
         assert!(shown.contains(&format!("\n# entry_version = {number}\n")), "{shown}");
     }
+}
+
+/// A floor that takes up what version 2 cools, since none of it comes from the air. By the fraction of
+/// heating, as version 1 has it, all of it does.
+const FLOOR: &str = r#"temp_setpnt_basis = "air"
+start_up_limit = 1000
+useful_area = 100
+volume = 250
+tb_heat_trans_coeff = 0
+temp_ext_air_init = 20
+temp_setpnt_init = 20
+
+[conditions]
+delta_t_h = 0.01
+temp_ext_air = 20
+gains_internal = 0
+gains_solar = 0
+frac_convective_heat = 1
+frac_convective_cool = 0
+temp_setpnt_heat = -100
+avg_air_supply_temp = 20
+ach_cooling = 0
+temp_ext = 20
+i_sol_dir = 0
+i_sol_dif = 0
+f_sh_dir = 1
+f_sh_dif = 1
+
+[element.floor]
+kind = "Opaque"
+area = 100000
+pitch = 180
+h_ce = 20
+h_re = 0
+h_ri = 0.001
+solar_absorption_coeff = 0
+therm_rad_to_sky = 0
+k_pli = [10000000, 10000000, 10000000, 10000000, 10000000]
+h_pli = [1, 1, 1, 1]
+first_hour = { temp_ext = 20, i_sol_dir = 0, i_sol_dif = 0, f_sh_dir = 1, f_sh_dif = 1 }
+"#;
+
+#[test]
+fn a_check_is_of_the_version_that_is_given() {
+    let folder = Folder::new("checked");
+    folder.write("h.toml", FLOOR.as_bytes());
+    folder.write("h.csv", b"hour,temp_setpnt_cool\n1,-80\n2,-80\n");
+    for named in [&[][..], &["--entry-version", "2"]] {
+        let said = folder.call(&[&["check", "h.toml", "h.csv"], named].concat()).done();
+        let words = "every hour can be calculated, as entries of version 2\n";
+        assert!(said.ends_with(words), "{said}");
+    }
+    let answer = folder.call(&["check", "h.toml", "h.csv", "--entry-version", "1"]);
+    let said = String::from_utf8(answer.0.stdout.clone()).unwrap();
+    answer.failed(1, "1 fault");
+    assert!(said.starts_with("h.csv: hour 1 (1 Jan 00:00): a node temperature would "), "{said}");
+    assert!(said.contains("(refusal 13)"), "{said}");
+    let run = ["run", "h.toml", "h.csv", "h.book", "--entry-version", "1"];
+    folder.call(&run).failed(1, "(refusal 13); the book holds the 0 hours before it");
+
+    folder.write("warm.csv", b"hour,temp_setpnt_cool\n1,30\n2,30\n");
+    let said = folder.call(&["check", "h.toml", "warm.csv", "--entry-version=1"]).done();
+    assert!(said.ends_with(", as entries of version 1\n"), "{said}");
 }

@@ -61,7 +61,7 @@ fn demand_with(change: impl FnOnce(&mut Conditions)) -> Result<Demand, Refusal> 
 
 #[test]
 fn the_house_and_its_hour_are_accepted() {
-    assert!(zone().hour_step(&twenty(), &hour().to_bytes(), ENTRY_VERSION).is_ok());
+    assert!(zone().hour_step(&twenty(), &hour().to_bytes(), ENTRY_VERSION_2).is_ok());
     assert!(Book::begin(&house().to_bytes()).is_ok());
 }
 
@@ -287,11 +287,11 @@ fn n17_full_book() {
     let hour = hour_p(20.0, 24.0).to_bytes();
     let mut book = Book::begin(&house_p().to_bytes()).unwrap();
     for _ in 0..MOST_ENTRIES {
-        book.append(&hour, ENTRY_VERSION).unwrap();
+        book.append(&hour, ENTRY_VERSION_2).unwrap();
     }
     let sentence = "a book holds at most 8,784 entries";
     let full = book.bytes().to_vec();
-    is(book.append(&hour, ENTRY_VERSION).map(|_| ()), 17, 0, sentence);
+    is(book.append(&hour, ENTRY_VERSION_2).map(|_| ()), 17, 0, sentence);
     assert_eq!((book.hours(), book.bytes()), (8784, &full[..]));
     assert_eq!(Book::take_up(&full).unwrap().hours(), 8784);
     let one_more = [&full[..], &full[180..396]].concat();
@@ -302,7 +302,7 @@ fn n17_full_book() {
 fn n18_false_entries() {
     let mut book = Book::begin(&house().to_bytes()).unwrap();
     for _ in 0..3 {
-        book.append(&hour().to_bytes(), ENTRY_VERSION).unwrap();
+        book.append(&hour().to_bytes(), ENTRY_VERSION_2).unwrap();
     }
     let layout = book.zone().layout().clone();
     let third = layout.head_len() + 2 * layout.entry_len();

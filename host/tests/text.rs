@@ -132,7 +132,7 @@ fn the_sample_is_text() {
 
     folder.call(&["run", "terrace.toml", "terrace.csv", "t.book"]).done();
     let again = folder.call(&["run", "terrace.head", "terrace.year", "t.book"]).done();
-    assert!(again.contains("8,760 hours were held, 0 appended"), "{again}");
+    assert!(again.contains("8,760 hours were held (8,760 of version 2), 0 appended"), "{again}");
     let table = folder.call(&["show", "t.book", "--hours", "--head", "terrace.toml"]).done();
     folder.write("b.csv", table.as_bytes());
     folder.call(&["hours", "b.csv", "b.year", "--head=terrace.toml"]).done();

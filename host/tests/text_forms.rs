@@ -16,7 +16,7 @@ fn the_texts_are_good() {
     assert_eq!(
         praise,
         "h.toml: a house of 2 elements\nh.csv: 3 hours\n\
-         no faults: start-up settles and every hour can be calculated\n"
+         no faults: start-up settles and every hour can be calculated, as entries of version 2\n"
     );
     let plan = plan();
     let hours = read_hours("h.csv", HOURS.as_bytes(), Some(&plan), &mut Faults::new()).unwrap();

@@ -1,8 +1,8 @@
 //! Entry versions: by which fraction what is delivered is shared, and books that pass from 1 to 2.
 use hem_zone::samples::{hour_p, house_p};
 use hem_zone::{
-    Basis, Book, Conditions, Demand, Head, HeatBalance, Refusal, State, Zone, ENTRY_VERSION,
-    VERSION_1, VERSION_2,
+    Basis, Book, Conditions, Demand, Head, HeatBalance, Refusal, State, Zone, ENTRY_VERSION_1,
+    ENTRY_VERSION_2, NEWEST_ENTRY_VERSION,
 };
 
 /// A house with chilled ceilings: its heating gives 0.3 of its heat to the air, its cooling 0.7. The
@@ -44,8 +44,8 @@ fn a_cooled_hour_keeps_its_setpoint_from_version_2_on() {
         let zone = Zone::new(&house(basis)).unwrap();
         let cooled = hour(15.0, 18.0, 0.0);
         let after = |version| controlled(&zone, basis, &cooled, version);
-        assert!((after(VERSION_2) - 18.0).abs() < 1e-9, "{}", after(VERSION_2));
-        assert!((after(VERSION_1) - 18.0).abs() > 0.05, "{}", after(VERSION_1));
+        assert!((after(ENTRY_VERSION_2) - 18.0).abs() < 1e-9, "{}", after(ENTRY_VERSION_2));
+        assert!((after(ENTRY_VERSION_1) - 18.0).abs() > 0.05, "{}", after(ENTRY_VERSION_1));
     }
 }
 
@@ -55,10 +55,10 @@ fn a_heated_hour_and_an_idle_one_are_the_same_in_both_versions() {
         let zone = Zone::new(&house(basis)).unwrap();
         for hour in [hour(22.0, 24.0, 0.0), hour(19.0, 24.0, 0.0), hour(19.0, 60.0, 80.0)] {
             let step = |version| zone.hour_step(&twenty(), &hour, version).unwrap();
-            assert_eq!(step(VERSION_1).1.space_cool_demand, 0.0);
-            assert_eq!(bits(step(VERSION_1)), bits(step(VERSION_2)));
+            assert_eq!(step(ENTRY_VERSION_1).1.space_cool_demand, 0.0);
+            assert_eq!(bits(step(ENTRY_VERSION_1)), bits(step(ENTRY_VERSION_2)));
         }
-        let heated = controlled(&zone, basis, &hour(22.0, 24.0, 0.0), VERSION_1);
+        let heated = controlled(&zone, basis, &hour(22.0, 24.0, 0.0), ENTRY_VERSION_1);
         assert!((heated - 22.0).abs() < 1e-9, "{heated}");
     }
 }
@@ -74,7 +74,7 @@ fn by_update(zone: &Zone, hour: &Conditions, version: u64) -> (State, String) {
     let demand = zone.space_heat_cool_demand(&twenty(), hour).unwrap();
     let kwh = demand.space_heat_demand + demand.space_cool_demand;
     let delivered = kwh * 1000.0 / hour.delta_t_h;
-    let fraction = match delivered < 0.0 && version == VERSION_2 {
+    let fraction = match delivered < 0.0 && version == ENTRY_VERSION_2 {
         true => hour.frac_convective_cool,
         false => hour.frac_convective_heat,
     };
@@ -92,7 +92,7 @@ fn each_version_is_the_update_with_its_own_share() {
     for basis in [Basis::Air, Basis::Operative] {
         let zone = Zone::new(&house(basis)).unwrap();
         for hour in [hour(15.0, 18.0, 0.0), hour(15.0, 18.0, 40.0), hour(22.0, 24.0, 40.0)] {
-            for version in [VERSION_1, VERSION_2] {
+            for version in [ENTRY_VERSION_1, ENTRY_VERSION_2] {
                 let step = zone.hour_step(&twenty(), &hour, version).unwrap();
                 assert_eq!(bits(step), by_update(&zone, &hour, version), "version {version}");
             }
@@ -162,7 +162,7 @@ fn a_book_that_is_cut_back_to_version_1_takes_it_again() {
         let mut cut = Book::take_up(&book.bytes()[..head + kept * size]).unwrap();
         assert_eq!((cut.hours(), cut.last_version()), (kept, last));
         let again =
-            cut.append(&hour(15.0, 18.0, 0.0), VERSION_1).map(|_| ()).map_err(|r| r.number());
+            cut.append(&hour(15.0, 18.0, 0.0), ENTRY_VERSION_1).map(|_| ()).map_err(|r| r.number());
         assert_eq!(again, if last == 1 { Ok(()) } else { Err(18) });
     }
 }
@@ -182,7 +182,16 @@ fn two_books_of_the_same_hours_and_other_versions_are_two_books() {
         |a: &Book, b: &Book| a.bytes().iter().zip(b.bytes()).filter(|(a, b)| a != b).count();
     assert_eq!([differ(&one, &mixed), differ(&mixed, &two), differ(&one, &two)], [1, 1, 2]);
     assert_eq!(one.state(), two.state());
-    assert_eq!(ENTRY_VERSION, VERSION_2);
+}
+
+#[test]
+fn the_newest_version_is_the_last_that_the_engine_takes() {
+    let zone = Zone::new(&house(Basis::Air)).unwrap();
+    let step = |version| zone.hour_step(&twenty(), &hour(15.0, 18.0, 0.0), version);
+    for version in ENTRY_VERSION_1..=NEWEST_ENTRY_VERSION {
+        assert!(step(version).is_ok());
+    }
+    assert_eq!(step(NEWEST_ENTRY_VERSION + 1).unwrap_err().number(), 18);
 }
 
 #[test]
@@ -191,15 +200,14 @@ fn a_refused_version_is_told() {
     let (mut book, hour) = (book(&[1, 2, 2]), hour(15.0, 18.0, 0.0));
     let append =
         |book: &mut Book, version| book.append(&hour, version).map(|_| ()).map_err(printed);
-    let below =
-        "the entry version is 1, below that of the entry before it, 2 (refusal 18, entry 3)";
+    // Neither an append nor an hour step has an entry to name.
+    let below = "the entry version is 1, below that of the entry before it, 2 (refusal 18)";
     assert_eq!(append(&mut book, 1), Err(below.into()));
-    let unknown = "the entry version is 257, not 1 or 2 (refusal 18";
-    assert_eq!(append(&mut book, 257), Err(format!("{unknown}, entry 3)")));
-    assert_eq!(append(&mut self::book(&[]), 257), Err(format!("{unknown}, entry 0)")));
-    // An hour step has no entry to name.
+    let unknown = String::from("the entry version is 257, not 1 or 2 (refusal 18)");
+    assert_eq!(append(&mut book, 257), Err(unknown.clone()));
+    assert_eq!(append(&mut self::book(&[]), 257), Err(unknown.clone()));
     let step = book.zone().hour_step(&twenty(), &hour, 257).map_err(printed);
-    assert_eq!(step, Err(format!("{unknown})")));
+    assert_eq!(step, Err(unknown));
     let mut bytes = book.bytes().to_vec();
     let layout = book.zone().layout();
     for (version, fault) in [(1, "1, below that of the entry before it, 2"), (0, "0, not 1 or 2")] {

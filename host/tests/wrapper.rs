@@ -1,7 +1,7 @@
 //! What the wrapper adds to the engine: records where bytes are taken, reasons by name, states of any
 //! length, and no call in a floating-point environment that would give other values.
 use hem_zone::samples::{hour_p, house_p};
-use hem_zone::{Book, Reason, Refusal, State, Zone, ENTRY_VERSION};
+use hem_zone::{Book, Reason, Refusal, State, Zone, ENTRY_VERSION_2};
 use std::arch::asm;
 
 fn zone() -> Zone {
@@ -21,7 +21,7 @@ fn a_record_is_taken_where_bytes_are() {
 
     let (z, s) = (zone(), twenty());
     assert_eq!(z.space_heat_cool_demand(&s, &hour), z.space_heat_cool_demand(&s, &hour_bytes));
-    let version = ENTRY_VERSION;
+    let version = ENTRY_VERSION_2;
     assert_eq!(z.hour_step(&s, &hour, version), z.hour_step(&s, &hour_bytes[..], version));
     assert_eq!(
         z.update_temperatures(&s, &hour, 144.0, 1.0, 0.0),
@@ -36,7 +36,7 @@ fn a_record_is_taken_where_bytes_are() {
 
 #[test]
 fn a_refusal_has_its_reason_beside_its_number() {
-    let crossed = zone().hour_step(&twenty(), &hour_p(22.0, 21.0), ENTRY_VERSION).unwrap_err();
+    let crossed = zone().hour_step(&twenty(), &hour_p(22.0, 21.0), ENTRY_VERSION_2).unwrap_err();
     assert_eq!((crossed.reason(), crossed.number()), (Reason::CoolingBelowHeating, 10));
     let short = Zone::from_head(&[0; 3]).unwrap_err();
     assert_eq!((short.reason(), short.number()), (Reason::HeadShort, 1));
@@ -50,7 +50,7 @@ fn a_state_of_any_length_can_be_held_and_is_refused() {
         let state = State::new(&vec![20.0; count]);
         assert_eq!(state.temps().len(), count.min(121));
         assert_eq!(state.temp_internal_air().is_nan(), count == 0 || count > 121, "{count}");
-        let refusal = zone().hour_step(&state, &hour_p(21.0, 24.0), ENTRY_VERSION).unwrap_err();
+        let refusal = zone().hour_step(&state, &hour_p(21.0, 24.0), ENTRY_VERSION_2).unwrap_err();
         assert_eq!(refusal.reason(), Reason::StateInvalid);
         assert_eq!(
             zone().temp_operative(&state).unwrap_err().sentence(),
@@ -69,11 +69,11 @@ fn every_call(zone: &Zone, book: &Book) -> Vec<Option<Refusal>> {
         zone.start_up().err(),
         zone.space_heat_cool_demand(&twenty(), &hour).err(),
         zone.update_temperatures(&twenty(), &hour, 0.0, 1.0, 0.0).err(),
-        zone.hour_step(&twenty(), &hour, ENTRY_VERSION).err(),
+        zone.hour_step(&twenty(), &hour, ENTRY_VERSION_2).err(),
         zone.temp_operative(&twenty()).err(),
         Book::begin(zone).err(),
         Book::take_up(book.bytes()).err(),
-        book.clone().append(&hour, ENTRY_VERSION).err(),
+        book.clone().append(&hour, ENTRY_VERSION_2).err(),
     ]
 }
 
@@ -99,7 +99,7 @@ fn with_control<T: Send>(bits: u32, work: impl FnOnce() -> T + Send) -> T {
 fn another_floating_point_environment_is_refused_by_every_call() {
     let zone = zone();
     let mut book = Book::begin(&zone).unwrap();
-    book.append(&hour_p(21.0, 24.0), ENTRY_VERSION).unwrap();
+    book.append(&hour_p(21.0, 24.0), ENTRY_VERSION_2).unwrap();
     let denormal = "the calling thread takes denormal numbers for zero (FTZ or DAZ is on); \
                     the engine needs rounding to nearest with denormal numbers, and is not called";
     for (bits, start) in [

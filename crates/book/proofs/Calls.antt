@@ -12,7 +12,6 @@ use lib.Ieee.{Float}
 use borrow.Author.Tests.{leb-true, leb-false, le-leb, lt-ltb, lt-leb, le-ltb}
 use Rattle.zone.specs.Promise.{Result, ok, refused, bind, require}
 use Rattle.zone.specs.Inner.Lent.{zoneIn}
-use Rattle.zone.specs.Record.Numbers.{falseEntry}
 use Rattle.zone.specs.Record.BuildingElement.{standardCoefficients}
 use Rattle.zone.specs.Format.Head.{ReadHead}
 use Rattle.zone.specs.Inner.Head.{structuredHead, headIn}
@@ -32,7 +31,7 @@ use Rattle.zone.specs.declared.calls.state.Demand.{Demand}
 use Rattle.zone.specs.declared.calls.state.DemandAnswer.the-variants as DemandAnswer
 use Rattle.zone.specs.declared.calls.state.DemandReply.{DemandReply}
 use Rattle.zone.specs.declared.calls.state.StartUp.{StartUp}
-use Rattle.book.specs.Numbers.{bufferShort, bookFull}
+use Rattle.book.specs.Numbers.{bufferShort, bookFull, falseEntry}
 use Rattle.book.specs.Model.Interface.{Written}
 use Rattle.book.specs.Model.Calls as Book
 use Rattle.book.specs.Model.Session.{CallSpec}
@@ -40,7 +39,7 @@ use Rattle.book.specs.Inner.Replace.{replaceAt}
 use Rattle.zone.specs.Format.Layout.{conditionsLength}
 use Rattle.book.specs.Layout.{wholeLength}
 use Rattle.book.specs.Entry.{entryOf}
-use Rattle.book.specs.Year.{hour, Carried, noEntryVersion, mayFollow, startUp, hourEntry, yearInterface}
+use Rattle.book.specs.Year.{hour, Carried, carried, noEntryVersion, mayFollow, startUp, hourEntry, yearInterface}
 use Rattle.book.specs.Answers.{givenOf, replyIn, rustTypes}
 use Rattle.book.specs.declared.book.BookState.{BookState}
 use Rattle.book.specs.declared.book.Reply.{Reply}
@@ -119,7 +118,7 @@ module _ (head : List ℕ) (h : Head) (codes : List ℕ) (values : List Float) (
     module _ (k : s .verdict ≡ Accepted) where
       -- what is carried from it
       abbrev first : Carried
-      first = record { state = s .state; lastVersion = noEntryVersion }
+      first = carried (s .state) noEntryVersion
 
       started : startUp (zoneIn (h .zone) codes values) ≡ ok first
       started = starts (zoneIn (h .zone) codes values) s i k
@@ -175,7 +174,7 @@ module _ (z : Zone) (g : BookState) (version : ℕ) (i : List ℕ) (buf : List �
       append-hour follows r n j q x e f = append-refused r n j q (rw (tested, room, step-refused z tested (givenOf g .state) version follows i x e n j f (g .count)))
 
       module _ (d : Demand) (after : State)
-          (gives : hourEntry z (g .count) (givenOf g .state) (hour version i) ≡ ok (record { bytes = entryOf z version i d after; after = record { state = after; lastVersion = version } }))
+          (gives : hourEntry z (g .count) (givenOf g .state) (hour version i) ≡ ok (record { bytes = entryOf z version i d after; after = carried after version }))
           (m : ℕ) (l : m ≡ wholeLength z) (t : Bool) (k : t ≡ leb (g .used + m) (length buf)) where
         abbrev bytes : List ℕ
         bytes = entryOf z version i d after
@@ -190,13 +189,13 @@ module _ (z : Zone) (g : BookState) (version : ℕ) (i : List ℕ) (buf : List �
         unfolding Book.appendRes
         append-short r q n = append-refused r bufferShort 0 q (rw (tested, room, gives, test ∙ n))
 
-        pub append-good : (r : Reply) → r ≡ replyIn (Book.accepted (record { state = record { state = after; lastVersion = version }; count = g .count + 1; used = g .used + m }))
+        pub append-good : (r : Reply) → r ≡ replyIn (Book.accepted (record { state = carried after version; count = g .count + 1; used = g .used + m }))
             → t ≡ true → (out : List ℕ) → out ≡ replaceAt (g .used) bytes buf → AppendCallSpec r out
         unfolding Book.append Book.appendRes replaceAt
         append-good r q n out o =
             record {
               reply = rw (tested, room, gives, test ∙ n)
-                  (q ∙ ap {B = Reply} (λ y. replyIn (Book.accepted (record { state = record { state = after; lastVersion = version }; count = g .count + 1; used = g .used + y }))) (sym long));
+                  (q ∙ ap {B = Reply} (λ y. replyIn (Book.accepted (record { state = carried after version; count = g .count + 1; used = g .used + y }))) (sym long));
               bytes = rw (tested, room, gives, test ∙ n) o;
             }
 

@@ -17,8 +17,8 @@ use Rattle.book.specs.Model.PlainTakeUp.{takeUpPlain}
 use Rattle.book.specs.Model.Claims.{keptBy}
 use Rattle.book.specs.Layout.{wholeLength}
 use Rattle.book.specs.Entry.{entryOf}
-use Rattle.book.specs.Year.{Item, hour, Carried, noEntryVersion, hourEntry, yearInterface}
-use Rattle.book.specs.HouseP.{twentyAt, begun, BeginOfP, BookOfP}
+use Rattle.book.specs.Year.{Item, hour, Carried, carried, noEntryVersion, hourEntry, yearInterface}
+use Rattle.book.specs.HouseP.{begun, BeginOfP, BookOfP}
 use Rattle.book.proofs.Model.AppendCut.{cut-is, cut-take-up}
 use Rattle.book.proofs.Model.Books.Cuts.{take-up-ok}
 use Rattle.book.proofs.Laws.Interface.{step-length, year-laws}
@@ -32,7 +32,7 @@ begin-of-p buf room =
 -- ---- its hour, of a version
 
 entry : (version : ℕ) → Written Carried
-entry version = record { bytes = entryOf houseP version hourOfP noDemand twenty; after = twentyAt version }
+entry version = record { bytes = entryOf houseP version hourOfP noDemand twenty; after = carried twenty version }
 
 whole : wholeLength houseP ≡ 216
 whole = omega (arith, count-of-p, nodes-of-p)
@@ -40,14 +40,14 @@ whole = omega (arith, count-of-p, nodes-of-p)
 head-is : yearInterface .headOf headOfP ≡ ok (record { zone = houseP; length = length headOfP })
 head-is = house-p .head ∙ ap (λ n. ok (record { zone = houseP; length = n })) (sym head-of-p-length)
 
-start-is : yearInterface .startUp houseP ≡ ok (twentyAt noEntryVersion)
+start-is : yearInterface .startUp houseP ≡ ok (carried twenty noEntryVersion)
 start-is = rw (house-p .start-up) refl
 
 none-formed : WellFormed yearInterface headOfP []
 unfolding entriesOf
 none-formed =
     record {
-      contents = record { zone = houseP; start = twentyAt noEntryVersion; entries = [] };
+      contents = record { zone = houseP; start = carried twenty noEntryVersion; entries = [] };
       head-is = head-is;
       start-is = start-is;
       entries-are = refl;
@@ -56,9 +56,9 @@ none-formed =
 
 -- ---- the book with this hour, and cuts of it
 
-module _ (version : ℕ) (gives : yearInterface .step houseP 0 (twentyAt noEntryVersion) (hour version hourOfP) ≡ ok (entry version)) where
+module _ (version : ℕ) (gives : yearInterface .step houseP 0 (carried twenty noEntryVersion) (hour version hourOfP) ≡ ok (entry version)) where
   long : length (entry version .bytes) ≡ 216
-  long = step-length houseP 0 (twentyAt noEntryVersion) (hour version hourOfP) (entry version) gives ∙ whole
+  long = step-length houseP 0 (carried twenty noEntryVersion) (hour version hourOfP) (entry version) gives ∙ whole
 
   abbrev items : List Item
   items = hour version hourOfP ∷ []
@@ -70,7 +70,7 @@ module _ (version : ℕ) (gives : yearInterface .step houseP 0 (twentyAt noEntry
         contents =
             record {
               zone = houseP;
-              start = twentyAt noEntryVersion;
+              start = carried twenty noEntryVersion;
               entries = record { item = hour version hourOfP; bytes = entry version .bytes; after = entry version .after } ∷ [];
             };
         head-is = head-is;
@@ -108,13 +108,13 @@ module _ (version : ℕ) (gives : yearInterface .step houseP 0 (twentyAt noEntry
   unfolding none-formed
   at-395 g =
       taken g 395 [] (omega arith) kept-none none-formed
-      ∙ (λ t. accepted (record { state = twentyAt noEntryVersion; count = 0; used = (ap length (append-nil headOfP) ∙ head-of-p-length) t }))
+      ∙ (λ t. accepted (record { state = carried twenty noEntryVersion; count = 0; used = (ap length (append-nil headOfP) ∙ head-of-p-length) t }))
 
-  same-after : entry version .after ≡ twentyAt version
+  same-after : entry version .after ≡ carried twenty version
   unfolding entry
   same-after = refl
 
-  at-396 : (g : BookState Carried) → takeUp yearInterface g (take 396 (headOfP ++ entry version .bytes)) ≡ accepted (record { state = twentyAt version; count = 1; used = 396 })
+  at-396 : (g : BookState Carried) → takeUp yearInterface g (take 396 (headOfP ++ entry version .bytes)) ≡ accepted (record { state = carried twenty version; count = 1; used = 396 })
   unfolding formed
   at-396 g =
       taken g 396 items (omega arith) kept-one formed

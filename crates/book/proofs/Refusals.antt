@@ -1,19 +1,22 @@
 -- Which numbers and indices begin, append and take-up are refused with.
-use Prim.Native.Nat.{ℕ, _<_}
+use Prim.Native.Nat.{ℕ}
+use mathlib.Core.Path.{_≡_}
+use mathlib.Core.Bool.{false}
 use mathlib.Core.List.{List}
-use native.Mathlib.Omega.{arith}
+use lib.Dec.{leb}
 use Rattle.zone.specs.Promise.{RefusesOnly, accepts}
-use Rattle.zone.proofs.Promise.{bind-refuses, refuses-also, test-refuses}
-use Rattle.zone.specs.Record.Numbers.{falseEntry}
-use Rattle.zone.specs.Claims.Refusals.{HourRefusal, hourDemand, hourEntryVersion, StartUpRefusal}
+use Rattle.zone.proofs.Promise.{and-true, because, bind-refuses, refuses-also}
+use Rattle.zone.specs.Calls.Hour.{hourVersion}
+use Rattle.zone.specs.Claims.Refusals.{DemandRefusal, StartUpRefusal}
 use Rattle.zone.specs.Record.BuildingElement.{standardCoefficients}
 use Rattle.zone.specs.declared.record.zone_record.Zone.{Zone}
 use Rattle.zone.proofs.Claims.HeadRefusals.{head-refusals, zone-refusals}
-use Rattle.zone.proofs.Claims.Refusals.{hour-step-refusals, start-up-refusals}
+use Rattle.zone.proofs.Claims.Refusals.{known-step-refusals, start-up-refusals}
+use Rattle.book.specs.Numbers.{falseEntry}
 use Rattle.book.specs.Model.Calls.{BookState, beginRes, appendRes, takeUpRes}
 use Rattle.book.proofs.Model.Laws.Refusals.{begin-refuses-by, append-refuses-by, take-up-refuses-by}
 use Rattle.book.specs.Year.{Item, hour, Carried, mayFollow, startUp, hourEntry, yearInterface}
-use Rattle.book.specs.Layout.{mostEntries}
+use Rattle.book.specs.VersionOrder.{versionOf}
 use Rattle.book.specs.Refusals.{
   BeginRefusal,
   beginHead,
@@ -22,7 +25,7 @@ use Rattle.book.specs.Refusals.{
   AppendRefusal,
   appendZone,
   appendBookFull,
-  appendEntryVersion,
+  appendFalseEntry,
   appendHour,
   appendBufferShort,
   TakeUpRefusal,
@@ -43,23 +46,22 @@ begin-refusals head buf =
     (start-refuses λ n i p. beginStartUp p)
     beginBufferShort head buf
 
--- an hour step of a version that may follow
-hour-allowed : (n i : ℕ) → HourRefusal n i → AppendRefusal n i
-hour-allowed n i (hourDemand p) = appendHour p
-hour-allowed n i hourEntryVersion = appendEntryVersion 0 (omega arith)
-
-step-refuses : (z : Zone) (k : ℕ) (s : Carried) (i : Item) → k < mostEntries → RefusesOnly AppendRefusal (hourEntry z k s i)
+-- the entry of an hour: 18 for its version, or the demand's
+pub hour-refuses-by : {P : ℕ → ℕ → Type 0} (z : Zone) (k : ℕ) (s : Carried) (i : Item) → (mayFollow (s .lastVersion) (versionOf i) ≡ false → P falseEntry k)
+    → ((n i : ℕ) → DemandRefusal n i → P n i) → RefusesOnly P (hourEntry z k s i)
 unfolding hourEntry
-step-refuses z k s (hour version body) few =
-    test-refuses (mayFollow (s .lastVersion) version) falseEntry k _ (appendEntryVersion k few) λ _.
-    bind-refuses _ (refuses-also hour-allowed (hour-step-refusals standardCoefficients z (s .state) body version)) λ r _.
+hour-refuses-by z k s (hour version body) false-entry also =
+    because (mayFollow (s .lastVersion) version) falseEntry k _ false-entry λ follows.
+    let known = and-true (hourVersion version) (leb (s .lastVersion) version) follows .0 in
+    bind-refuses _ (refuses-also also (known-step-refusals standardCoefficients z (s .state) body version known)) λ r _.
     accepts _
 
-pub append-refusals : (z : Zone) (given : BookState Carried) (i : Item) (buf : List ℕ) → RefusesOnly AppendRefusal (appendRes yearInterface z given i buf)
+pub append-refusals : (z : Zone) (given : BookState Carried) (i : Item) (buf : List ℕ) → RefusesOnly (AppendRefusal (given .count)) (appendRes yearInterface z given i buf)
 append-refusals z given i buf =
-    append-refuses-by yearInterface
-    (λ z s. refuses-also (λ n i p. appendZone p) (zone-refusals z))
-    step-refuses appendBufferShort appendBookFull z given i buf
+    append-refuses-by yearInterface z given i buf
+    (refuses-also (λ n i p. appendZone p) (zone-refusals z))
+    (λ _ few. hour-refuses-by z (given .count) (given .state) i (λ _. appendFalseEntry few) (λ n i p. appendHour p))
+    appendBufferShort appendBookFull
 
 pub take-up-refusals : (bytes : List ℕ) → RefusesOnly TakeUpRefusal (takeUpRes yearInterface bytes)
 take-up-refusals bytes =

@@ -34,10 +34,10 @@ use Rattle.book.specs.Numbers.{bookFull, falseEntry}
 use Rattle.book.specs.Model.Bytes.{equalBytes}
 use Rattle.book.specs.Model.Calls as Book
 use Rattle.book.proofs.Model.Laws.Decode.{whole-none, whole-some}
-use Rattle.zone.specs.Format.Layout.{conditionsLength}
+use Rattle.zone.specs.Format.Layout.{versionIn, conditionsLength}
 use Rattle.book.specs.Layout.{frontSize, wholeLength}
 use Rattle.book.specs.Entry.{entryOf}
-use Rattle.book.specs.Year.{hour, Carried, noEntryVersion, mayFollow, hourEntry, entryLength, versionIn, conditionsIn, itemIn, yearInterface}
+use Rattle.book.specs.Year.{hour, Carried, carried, noEntryVersion, mayFollow, hourEntry, entryLength, conditionsIn, itemIn, yearInterface}
 use Rattle.book.specs.Answers.{givenOf, replyIn}
 use Rattle.book.specs.Inner.Checked.{checkedEntry}
 use Rattle.book.specs.declared.book.BookState.{BookState}
@@ -48,10 +48,6 @@ use Rattle.book.proofs.Laws.Interface.{length-here, length-none, year-l
 use Rattle.book.proofs.Laws.NextHour.{step-given, step-refused, step-not-next}
 
 -- ---- one entry
-
--- what is carried, by its parts
-abbrev carried : State → (lastVersion : ℕ) → Carried
-carried s last = record { state = s; lastVersion = last }
 
 module _ (z : Zone) (k : ℕ) (s : State) (last : ℕ) (c : List ℕ) where
   abbrev False : CheckedEntry → Type 0

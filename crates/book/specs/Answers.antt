@@ -3,12 +3,12 @@ use Rattle.zone.specs.declared.record.zone_record.Verdict.{Verdict}
 use Rattle.zone.specs.declared.record.zone_record.Verdict.the-variants.{Accepted, Refused}
 use Rattle.book.specs.Model.Calls as Book
 use Rattle.book.specs.Model.Session.{CodeTypes}
-use Rattle.book.specs.Year.{Carried, yearInterface}
+use Rattle.book.specs.Year.{Carried, carried, yearInterface}
 use Rattle.book.specs.declared.book.BookState.{BookState}
 use Rattle.book.specs.declared.book.Reply.{Reply}
 
 abbrev pub givenOf : BookState → Book.BookState Carried
-givenOf v = record { state = record { state = v .state; lastVersion = v .«last_version» }; count = v .count; used = v .used }
+givenOf v = record { state = carried (v .state) (v .«last_version»); count = v .count; used = v .used }
 
 abbrev pub bookStateIn : Book.BookState Carried → BookState
 bookStateIn v = record { state = v .state .state; count = v .count; used = v .used; «last_version» = v .state .lastVersion }

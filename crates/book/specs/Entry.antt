@@ -34,4 +34,4 @@ temperatureBytes z s = rowBytes (take (nodeCount z) (s .temps))
 
 -- "Entry: conditions, heating, cooling, rate, trigger byte, trigger rate, N node temperatures." The conditions' bytes stand as they were given.
 unfoldable pub entryOf : Zone → (version : ℕ) → (conditions : List ℕ) → Demand → State → List ℕ
-entryOf z version i d s = frontBytes z version ++ (i ++ (demandBytes d ++ temperatureBytes z s))
+entryOf z version conditions d s = frontBytes z version ++ (conditions ++ (demandBytes d ++ temperatureBytes z s))

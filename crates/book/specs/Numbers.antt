@@ -1,4 +1,4 @@
--- The book's refusal numbers. 18 is the zone's too.
+-- The book's refusal numbers; 18 is the hour step's too.
 use Prim.Native.Nat.{ℕ}
 pub use Rattle.zone.specs.Record.Numbers.{falseEntry}
 

@@ -3,7 +3,6 @@ use Prim.Native.Nat.{ℕ, _<_}
 use mathlib.Core.List.{List}
 use Rattle.zone.specs.Promise.{RefusesOnly}
 use Rattle.zone.specs.declared.record.zone_record.Zone.{Zone}
-use Rattle.zone.specs.Record.Numbers.{falseEntry}
 use Rattle.zone.specs.Claims.HeadRefusals.{HeadRefusal, ZoneRefusal}
 use Rattle.zone.specs.Claims.Refusals.{DemandRefusal, StartUpRefusal}
 use Rattle.book.specs.Model.Calls.{BookState, beginRes, appendRes, takeUpRes}
@@ -18,12 +17,12 @@ pub data BeginRefusal : (number index : ℕ) → Type 0 where
   beginBufferShort : BeginRefusal bufferShort 0
 
 -- "Append: 8,784 entries held, 17; the hour step's; buffer, 16." The zone is tested first; 18 comes "after 17, its index the count held".
-pub data AppendRefusal : (number index : ℕ) → Type 0 where
-  appendZone : {number index : ℕ} → ZoneRefusal number index → AppendRefusal number index
-  appendBookFull : AppendRefusal bookFull 0
-  appendEntryVersion : (count : ℕ) → count < mostEntries → AppendRefusal falseEntry count
-  appendHour : {number index : ℕ} → DemandRefusal number index → AppendRefusal number index
-  appendBufferShort : AppendRefusal bufferShort 0
+pub data AppendRefusal (count : ℕ) : (number index : ℕ) → Type 0 where
+  appendZone : {number index : ℕ} → ZoneRefusal number index → AppendRefusal count number index
+  appendBookFull : AppendRefusal count bookFull 0
+  appendFalseEntry : count < mostEntries → AppendRefusal count falseEntry count
+  appendHour : {number index : ℕ} → DemandRefusal number index → AppendRefusal count number index
+  appendBufferShort : AppendRefusal count bufferShort 0
 
 -- "Take up: head; start-up; then per whole entry, a 8,785th 17, a false one 18", with the entry's index from 0
 pub data TakeUpRefusal : (number index : ℕ) → Type 0 where
@@ -35,5 +34,5 @@ pub data TakeUpRefusal : (number index : ℕ) → Type 0 where
 -- which refusals each call can give, for every input
 pub record BookRefusals : Type 0 where
   pub begins : (head buf : List ℕ) → RefusesOnly BeginRefusal (beginRes yearInterface head buf)
-  pub appends : (z : Zone) (given : BookState Carried) (i : Item) (buf : List ℕ) → RefusesOnly AppendRefusal (appendRes yearInterface z given i buf)
+  pub appends : (z : Zone) (given : BookState Carried) (i : Item) (buf : List ℕ) → RefusesOnly (AppendRefusal (given .count)) (appendRes yearInterface z given i buf)
   pub takeUps : (bytes : List ℕ) → RefusesOnly TakeUpRefusal (takeUpRes yearInterface bytes)

@@ -28,7 +28,7 @@ ghost use Rattle.book.specs.Model.Calls as Book;
 ghost use Rattle.book.specs.Model.Session.{CallSpec};
 ghost use Rattle.book.specs.Layout.{mostEntries};
 ghost use Rattle.book.specs.Entry.{entryOf};
-ghost use Rattle.book.specs.Year.{hour, mayFollow, yearInterface, hourEntry};
+ghost use Rattle.book.specs.Year.{hour, carried, mayFollow, yearInterface, hourEntry};
 ghost use Rattle.book.specs.Answers.{givenOf, replyIn, rustTypes};
 
 // What a call is given and hands back: the node temperatures, the count of entries, the used length and the version of the last entry, 1 where there is
@@ -56,7 +56,7 @@ pub fn refuse(given: BookState, number: u32, index: usize) -> Reply
 }
 
 pub fn accept(state: State, last_version: u64, count: usize, used: usize) -> Reply
-    ensures { λ r. ⌜ r ≡ replyIn (Book.accepted (record { state = record { state = state; lastVersion = «last_version» }; count = count; used = used })) ⌝ }
+    ensures { λ r. ⌜ r ≡ replyIn (Book.accepted (record { state = carried state «last_version»; count = count; used = used })) ⌝ }
 {
     Reply {
         verdict: Verdict::Accepted,
@@ -119,7 +119,7 @@ fn append_entry(
     after: State,
     buf: &mut [u8],
 ) -> Reply
-    requires { ⌜ (zoneTest (zoneIn z (now codes) (now values)) ≡ ok tt) × (given .count < mostEntries) × (hourEntry (zoneIn z (now codes) (now values)) (given .count) (givenOf given .state) (hour version (now conditions)) ≡ ok (record { bytes = entryOf (zoneIn z (now codes) (now values)) version (now conditions) demand after; after = record { state = after; lastVersion = version } })) ⌝ }
+    requires { ⌜ (zoneTest (zoneIn z (now codes) (now values)) ≡ ok tt) × (given .count < mostEntries) × (hourEntry (zoneIn z (now codes) (now values)) (given .count) (givenOf given .state) (hour version (now conditions)) ≡ ok (record { bytes = entryOf (zoneIn z (now codes) (now values)) version (now conditions) demand after; after = carried after version })) ⌝ }
     ensures { λ r. ⌜ CallSpec yearInterface rustTypes r (now (buf .exit)) (Book.append yearInterface (zoneIn z (now (codes .entry)) (now (values .entry))) (givenOf given) (hour version (now (conditions .entry))) (now (buf .entry))) ⌝ }
 {
     let count = given.count;

@@ -19,7 +19,7 @@ ghost use Rattle.zone.specs.Inner.Kept.{arrays, held, Kept};
 ghost use Rattle.book.specs.Model.Calls as Book;
 ghost use Rattle.book.specs.Numbers.{falseEntry};
 ghost use Rattle.book.specs.Layout.{wholeLength};
-ghost use Rattle.book.specs.Year.{hour, mayFollow, yearInterface, hourEntry, conditionsIn, itemIn};
+ghost use Rattle.book.specs.Year.{hour, carried, mayFollow, yearInterface, hourEntry, conditionsIn, itemIn};
 ghost use Rattle.book.specs.Inner.Checked.{checkedEntry};
 
 // One whole entry against the hour step: the state after it and its version, or 18 and those before it.
@@ -65,7 +65,7 @@ fn check_hour(
 ) -> CheckedEntry
     requires { ⌜ (zoneTest (zoneIn z (now codes) (now values)) ≡ ok tt) × (length (now entry) ≡ wholeLength (zoneIn z (now codes) (now values)))
         × Kept (zoneIn z (now codes) (now values)) (held (now flags) (now numbers) (now key) (arrays (now «two_nodes») (now diag) (now next) (now prev) (now dense) (now interchanges)) (now column)) × (mayFollow «last_version» version ≡ true) ⌝ }
-    ensures { λ r. ⌜ (r ≡ checkedEntry (record { state = s; lastVersion = «last_version» }) (Book.checkEntry yearInterface index (now (entry .entry)) (hourEntry (zoneIn z (now (codes .entry)) (now (values .entry))) index (record { state = s; lastVersion = «last_version» }) (hour version (conditionsIn (zoneIn z (now (codes .entry)) (now (values .entry))) (now (entry .entry)))))))
+    ensures { λ r. ⌜ (r ≡ checkedEntry (carried s «last_version») (Book.checkEntry yearInterface index (now (entry .entry)) (hourEntry (zoneIn z (now (codes .entry)) (now (values .entry))) index (carried s «last_version») (hour version (conditionsIn (zoneIn z (now (codes .entry)) (now (values .entry))) (now (entry .entry)))))))
         × Kept (zoneIn z (now (codes .entry)) (now (values .entry))) (held (now (flags .exit)) (now (numbers .exit)) (now (key .exit)) (arrays (now («two_nodes» .exit)) (now (diag .exit)) (now (next .exit)) (now (prev .exit)) (now (dense .exit)) (now (interchanges .exit))) (now (column .exit))) ⌝ }
 {
     let end = FRONT_SIZE + conditions_length(z);
@@ -138,7 +138,7 @@ pub fn check_entry(
 ) -> CheckedEntry
     requires { ⌜ (zoneTest (zoneIn z (now codes) (now values)) ≡ ok tt) × (length (now entry) ≡ wholeLength (zoneIn z (now codes) (now values)))
         × Kept (zoneIn z (now codes) (now values)) (held (now flags) (now numbers) (now key) (arrays (now «two_nodes») (now diag) (now next) (now prev) (now dense) (now interchanges)) (now column)) ⌝ }
-    ensures { λ r. ⌜ (r ≡ checkedEntry (record { state = s; lastVersion = «last_version» }) (Book.checkEntry yearInterface index (now (entry .entry)) (hourEntry (zoneIn z (now (codes .entry)) (now (values .entry))) index (record { state = s; lastVersion = «last_version» }) (itemIn (zoneIn z (now (codes .entry)) (now (values .entry))) (now (entry .entry))))))
+    ensures { λ r. ⌜ (r ≡ checkedEntry (carried s «last_version») (Book.checkEntry yearInterface index (now (entry .entry)) (hourEntry (zoneIn z (now (codes .entry)) (now (values .entry))) index (carried s «last_version») (itemIn (zoneIn z (now (codes .entry)) (now (values .entry))) (now (entry .entry))))))
         × Kept (zoneIn z (now (codes .entry)) (now (values .entry))) (held (now (flags .exit)) (now (numbers .exit)) (now (key .exit)) (arrays (now («two_nodes» .exit)) (now (diag .exit)) (now (next .exit)) (now (prev .exit)) (now (dense .exit)) (now (interchanges .exit))) (now (column .exit))) ⌝ }
 {
     let version = entry[LENGTH_SIZE] as u64;

@@ -21,7 +21,7 @@ ghost use Rattle.zone.specs.Inner.Lent.{zoneIn};
 ghost use Rattle.zone.specs.Check.ZoneTest.{zoneTest};
 ghost use Rattle.zone.specs.Inner.Kept.{arrays, held, Kept};
 ghost use Rattle.book.specs.Model.Calls as Book;
-ghost use Rattle.book.specs.Year.{noEntryVersion, yearInterface};
+ghost use Rattle.book.specs.Year.{carried, noEntryVersion, yearInterface};
 ghost use Rattle.book.specs.Answers.{givenOf, replyIn};
 
 // The whole entries behind the head's n bytes, in order; a shorter rest is dropped. The factored matrix is kept from entry to entry.
@@ -46,7 +46,7 @@ fn check_entries(
 ) -> Reply
     requires { ⌜ (zoneTest (zoneIn z (now codes) (now values)) ≡ ok tt) × (n ≤ length (now bytes))
         × Kept (zoneIn z (now codes) (now values)) (held (now flags) (now numbers) (now key) (arrays (now «two_nodes») (now diag) (now next) (now prev) (now dense) (now interchanges)) (now column)) ⌝ }
-    ensures { λ r. ⌜ r ≡ replyIn (Book.answerFrom (givenOf given) (Book.checkEntries yearInterface (zoneIn z (now (codes .entry)) (now (values .entry))) 0 (record { state = s; lastVersion = noEntryVersion }) n (Book.wholeEntries yearInterface (zoneIn z (now (codes .entry)) (now (values .entry))) (drop n (now (bytes .entry)))))) ⌝ }
+    ensures { λ r. ⌜ r ≡ replyIn (Book.answerFrom (givenOf given) (Book.checkEntries yearInterface (zoneIn z (now (codes .entry)) (now (values .entry))) 0 (carried s noEntryVersion) n (Book.wholeEntries yearInterface (zoneIn z (now (codes .entry)) (now (values .entry))) (drop n (now (bytes .entry)))))) ⌝ }
 {
     let length = entry_length(z, codes, values);
     let mut state = s;

@@ -143,7 +143,7 @@ pub fn put_entry(
     put_temperatures(s, nodes, b, temperatures_at);
 }
 
-// Is a whole entry the one that these conditions, this demand and these temperatures have: it is written anew and compared.
+// Is a whole entry the one that this version, these conditions, this demand and these temperatures have: it is written anew and compared.
 pub fn is_entry(
     z: ZoneFront,
     codes: &[u8; 72],

@@ -3,6 +3,7 @@ use crate::bytes::byte_at;
 use crate::bytes::copy;
 use crate::bytes::put_byte;
 use crate::cuts::HOURS;
+use crate::cuts::Places;
 use crate::cuts::SMALL;
 use crate::expected::Expected;
 use crate::expected::expected_at;
@@ -22,7 +23,6 @@ pub struct Damages {
     pub other_head: u64,
     pub false_entry: u64,
     pub accepted: u64,
-    pub first_wrong: u64,
 }
 
 // Whether take-up answers so; refused, with what it was given.
@@ -53,12 +53,10 @@ impl Damages {
         self
     }
 
-    fn counted(mut self, right: bool, place: usize) -> Damages {
+    fn counted(mut self, right: bool) -> Damages {
         self.damages = wrapping_add_u64(self.damages, 1);
         if right {
             self.right = wrapping_add_u64(self.right, 1);
-        } else {
-            self.first_wrong = place as u64;
         }
         self
     }
@@ -72,7 +70,6 @@ fn no_damages() -> Damages {
         other_head: 0,
         false_entry: 0,
         accepted: 0,
-        first_wrong: 0,
     }
 }
 
@@ -101,7 +98,7 @@ fn damage_in(
     put_byte(other, place, changed);
     let e = expected_at(z, codes, values, other, place);
     let right = answers(other, e);
-    t.sorted(e, place).counted(right, place)
+    t.sorted(e, place).counted(right)
 }
 
 fn damage_at(
@@ -116,21 +113,20 @@ fn damage_at(
     damage_in(t, z, codes, values, whole, &mut other, place)
 }
 
-// `count` places, `step` bytes apart, a byte changed at each in turn.
+// A byte changed at each of the places in turn.
 pub fn check_damages(
     z: ZoneFront,
     codes: &[u8; 72],
     values: &[f64; 600],
     whole: &[u8; SMALL],
-    from: usize,
-    step: usize,
-    count: usize,
+    places: Places,
 ) -> Damages {
+    let count = places.count;
     let mut t = no_damages();
-    let mut place = from;
+    let mut place = places.from;
     for _ in 0..count {
         t = damage_at(t, z, codes, values, whole, place);
-        place = wrapping_add_usize(place, step);
+        place = wrapping_add_usize(place, places.step);
     }
     t
 }

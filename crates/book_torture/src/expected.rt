@@ -17,6 +17,7 @@ use crate::house::ENTRY;
 use crate::house::HEAD;
 use crate::house::HEATING_PLACE;
 use crate::house::VERSION_PLACE;
+use crate::house::place_of;
 use crate::year::last_version_of;
 use crate::year::version_at;
 use std::num::wrapping_add_usize;
@@ -29,8 +30,14 @@ use zone::Verdict;
 use zone::ZoneFront;
 
 const NODES: usize = 8;
-// Heating, cooling, rate, trigger and the temperatures of an entry.
-const RESULTS: usize = 97;
+// Of an entry's results: behind heating, cooling and rate the trigger, its rate, and the temperatures.
+const TRIGGER: usize = 3 * 8;
+
+const TRIGGER_RATE: usize = TRIGGER + 1;
+
+const TEMPERATURES: usize = TRIGGER_RATE + 8;
+
+const RESULTS: usize = TEMPERATURES + 8 * NODES;
 
 // 0 and the last version, or number and index.
 pub struct Expected {
@@ -43,8 +50,8 @@ fn put_trigger(b: &mut [u8; RESULTS], trigger: AchToTriggerHeating) {
     match trigger {
         AchToTriggerHeating::Absent => {}
         AchToTriggerHeating::At(rate) => {
-            put_byte(b, 24, 1);
-            write_f64_be(b, 25, rate);
+            put_byte(b, TRIGGER, 1);
+            write_f64_be(b, TRIGGER_RATE, rate);
         }
     }
 }
@@ -55,7 +62,7 @@ fn put_results(b: &mut [u8; RESULTS], d: Demand, s: State) {
     let temps = s.temps;
     write_f64s_be(b, 0, &row, 3);
     put_trigger(b, trigger);
-    write_f64s_be(b, 33, &temps, NODES);
+    write_f64s_be(b, TEMPERATURES, &temps, NODES);
 }
 
 // The results of an hour as an entry holds them.
@@ -87,14 +94,6 @@ fn state_in(entry: &[u8]) -> State {
     State {
         nodes: NODES,
         temps,
-    }
-}
-
-pub fn place_of(entry: usize) -> usize {
-    if entry < 10000 {
-        HEAD + ENTRY * entry
-    } else {
-        0
     }
 }
 

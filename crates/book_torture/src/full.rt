@@ -5,7 +5,13 @@ use crate::bytes::hash;
 use crate::bytes::part;
 use crate::bytes::put_byte;
 use crate::bytes::read_f64_be;
+use crate::cuts::CUT_OFF;
 use crate::cuts::Cuts;
+use crate::cuts::LAST_CUTS;
+use crate::cuts::LAST_ENTRIES;
+use crate::cuts::Places;
+use crate::cuts::each_byte;
+use crate::cuts::spread;
 use crate::house::COOLING_PLACE;
 use crate::house::ENTRY;
 use crate::house::HEAD;
@@ -14,10 +20,12 @@ use crate::house::RATE_PLACE;
 use crate::house::VERSION_PLACE;
 use crate::house::conditions;
 use crate::house::head;
+use crate::house::place_of;
 use crate::print::count;
 use crate::print::line;
 use crate::print::of;
 use crate::year::append_hours;
+use crate::year::begin_and_append;
 use crate::year::is_accepted;
 use crate::year::last_version_of;
 use crate::year::nothing;
@@ -28,15 +36,29 @@ use std::num::wrapping_add_u64;
 use std::num::wrapping_add_usize;
 use zone::ZoneFront;
 
-pub const YEAR: usize = 8784;
+const YEAR: usize = 8784;
 // The first hour of version 2.
 const CHANGE: usize = 4392;
 // Head and 8,784 entries, and with one more.
-pub const USED: usize = 2609215;
+const USED: usize = HEAD + ENTRY * YEAR;
 
-const ROOM: usize = 2609512;
+const ROOM: usize = USED + ENTRY;
 
 // The 8,785th hour, appended, is refused and changes nothing.
+fn refused_as_full(
+    z: ZoneFront,
+    codes: &[u8; 72],
+    values: &[f64; 600],
+    end: BookState,
+    version: u64,
+    b: &mut [u8; ROOM],
+) -> bool {
+    let c = conditions(YEAR);
+    let before = hash(b);
+    let r = book::append(z, codes, values, end, &c, version, b);
+    before == hash(b) && refused_with(r, end, 17, 0)
+}
+
 fn print_one_more(
     z: ZoneFront,
     codes: &[u8; 72],
@@ -44,18 +66,13 @@ fn print_one_more(
     end: BookState,
     b: &mut [u8; ROOM],
 ) {
-    let c = conditions(YEAR);
-    let before = hash(b);
-    let r = book::append(z, codes, values, end, &c, 2, b);
-    let s = book::append(z, codes, values, end, &c, 1, b);
-    let kept = before == hash(b);
     line(
         b"append of the 8,785th hour refused with 17",
-        kept && refused_with(r, end, 17, 0),
+        refused_as_full(z, codes, values, end, 2, b),
     );
     line(
         b"in version 1, behind version 2: with 17 too",
-        refused_with(s, end, 17, 0),
+        refused_as_full(z, codes, values, end, 1, b),
     );
 }
 
@@ -89,7 +106,7 @@ fn cut_year(
     cut: usize,
 ) -> bool {
     let before = hash(b);
-    fill_from(b, cut, 170);
+    fill_from(b, cut, CUT_OFF);
     let r = book::take_up(nothing(), part(b, 0, cut));
     let taken = r.values;
     let count = taken.count;
@@ -100,24 +117,23 @@ fn cut_year(
     is_accepted(r) && version && filled.wrong == 0 && same && before == hash(b)
 }
 
-// `count` cuts of the year, `step` bytes apart.
+// Cuts of the year, at each of the places.
 fn check_year(
     z: ZoneFront,
     codes: &[u8; 72],
     values: &[f64; 600],
     end: BookState,
     b: &mut [u8; ROOM],
-    from: usize,
-    step: usize,
-    count: usize,
+    places: Places,
 ) -> Cuts {
+    let count = places.count;
     let mut right: u64 = 0;
-    let mut cut = from;
+    let mut cut = places.from;
     for _ in 0..count {
         if cut_year(z, codes, values, end, b, cut) {
             right = wrapping_add_u64(right, 1);
         }
-        cut = wrapping_add_usize(cut, step);
+        cut = wrapping_add_usize(cut, places.step);
     }
     Cuts {
         cuts: count as u64,
@@ -125,7 +141,7 @@ fn check_year(
     }
 }
 
-// At every byte of the last three entries, and at 2,000 places from the head's end on.
+// At every byte of the last three entries, and spread over them all.
 fn print_many_cuts(
     z: ZoneFront,
     codes: &[u8; 72],
@@ -133,14 +149,15 @@ fn print_many_cuts(
     end: BookState,
     b: &mut [u8; ROOM],
 ) {
-    let last = check_year(z, codes, values, end, b, USED - 3 * ENTRY, 1, 892);
+    let ends = each_byte(USED - LAST_ENTRIES, LAST_CUTS);
+    let last = check_year(z, codes, values, end, b, ends);
     of(
         b"cuts of the year at every byte of its last three entries",
         last.right,
         last.cuts,
     );
-    let spread = check_year(z, codes, values, end, b, HEAD, 1304, 2000);
-    of(b"cuts spread over the year", spread.right, spread.cuts);
+    let over = check_year(z, codes, values, end, b, spread(ENTRY * YEAR));
+    of(b"cuts spread over the year", over.right, over.cuts);
 }
 
 fn print_cuts(
@@ -170,10 +187,7 @@ fn print_cuts(
 
 // A byte of an entry changed, and back.
 fn damaged(b: &mut [u8; ROOM], entry: usize, within: usize, change: u8) -> bool {
-    if YEAR <= entry {
-        return false;
-    }
-    let place = wrapping_add_usize(HEAD + ENTRY * entry, within);
+    let place = wrapping_add_usize(place_of(entry), within);
     let byte = byte_at(b, place);
     put_byte(b, place, byte ^ change);
     let r = book::take_up(nothing(), part(b, 0, USED));
@@ -257,8 +271,7 @@ fn fill_year(
     h: &[u8],
     b: &mut [u8; ROOM],
 ) -> BookState {
-    let begun = book::begin(nothing(), h, b);
-    let filled = append_hours(z, codes, values, begun.values, 0, YEAR, CHANGE, b);
+    let filled = begin_and_append(z, codes, values, h, YEAR, CHANGE, b);
     let end = filled.values;
     line(
         b"a year of 8,784 hours begun and appended, from 4,392 on in version 2",

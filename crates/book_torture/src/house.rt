@@ -21,8 +21,20 @@ pub const COOLING_PLACE: usize = HEATING_PLACE + 8;
 
 pub const RATE_PLACE: usize = COOLING_PLACE + 8;
 
+// More entries than a book holds.
+const MANY: usize = 10000;
+
 // The hour of a year with which a book begins: a whole number of days.
 const FIRST_HOUR: usize = 3120;
+
+// Where an entry begins, which is also the used length of as many entries.
+pub fn place_of(entry: usize) -> usize {
+    if entry < MANY {
+        HEAD + ENTRY * entry
+    } else {
+        0
+    }
+}
 
 fn put_wall(b: &mut [u8; HEAD]) {
     let values = [20.0, 90.0, 20.0, 4.14, 5.13, 0.6, 15.0];

@@ -2,7 +2,6 @@
 // entries and at 2,000 places spread over them, taken up, continued and compared with the book that was never cut; single bytes are
 // changed, version bytes among them.
 mod bytes;
-mod cut_back;
 mod cuts;
 mod damage;
 mod expected;

@@ -1,9 +1,14 @@
 // The small book: 40 hours that pass from version 1 to version 2, cut, continued and damaged.
-use crate::cut_back::check_cuts_back;
 use crate::cuts::CHANGE;
+use crate::cuts::Cuts;
 use crate::cuts::HOURS;
+use crate::cuts::LAST_CUTS;
+use crate::cuts::LAST_ENTRIES;
+use crate::cuts::Places;
 use crate::cuts::SMALL;
 use crate::cuts::check_cuts;
+use crate::cuts::each_byte;
+use crate::cuts::spread;
 use crate::damage::check_damages;
 use crate::house::ENTRY;
 use crate::house::HEAD;
@@ -13,8 +18,7 @@ use crate::print::line;
 use crate::print::of;
 use crate::versions::check_versions;
 use crate::year::NEVER;
-use crate::year::append_hours;
-use crate::year::nothing;
+use crate::year::begin_and_append;
 use book::BookState;
 use zone::ZoneFront;
 
@@ -23,6 +27,27 @@ const AROUND: usize = HEAD + ENTRY * (CHANGE - 2);
 
 const AROUND_CUTS: usize = 4 * ENTRY + 1;
 
+// Every fourth byte behind the head is changed.
+const DAMAGE_STEP: usize = 4;
+
+const DAMAGES: usize = ENTRY * HOURS / DAMAGE_STEP;
+
+fn around_change() -> Places {
+    each_byte(AROUND, AROUND_CUTS)
+}
+
+// Cut and continued as it was.
+fn same_again(
+    z: ZoneFront,
+    codes: &[u8; 72],
+    values: &[f64; 600],
+    whole: &[u8; SMALL],
+    end: BookState,
+    places: Places,
+) -> Cuts {
+    check_cuts(z, codes, values, whole, whole, end, CHANGE, places)
+}
+
 fn print_cuts(
     z: ZoneFront,
     codes: &[u8; 72],
@@ -30,30 +55,31 @@ fn print_cuts(
     whole: &[u8; SMALL],
     end: BookState,
 ) {
-    let first = check_cuts(z, codes, values, whole, end, 0, 1, HEAD);
+    let first = same_again(z, codes, values, whole, end, each_byte(0, HEAD));
     of(
         b"cuts within the head, refused with 1",
         first.right,
         first.cuts,
     );
-    let around = check_cuts(z, codes, values, whole, end, AROUND, 1, AROUND_CUTS);
+    let around = same_again(z, codes, values, whole, end, around_change());
     of(
         b"cuts at every byte of the four entries around the change",
         around.right,
         around.cuts,
     );
-    let last = check_cuts(z, codes, values, whole, end, SMALL - 3 * ENTRY, 1, 892);
+    let ends = each_byte(SMALL - LAST_ENTRIES, LAST_CUTS);
+    let last = same_again(z, codes, values, whole, end, ends);
     of(
         b"cuts at every byte of the last three entries",
         last.right,
         last.cuts,
     );
-    let spread = check_cuts(z, codes, values, whole, end, HEAD, 5, 2000);
-    of(b"cuts spread over the book", spread.right, spread.cuts);
+    let over = same_again(z, codes, values, whole, end, spread(ENTRY * HOURS));
+    of(b"cuts spread over the book", over.right, over.cuts);
 }
 
 fn print_damages(z: ZoneFront, codes: &[u8; 72], values: &[f64; 600], whole: &[u8; SMALL]) {
-    let first = check_damages(z, codes, values, whole, 0, 1, HEAD);
+    let first = check_damages(z, codes, values, whole, each_byte(0, HEAD));
     of(
         b"bytes of the head changed, answered as expected",
         first.right,
@@ -62,7 +88,12 @@ fn print_damages(z: ZoneFront, codes: &[u8; 72], values: &[f64; 600], whole: &[u
     count(b"  refused as a head or in start-up", first.refused_head);
     count(b"  another head, its first false entry", first.other_head);
     count(b"  another head, every entry true", first.accepted);
-    let entries = check_damages(z, codes, values, whole, HEAD, 4, 2970);
+    let over = Places {
+        from: HEAD,
+        step: DAMAGE_STEP,
+        count: DAMAGES,
+    };
+    let entries = check_damages(z, codes, values, whole, over);
     of(
         b"bytes of entries changed, answered as expected",
         entries.right,
@@ -115,10 +146,12 @@ fn fill(
     what: &[u8],
     whole: &mut [u8; SMALL],
 ) -> BookState {
-    let begun = book::begin(nothing(), h, whole);
-    let filled = append_hours(z, codes, values, begun.values, 0, HOURS, change, whole);
+    let filled = begin_and_append(z, codes, values, h, HOURS, change, whole);
     let end = filled.values;
-    line(what, filled.wrong == 0 && end.used == SMALL);
+    line(
+        what,
+        filled.wrong == 0 && end.count == HOURS && end.used == SMALL,
+    );
     end
 }
 
@@ -132,7 +165,8 @@ fn print_cuts_back(
     let mut plain = [0u8; SMALL];
     let what = b"the same hours in version 1, 12,247 bytes";
     let end = fill(z, codes, values, h, NEVER, what, &mut plain);
-    let back = check_cuts_back(z, codes, values, passed, &plain, end, AROUND, AROUND_CUTS);
+    let places = around_change();
+    let back = check_cuts(z, codes, values, passed, &plain, end, NEVER, places);
     of(
         b"cuts around the change, continued in version 1 or refused with 18",
         back.right,

@@ -7,10 +7,9 @@ use crate::cuts::SMALL;
 use crate::damage::answers;
 use crate::expected::Expected;
 use crate::expected::expected_with_version;
-use crate::expected::place_of;
 use crate::house::VERSION_PLACE;
-use crate::year::append_hours;
-use crate::year::nothing;
+use crate::house::place_of;
+use crate::year::begin_and_append;
 use std::num::wrapping_add_u64;
 use std::num::wrapping_add_usize;
 use zone::ZoneFront;
@@ -117,11 +116,8 @@ fn fill(
     change: usize,
     b: &mut [u8; SMALL],
 ) -> Changes {
-    let begun = book::begin(nothing(), h, b);
-    let start = begun.values;
-    let filled = append_hours(z, codes, values, start, 0, HOURS, change, b);
-    let right = start.last_version == 1 && filled.wrong == 0;
-    with_entries(t.with_book(right), b, change)
+    let filled = begin_and_append(z, codes, values, h, HOURS, change, b);
+    with_entries(t.with_book(filled.wrong == 0), b, change)
 }
 
 fn with_change(

@@ -12,8 +12,12 @@ use zone::ZoneFront;
 // A change that is behind every hour of a year: all entries are of version 1.
 pub const NEVER: usize = 10000;
 
-// A last version that no hour has, so that what was given can be told from what was found.
-const MADE_UP: u64 = 77;
+// What no call on these books hands back, so that what was given can be told from what was found.
+const MADE_UP_VERSION: u64 = 77;
+
+const MADE_UP_COUNT: usize = 9999;
+
+const MADE_UP_USED: usize = 79;
 
 // The values after some appends, and how many of them were refused or handed back another version than the one named.
 pub struct Filled {
@@ -41,9 +45,9 @@ pub fn nothing() -> BookState {
     };
     BookState {
         state,
-        count: 0,
-        used: 0,
-        last_version: MADE_UP,
+        count: MADE_UP_COUNT,
+        used: MADE_UP_USED,
+        last_version: MADE_UP_VERSION,
     }
 }
 
@@ -111,6 +115,29 @@ pub fn append_hours(
         filled = append_hour(z, codes, values, filled, hour, version, buf);
     }
     filled
+}
+
+// A book begun, which must hand back version 1, and filled with so many hours, of version 2 from `change` on.
+pub fn begin_and_append(
+    z: ZoneFront,
+    codes: &[u8; 72],
+    values: &[f64; 600],
+    h: &[u8],
+    hours: usize,
+    change: usize,
+    buf: &mut [u8],
+) -> Filled {
+    let r = book::begin(nothing(), h, buf);
+    let begun = r.values;
+    let filled = append_hours(z, codes, values, begun, 0, hours, change, buf);
+    if is_accepted(r) && begun.last_version == 1 {
+        return filled;
+    }
+    let end = filled.values;
+    Filled {
+        values: end,
+        wrong: wrapping_add_u64(filled.wrong, 1),
+    }
 }
 
 fn float_in(xs: &[f64; 121], at: usize) -> f64 {

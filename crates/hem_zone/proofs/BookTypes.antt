@@ -39,7 +39,7 @@ module _ {P : ℕ → ℕ → Type 0} (numbered : (number index : ℕ) → P num
 answer-back : (a : Book.Answer Carried) → AnswerOfCall yearInterface a → answerOf (replyIn a) ≡ a
 unfolding Book.begin Book.append Book.takeUp
 answer-back a (ofBegin head g buf) = outcome-back begin-numbered g buf (begin-refusals head buf)
-answer-back a (ofAppend z g i buf) = outcome-back append-numbered g buf (append-refusals z g i buf)
+answer-back a (ofAppend z g i buf) = outcome-back (append-numbered (g .count)) g buf (append-refusals z g i buf)
 answer-back a (ofTakeUp g bytes) = taken-back take-up-numbered g (take-up-refusals bytes)
 
 pub c-laws : CodeLaws yearInterface cTypes

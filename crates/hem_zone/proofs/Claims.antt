@@ -90,7 +90,7 @@ claims =
           (with-zone-refuses head _ λ z. hour-step-refusals standardCoefficients z (stateIn temps nodes) conditions version);
       «hem_begin» = λ head buf held. answers begin-numbered _ _ (begin-refusals head buf);
       «hem_append» = λ head buf held conditions version.
-          answers (after-head-numbered append-numbered) _ _
+          answers (after-head-numbered (append-numbered (held .count))) _ _
           (with-zone-refuses head _ λ z. append-refusals z (bookStateOf held) (hour version conditions) buf);
       «hem_take_up» = λ bytes held. answers take-up-numbered _ _ (take-up-refusals bytes);
     }

@@ -7,7 +7,7 @@ use Rattle.zone.proofs.Claims.Reasons.{demand-reasons, hour-reasons, update-rea
 use Rattle.zone.proofs.Claims.HeadClaims.{head-claims, zone-claims, conditions-claims}
 use Rattle.zone.proofs.Claims.Index.{indices-of-zone}
 use Rattle.zone.proofs.Claims.Refusals.{call-refusals, state-kept}
-use Rattle.zone.proofs.Claims.Versions as Zone
+use Rattle.zone.proofs.Claims.Versions as Hours
 use Rattle.zone.proofs.Claims.NodeOrder.{node-order}
 use Rattle.zone.proofs.Claims.HouseP.{house-p, claim}
 use Rattle.book.proofs.Demand3.{year-claims}
@@ -42,7 +42,7 @@ demands =
         is-not-settled = start-up-is-not-settled standardCoefficients z;
         settled = start-up-settled standardCoefficients z;
         is-settled = start-up-is-settled standardCoefficients z;
-        versions = Zone.version-claims standardCoefficients z;
+        versions = Hours.version-claims standardCoefficients z;
         kept = state-kept;
         update-state = update-state-tested standardCoefficients z;
         hour-state = hour-state-tested standardCoefficients z;

@@ -4,7 +4,7 @@ use Prim.Native.Nat.{ℕ}
 use mathlib.Core.List.{List}
 use lib.Ieee.{Float}
 use Rattle.book.specs.Model.Calls as Book
-use Rattle.book.specs.Year.{hour, Carried, yearInterface}
+use Rattle.book.specs.Year.{hour, Carried, carried, yearInterface}
 use Rattle.hem_zone.specs.Code.{answered}
 use Rattle.hem_zone.specs.Arrays.{stateIn}
 use Rattle.hem_zone.specs.Zone.{withZone}
@@ -23,7 +23,7 @@ cBookState temps nodes count used «last_version» =
 
 -- these are the values of a book, and back
 abbrev pub bookStateOf : CBookState → Book.BookState Carried
-bookStateOf h = record { state = record { state = stateIn (h .temps) (h .nodes); lastVersion = h .«last_version» }; count = h .count; used = h .used }
+bookStateOf h = record { state = carried (stateIn (h .temps) (h .nodes)) (h .«last_version»); count = h .count; used = h .used }
 
 abbrev pub cBookStateOf : Book.BookState Carried → CBookState
 cBookStateOf v = cBookState (v .state .state .temps) (v .state .state .nodes) (v .count) (v .used) (v .state .lastVersion)

@@ -86,6 +86,6 @@ pub record Claims : Type 0 where
       (head buf : List ℕ) (held : CBookState) → Answered BeginRefusal bookOut (buf, held) (Book.beginRes yearInterface head buf) (hemBegin head buf held)
   pub «hem_append» :
       (head buf : List ℕ) (held : CBookState) (conditions : List ℕ) (version : ℕ)
-      → Answered (AfterHead AppendRefusal) bookOut (buf, held) (withZone head λ z. Book.appendRes yearInterface z (bookStateOf held) (hour version conditions) buf)
+      → Answered (AfterHead (AppendRefusal (held .count))) bookOut (buf, held) (withZone head λ z. Book.appendRes yearInterface z (bookStateOf held) (hour version conditions) buf)
       (hemAppend head buf held conditions version)
   pub «hem_take_up» : (bytes : List ℕ) (held : CBookState) → Answered TakeUpRefusal cBookStateOf held (Book.takeUpRes yearInterface bytes) (hemTakeUp bytes held)

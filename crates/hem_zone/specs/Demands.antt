@@ -15,7 +15,7 @@ use Rattle.zone.specs.Claims.Head.{HeadClaims, ZoneClaims, ConditionsClaims}
 use Rattle.zone.specs.Claims.Refusals.{CallRefusals, IndicesOfZone}
 use Rattle.zone.specs.Claims.DemandClaims.{DemandCallSigns, HourCallSigns}
 use Rattle.zone.specs.Claims.StartUpClaims.{StartUpNotSettled, StartUpIsNotSettled, StartUpSettled, StartUpIsSettled}
-use Rattle.zone.specs.Claims.Versions as Zone
+use Rattle.zone.specs.Claims.Versions as Hours
 use Rattle.zone.specs.Claims.NodeOrder.{NodeOrder}
 use Rattle.zone.specs.Claims.StateClaims.{StateKept, UpdateStateTested, HourStateTested, StartUpStateTested}
 use Rattle.zone.specs.Claims.Reasons.{DemandReasons, HourReasons, UpdateReasons, StartUpReasons}
@@ -65,8 +65,8 @@ pub record Demand2 (z : Zone) : Type 0 where
   pub is-not-settled : StartUpIsNotSettled standardCoefficients z
   pub settled : StartUpSettled standardCoefficients z
   pub is-settled : StartUpIsSettled standardCoefficients z
-  -- version 1's hour is document 01's, and version 2's the same where no cooling is delivered,
-  pub versions : (s : State) (bytes : List ℕ) → Zone.VersionClaims standardCoefficients z s bytes
+  -- version 1's hour is document 01's, version 2's has the cooling fraction for power below 0, any other version is 18,
+  pub versions : (s : State) (bytes : List ℕ) → Hours.VersionClaims standardCoefficients z s bytes
   -- and a state that is handed back is the given one where a call is refused, and is taken by the next call.
   pub kept : StateKept
   pub update-state : UpdateStateTested standardCoefficients z
@@ -89,7 +89,7 @@ pub record Demand3 : Type 1 where
   -- the lists that this speaks of are all those whose calls may be made, starting with no book or with any that is held;
   pub every-list : Book.SessionFrom yearInterface cTypes empty
   pub from-any-book : (head : List ℕ) (is : List (yearInterface .Item)) → WellFormed yearInterface head is → Book.SessionFrom yearInterface cTypes (book head is)
-  -- their refusals are the paper's; versions never fall; and what else is claimed of books.
+  -- their refusals are the paper's; versions never fall, and where 18 comes for one; and what else is claimed of books.
   pub refusals : BookRefusals
   pub versions : Order.VersionClaims
   pub books : Book.Claims yearInterface

@@ -48,7 +48,7 @@ pub fn refused_if(kept: bool, number: u32, index: usize) -> Answer {
     }
 }
 
-fn push(mut a: Answer, bits: u64) -> Answer {
+pub fn push(mut a: Answer, bits: u64) -> Answer {
     let i = a.count;
     if i < 160 {
         a.bits[i] = bits;

@@ -1,16 +1,19 @@
-// The calls on a book: number and index, and whether what they hand back and the buffer are as they must be.
+// The calls on a book: of a refused one number and index, and whether it changed nothing; of an accepted one what it
+// hands back and writes.
 use crate::answer::Answer;
-use crate::answer::CHANGED;
 use crate::answer::accepted;
-use crate::answer::refused;
+use crate::answer::push;
+use crate::answer::push_temps;
 use crate::answer::refused_if;
 use crate::bytes::byte_at;
 use crate::bytes::part;
 use crate::bytes::same_state;
+use crate::bytes::u64_of;
 use crate::row::HEAD;
 use crate::row::Row;
 use book::BookState;
 use book::Reply;
+use std::num::wrapping_add_usize;
 use std::num::wrapping_sub_usize;
 use zone::State;
 use zone::Verdict;
@@ -21,13 +24,22 @@ const ROOM: usize = 1024;
 // Every byte of a buffer before a call.
 const FILLED: u8 = 85;
 
+// Where an entry has its version byte.
+const VERSION_PLACE: usize = 4;
+
 fn same_book_states(a: BookState, b: BookState) -> bool {
     let kept = same_state(a.state, b.state);
     kept && a.count == b.count && a.used == b.used && a.last_version == b.last_version
 }
 
-// A refused call hands back the values that it was given, and `kept` says that the buffer is as it was; an accepted one hands back this last version.
-fn reply_answer(given: BookState, reply: Reply, kept: bool, version_after: u64) -> Answer {
+// What an accepted call hands back.
+fn push_book_state(a: Answer, x: BookState) -> Answer {
+    let counted = push(push(a, x.count as u64), x.used as u64);
+    push_temps(push(counted, x.last_version), x.state)
+}
+
+// A refused call hands back the values that it was given, and `kept` says that the buffer is as it was.
+fn reply_answer(given: BookState, reply: Reply, kept: bool) -> Answer {
     let values = reply.values;
     let verdict = reply.verdict;
     match verdict {
@@ -36,13 +48,7 @@ fn reply_answer(given: BookState, reply: Reply, kept: bool, version_after: u64) 
             number,
             index,
         ),
-        Verdict::Accepted => {
-            if values.last_version == version_after {
-                accepted()
-            } else {
-                refused(CHANGED, 0)
-            }
-        }
+        Verdict::Accepted => push_book_state(accepted(), values),
     }
 }
 
@@ -102,9 +108,10 @@ pub fn begin(r: Row, s: State, b: &[u8]) -> Answer {
     let head = part(b, HEAD, r.head_length);
     let mut buf = [FILLED; ROOM];
     let reply = begin_in(given, head, &mut buf, wrapping_sub_usize(ROOM, r.room));
-    reply_answer(given, reply, all_are(&buf, FILLED), r.version_after)
+    reply_answer(given, reply, all_are(&buf, FILLED))
 }
 
+// With the version byte that it writes; of a refused append no value is compared.
 pub fn append(
     z: ZoneFront,
     codes: &[u8; 72],
@@ -114,6 +121,8 @@ pub fn append(
     conditions: &[u8],
 ) -> Answer {
     let given = given_of(r, s);
+    let from = wrapping_sub_usize(ROOM, r.room);
+    let written = wrapping_add_usize(wrapping_add_usize(from, r.used), VERSION_PLACE);
     let mut buf = [FILLED; ROOM];
     let reply = append_in(
         z,
@@ -123,13 +132,14 @@ pub fn append(
         conditions,
         r.version,
         &mut buf,
-        wrapping_sub_usize(ROOM, r.room),
+        from,
     );
-    reply_answer(given, reply, all_are(&buf, FILLED), r.version_after)
+    let answer = reply_answer(given, reply, all_are(&buf, FILLED));
+    push(answer, u64_of(byte_at(&buf, written)))
 }
 
 pub fn take_up(r: Row, s: State, b: &[u8]) -> Answer {
     let given = given_of(r, s);
     let reply = book::take_up(given, part(b, HEAD, r.head_length));
-    reply_answer(given, reply, true, r.version_after)
+    reply_answer(given, reply, true)
 }

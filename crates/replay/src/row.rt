@@ -15,7 +15,9 @@ const VERSION: usize = 12;
 
 const LAST_VERSION: usize = 20;
 
-const VERSION_AFTER: usize = 28;
+const VALUE_COUNT: usize = 28;
+
+const VALUES: usize = 30;
 
 pub struct Row {
     pub call: usize,
@@ -35,7 +37,8 @@ pub struct Row {
     pub room: usize,
     pub version: u64,
     pub last_version: u64,
-    pub version_after: u64,
+    pub value_count: usize,
+    pub values: usize,
 }
 
 pub fn row_at(b: &[u8]) -> Row {
@@ -67,6 +70,7 @@ pub fn row_at(b: &[u8]) -> Row {
         room: read_u32_be(b, wrapping_add_usize(given, ROOM)),
         version: read_u64_be(b, wrapping_add_usize(given, VERSION)),
         last_version: read_u64_be(b, wrapping_add_usize(given, LAST_VERSION)),
-        version_after: read_u64_be(b, wrapping_add_usize(given, VERSION_AFTER)),
+        value_count: read_u16_be(b, wrapping_add_usize(given, VALUE_COUNT)),
+        values: wrapping_add_usize(given, VALUES),
     }
 }

@@ -110,7 +110,6 @@ pub struct RowTally {
     pub differ: u64,
     pub first_row: u64,
     pub first_number: usize,
-    pub first_index: usize,
     pub calls: [u64; COUNTS],
     pub numbers: [u64; COUNTS],
 }
@@ -121,7 +120,6 @@ pub fn no_rows() -> RowTally {
         differ: 0,
         first_row: 0,
         first_number: 0,
-        first_index: 0,
         calls: [0; COUNTS],
         numbers: [0; COUNTS],
     }
@@ -139,28 +137,20 @@ impl RowTally {
         self
     }
 
-    fn differing(mut self, came: usize, index: usize) -> RowTally {
+    fn differing(mut self, came: usize) -> RowTally {
         if self.differ == 0 {
             self.first_row = self.total;
             self.first_number = came;
-            self.first_index = index;
         }
         self.differ = wrapping_add_u64(self.differ, 1);
         self
     }
 
-    pub fn counted(
-        self,
-        call: usize,
-        number: usize,
-        came: usize,
-        index: usize,
-        same: bool,
-    ) -> RowTally {
+    pub fn counted(self, call: usize, number: usize, came: usize, same: bool) -> RowTally {
         let t = self.begun(call, number);
         if same {
             return t;
         }
-        t.differing(came, index)
+        t.differing(came)
     }
 }

@@ -1,6 +1,7 @@
 //! The program hem-year, run as a user runs it.
 #![allow(dead_code)] // Each file of tests uses a part of this.
 pub mod hours;
+pub mod table;
 
 use hem_zone::samples::{hour_p, house_p};
 use std::fs;

@@ -17,11 +17,11 @@ use Rattle.zone.specs.declared.calls.state.Demand.{Demand}
 use Rattle.zone.specs.declared.calls.state.AchToTriggerHeating.{AchToTriggerHeating}
 use Rattle.zone.specs.declared.calls.state.AchToTriggerHeating.the-variants.{Absent, At}
 use Rattle.zone.specs.Format.Encode.{floatBytes, rowBytes}
-use Rattle.zone.specs.Format.Layout.{lengthSize, conditionsLength}
+use Rattle.zone.specs.Format.Layout.{lengthSize, versionIn, conditionsLength}
 use Rattle.book.specs.Layout.{versionSize, frontSize, followingLength, wholeLength}
 use Rattle.book.specs.Entry.{frontBytes, triggerBytes, demandBytes, temperatureBytes, entryOf}
 use Rattle.book.specs.Inner.Sizes.{triggerSize, demandSize, longestEntry}
-use Rattle.book.specs.Year.{versionIn, conditionsIn}
+use Rattle.book.specs.Year.{conditionsIn}
 
 module _ (z : ZoneFront) (codes : List ℕ) (values : List Float) (h : z .count ≤ 24) where
   pub nodes-few : (n : ℕ) → n ≡ nodeCount (zoneIn z codes values) → n ≤ 121

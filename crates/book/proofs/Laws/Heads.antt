@@ -18,7 +18,7 @@ use Rattle.zone.specs.declared.format.head.Head.{Head}
 use Rattle.zone.specs.declared.calls.state.State.{State}
 use Rattle.zone.specs.declared.calls.state.StartUp.{StartUp}
 use Rattle.zone.proofs.Promise.{head-no, head-yes, head-judged, start-up-judges, structured-within, start-no, start-yes, ok-not-refused}
-use Rattle.book.specs.Year.{Carried, noEntryVersion, startUp}
+use Rattle.book.specs.Year.{Carried, carried, noEntryVersion, startUp}
 
 module _ (bs : List ℕ) (h : Head) (codes : List ℕ) (values : List Float) (e : headIn h codes values ≡ structuredHead bs) where
   abbrev said : ReadHead Zone
@@ -51,7 +51,7 @@ start-up-passed z s e f = started-tested z (s .state) (start-yes (initNodeTemps 
 
 -- what start-up's reply says of the layers'
 module _ (z : Zone) (s : StartUp) (e : s ≡ startUpReply (initNodeTemps standardCoefficients z)) where
-  pub starts : s .verdict ≡ Accepted → startUp z ≡ ok (record { state = s .state; lastVersion = noEntryVersion })
+  pub starts : s .verdict ≡ Accepted → startUp z ≡ ok (carried (s .state) noEntryVersion)
   starts f = rw (start-yes (initNodeTemps standardCoefficients z) s e f) refl
 
   pub starts-not : (n j : ℕ) → s .verdict ≡ Refused n j → startUp z ≡ refused n j

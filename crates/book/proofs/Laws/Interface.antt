@@ -9,17 +9,17 @@ use lib.ListN.{length, take, length-append, length-take}
 use lib.Dec.{leb}
 use borrow.Author.Tests.{leb-true, le-leb, lt-leb}
 use Rattle.zone.specs.Promise.{ok, requireAt}
-use Rattle.zone.specs.Record.Numbers.{falseEntry}
 use Rattle.zone.specs.Record.BuildingElement.{standardCoefficients}
-use Rattle.zone.proofs.Promise.{and-true, bind-ok, ok-inj, require-ok}
+use Rattle.zone.proofs.Promise.{and-true, bind-ok, hour-version-bounds, ok-inj, require-ok}
 use Rattle.zone.specs.declared.record.zone_record.Zone.{Zone}
 use Rattle.zone.proofs.Claims.Head.{head-within, head-then, head-tested}
 use Rattle.zone.specs.Calls.Hour.{HourResult, hourVersion, hourStep}
+use Rattle.book.specs.Numbers.{falseEntry}
 use Rattle.book.specs.Model.Interface.{Written}
 use Rattle.book.proofs.Model.InterfaceLaws.{Laws}
 use Rattle.book.specs.Layout.{wholeLength}
 use Rattle.book.specs.Entry.{entryOf}
-use Rattle.book.specs.Year.{Item, hour, Carried, mayFollow, hourEntry, entryLength, itemIn, yearInterface}
+use Rattle.book.specs.Year.{Item, hour, Carried, carried, mayFollow, hourEntry, entryLength, itemIn, yearInterface}
 use Rattle.book.proofs.Laws.Entry.{version-back, conditions-back}
 use Rattle.book.proofs.Laws.Accepted.{hour-conditions, hour-entry}
 
@@ -45,7 +45,7 @@ pub record HourEntered (z : Zone) (s : Carried) (version : ℕ) (i : List ℕ) (
   pub follows : mayFollow (s .lastVersion) version ≡ true
   pub result : HourResult
   pub stepped : hourStep standardCoefficients z version (s .state) i ≡ ok result
-  pub gives : record { bytes = entryOf z version i (result .demand) (result .state); after = record { state = result .state; lastVersion = version } } ≡ e
+  pub gives : record { bytes = entryOf z version i (result .demand) (result .state); after = carried (result .state) version } ≡ e
 
 module _ (z : Zone) (k : ℕ) (s : Carried) (version : ℕ) (i : List ℕ) (e : Written Carried) (p : hourEntry z k s (hour version i) ≡ ok e) where
   pub step-hour : HourEntered z s version i e
@@ -64,9 +64,8 @@ module _ (z : Zone) (k : ℕ) (s : Carried) (version : ℕ) (i : List ℕ) (e : 
   version-few : version < 256
   version-few =
       let a = and-true (hourVersion version) (leb (s .lastVersion) version) (step-hour .follows) in
-      let b = and-true (leb 1 version) (leb version 2) (a .0) in
-      let c = leb-true version 2 (b .1) in
-      omega arith
+      let b = hour-version-bounds version (a .0) in
+      omega (arith, b .1)
 
   step-item : itemIn z (e .bytes) ≡ hour version i
   unfolding itemIn

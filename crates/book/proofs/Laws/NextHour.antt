@@ -6,7 +6,6 @@ use mathlib.Core.List.{List}
 use native.Mathlib.Omega.{arith}
 use Rattle.zone.specs.Promise.{Result, ok, refused}
 use Rattle.zone.specs.Record.BuildingElement.{standardCoefficients}
-use Rattle.zone.specs.Record.Numbers.{falseEntry}
 use Rattle.zone.specs.Check.ZoneTest.{zoneTest}
 use Rattle.zone.specs.Inner.NextHour.{nextHour}
 use Rattle.zone.specs.Inner.NextHour.{nextHourReply}
@@ -18,8 +17,9 @@ use Rattle.zone.specs.declared.calls.state.DemandReply.{DemandReply}
 use Rattle.zone.proofs.Promise.{and-true, next-then}
 use Rattle.zone.specs.Calls.Hour.{hourVersion}
 use lib.Dec.{leb}
+use Rattle.book.specs.Numbers.{falseEntry}
 use Rattle.book.specs.Entry.{entryOf}
-use Rattle.book.specs.Year.{hour, Carried, mayFollow, hourEntry}
+use Rattle.book.specs.Year.{hour, Carried, carried, mayFollow, hourEntry}
 
 module _ (s : State) where
   next-no : (d : Result (Demand × State)) (x : DemandReply) → x ≡ nextHourReply s d → (n j : ℕ) → x .answer ≡ DemandAnswer.Refused n j → d ≡ refused n j
@@ -48,16 +48,16 @@ module _ (z : Zone) (tested : zoneTest z ≡ ok tt) (s : Carried) (version : ℕ
   unfolding hourEntry
   step-refused n j f k =
       rw follows
-      (next-then standardCoefficients z version (s .state) i tested known (λ d after. ok (record { bytes = entryOf z version i d after; after = record { state = after; lastVersion = version } }))
+      (next-then standardCoefficients z version (s .state) i tested known (λ d after. ok (record { bytes = entryOf z version i d after; after = carried after version }))
       ∙ rw (next-no (s .state) (nextHour standardCoefficients z version (s .state) i) x e n j f))
 
   -- what the hour step gives, as an entry
   pub step-given : (d : Demand) → x .answer ≡ DemandAnswer.Accepted d → (k : ℕ)
-      → hourEntry z k s (hour version i) ≡ ok (record { bytes = entryOf z version i d (x .state); after = record { state = x .state; lastVersion = version } })
+      → hourEntry z k s (hour version i) ≡ ok (record { bytes = entryOf z version i d (x .state); after = carried (x .state) version })
   unfolding hourEntry
   step-given d f k =
       rw follows
-      (next-then standardCoefficients z version (s .state) i tested known (λ y after. ok (record { bytes = entryOf z version i y after; after = record { state = after; lastVersion = version } }))
+      (next-then standardCoefficients z version (s .state) i tested known (λ y after. ok (record { bytes = entryOf z version i y after; after = carried after version }))
       ∙ rw (next-yes (s .state) (nextHour standardCoefficients z version (s .state) i) x e d f))
 
 -- a version that may not follow

@@ -3,3 +3,4 @@ pub mod Equal
 pub mod Cuts
 pub mod TakenUp
 pub mod Behind
+pub mod Further

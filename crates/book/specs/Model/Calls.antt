@@ -9,7 +9,7 @@ use Rattle.book.specs.Numbers.{bufferShort, bookFull, falseEntry}
 use Rattle.book.specs.Model.Bytes.{fromOption, equalBytes}
 use Rattle.book.specs.Model.Interface.{Interface, Written}
 
--- what a call is given and hands back: "the temperatures, count and used length"
+-- what a call is given and hands back: "the temperatures, count and used length", and document 02's "version of the last entry", which `State` has with the temperatures
 pub record BookState (State : Type 0) : Type 0 where
   pub state : State
   pub count : ℕ

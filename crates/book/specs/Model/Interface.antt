@@ -30,5 +30,5 @@ pub record Interface : Type 1 where
   pub appendStep : Zone → (count : ℕ) → State → Item → Result (Written State)
   -- the length of the whole entry with which a rest of the book begins; none where the rest is too short to begin with one
   pub entryLength : Zone → (rest : List ℕ) → Option ℕ
-  -- the item (the conditions) that a whole entry holds, be the entry true or false
+  -- the item (version and conditions) that a whole entry holds, be the entry true or false
   pub itemOf : Zone → (entry : List ℕ) → Item

@@ -55,7 +55,7 @@ module _ (L : Interface) (T : CodeTypes L) where
 
   -- A call that a caller makes who holds this book, and what is seen of it. Of the function it has what the contract ensures, and nothing else. "Each
   -- call on a book is given the zone of its head, the used bytes as the last call on it left them, and the temperatures, count and used length that
-  -- this call handed back; a cut book comes back by a take-up", of "the bytes before it".
+  -- this call handed back; a cut book comes back by a take-up", of "the bytes before it". What else is carried, as the last version, is given with them.
   pub data Made : HeldBook L → Call (L .State) (L .Item) → Event (L .State) → Type 0 where
     begins : (h : HeldBook L) (head buf : List ℕ) (g : T .BookState) (r : T .Reply) (out : List ℕ)
         → CallSpec L T r out (Book.begin L head (T .givenOf g) buf)

@@ -48,7 +48,7 @@ demand-numbered n i Zone.demandNoEffect = search needs
 
 pub hour-numbered : (n i : ℕ) → Zone.HourRefusal n i → Numbered n i
 hour-numbered n i (Zone.hourDemand p) = demand-numbered n i p
-hour-numbered n i Zone.hourEntryVersion = search needs
+hour-numbered n i Zone.hourFalseEntry = search needs
 
 pub update-numbered : (n i : ℕ) → Zone.UpdateRefusal n i → Numbered n i
 update-numbered n i (Zone.updateZone p) = zone-numbered n i p
@@ -69,12 +69,12 @@ begin-numbered n i (Book.beginHead p) = head-numbered n i p
 begin-numbered n i (Book.beginStartUp p) = start-up-numbered n i p
 begin-numbered n i Book.beginBufferShort = search needs
 
-pub append-numbered : (n i : ℕ) → Book.AppendRefusal n i → Numbered n i
-append-numbered n i (Book.appendZone p) = zone-numbered n i p
-append-numbered n i Book.appendBookFull = search needs
-append-numbered n i (Book.appendEntryVersion count h) = search needs
-append-numbered n i (Book.appendHour p) = demand-numbered n i p
-append-numbered n i Book.appendBufferShort = search needs
+pub append-numbered : (count n i : ℕ) → Book.AppendRefusal count n i → Numbered n i
+append-numbered count n i (Book.appendZone p) = zone-numbered n i p
+append-numbered count n i Book.appendBookFull = search needs
+append-numbered count n i (Book.appendFalseEntry h) = search needs
+append-numbered count n i (Book.appendHour p) = demand-numbered n i p
+append-numbered count n i Book.appendBufferShort = search needs
 
 pub take-up-numbered : (n i : ℕ) → Book.TakeUpRefusal n i → Numbered n i
 take-up-numbered n i (Book.takeUpHead p) = head-numbered n i p

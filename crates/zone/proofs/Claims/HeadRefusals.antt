@@ -1,5 +1,5 @@
 -- Which numbers and indices heads, zones given as records and conditions are refused with.
-use Prim.Native.Nat.{ℕ, zero, suc, _+_, _≤_}
+use Prim.Native.Nat.{ℕ, zero, suc, _+_, _≤_, _<_}
 use mathlib.Core.Path.{_≡_, refl}
 use mathlib.Core.Bool.{_&&_}
 use mathlib.Core.List.{List, map}
@@ -39,6 +39,19 @@ use Rattle.zone.proofs.Laws.Ranges.{count-few, counts-few}
 use Rattle.zone.proofs.Laws.Structure.{lengthValid, structured}
 use Rattle.zone.proofs.Laws.Required.{required-refuses}
 use Rattle.solver.proofs.Laws.Tests.{and-true}
+
+-- ---- their numbers
+
+pub zone-below : (number index : ℕ) → ZoneRefusal number index → number < 6
+zone-below number index (zoneStructure i h) = omega arith
+zone-below number index (zoneValue i h) = omega arith
+
+pub conditions-below : (number index : ℕ) → ConditionsRefusal number index → number < 10
+conditions-below number index conditionsSize = omega arith
+conditions-below number index conditionsCode = omega arith
+conditions-below number index (conditionsValue i h) = omega arith
+
+-- ---- which they are
 
 take-few : {A : Type 0} (n : ℕ) (l : List A) → n ≤ 24 → length (take n l) + 1 ≤ 25
 take-few n l h = simp length-take (omega arith)

@@ -12,12 +12,12 @@ use Rattle.zone.specs.declared.record.building_element.Coefficients.{Coe
 use Rattle.zone.specs.declared.record.zone_record.Zone.{Zone}
 use Rattle.zone.specs.declared.format.conditions.Conditions.{Conditions}
 use Rattle.zone.specs.declared.calls.state.State.{State}
+use Rattle.zone.specs.Record.Numbers as Number
 use Rattle.zone.specs.Check.Ranges.{gainsRange, fractionRange, rateRange}
 use Rattle.zone.specs.Check.ZoneTest.{zoneTest}
 use Rattle.zone.specs.Calls.State.{slotsOf}
 use Rattle.zone.specs.Calls.Hour.{testedHour, tested, hourVersion, testedStep, step, demand, hourStep, updateTemperatures}
 use Rattle.zone.specs.Calls.StartUp.{startUpConditions, startState, close, pass, settle, initNodeTemps}
-use Rattle.zone.specs.Claims.HeadRefusals.{ZoneRefusal, zoneStructure, zoneValue, ConditionsRefusal, conditionsSize, conditionsCode, conditionsValue}
 use Rattle.zone.specs.Claims.StartUpClaims.{Unsettled, start, further}
 use Rattle.zone.specs.Claims.Reasons.{
   AfterTests,
@@ -27,8 +27,8 @@ use Rattle.zone.specs.Claims.Reasons.{
   asked,
   met,
   HourStepReason,
-  byZone,
-  byVersion,
+  inHourZone,
+  byFalseEntry,
   ofVersion,
   HourReasons,
   byConditionsValue,
@@ -41,7 +41,7 @@ use Rattle.zone.specs.Claims.Reasons.{
   byNotSettled,
   StartUpReasons,
 }
-use Rattle.zone.proofs.Claims.HeadRefusals.{zone-refusals}
+use Rattle.zone.proofs.Claims.HeadRefusals.{zone-below, conditions-below, zone-refusals}
 use Rattle.zone.proofs.Laws.Versions.{step-passed}
 use Rattle.zone.proofs.Laws.Refusals as Laws
 
@@ -53,15 +53,6 @@ by-equation x (refuses p) = refuses (p, refl)
 -- 4 to 9
 Below10 : (number index : ℕ) → Type 0
 Below10 number index = number < 10
-
-zone-below : (number index : ℕ) → ZoneRefusal number index → number < 6
-zone-below number index (zoneStructure i h) = omega arith
-zone-below number index (zoneValue i h) = omega arith
-
-conditions-below : (number index : ℕ) → ConditionsRefusal number index → number < 10
-conditions-below number index conditionsSize = omega arith
-conditions-below number index conditionsCode = omega arith
-conditions-below number index (conditionsValue i h) = omega arith
 
 module _ (z : Zone) (s : State) (bytes : List ℕ) where
   tests-below : RefusesOnly Below10 (tested z s bytes)
@@ -91,8 +82,8 @@ module _ (c : Coefficients) (z : Zone) where
     step-tests : RefusesOnly (HourStepReason c z version s bytes) (testedStep z version s bytes)
     unfolding testedStep
     step-tests =
-        bind-refuses _ (refuses-also (λ n i p. byZone (p .1) (zone-below n i (p .0))) (by-equation (zoneTest z) (zone-refusals z))) λ _ a.
-        Laws.because (hourVersion version) 18 0 _ (byVersion a) λ k.
+        bind-refuses _ (refuses-also (λ n i p. inHourZone (p .1) (zone-below n i (p .0))) (by-equation (zoneTest z) (zone-refusals z))) λ _ a.
+        Laws.because (hourVersion version) Number.falseEntry 0 _ (byFalseEntry a) λ k.
         hour-tests a k
 
   pub hour-reasons : HourReasons c z
@@ -109,7 +100,7 @@ module _ (c : Coefficients) (z : Zone) where
   unfolding updateTemperatures step
   update-reasons s bytes gains fraction ach =
       tests-then z s bytes _ λ h.
-      Laws.because (gainsRange gains && fractionRange fraction && rateRange ach) 9 0 _ byConditionsValue λ k.
+      Laws.because (gainsRange gains && fractionRange fraction && rateRange ach) Number.conditionsValue 0 _ byConditionsValue λ k.
       bind-refuses _ (refuses-also (λ n i p. inStep k p) (Laws.solve-reasons c z (slotsOf z s) h gains fraction ach)) λ t _. accepts _
 
   -- one pass more

@@ -1,18 +1,18 @@
 -- Refusals: which numbers and indices they have; and a refused call hands back the state that it was given.
-use mathlib.Core.Path.{_≡_, refl}
-use Prim.Native.Nat.{ℕ, zero, suc}
-use mathlib.Core.Bool.{_&&_}
+use mathlib.Core.Path.{_≡_, refl, sym, subst}
+use Prim.Native.Nat.{ℕ, zero, suc, _<_}
+use mathlib.Core.Bool.{true, _&&_}
 use mathlib.Core.List.{List, []}
 use native.Mathlib.Omega.{arith}
 use lib.Ieee.{Float}
 use Rattle.solver.specs.Result.{Result, ok, refused}
-use Rattle.solver.specs.Refusals.{RefusesOnly, accepts, refuses}
+use Rattle.solver.specs.Refusals.{SolveRefusal, RefusesOnly, accepts, refuses, solveDivisor, solveTemperature}
 use Rattle.solver.proofs.Laws.Refusals.{bind-refuses, cond-refuses, test-refuses, refuses-also}
 use Rattle.zone.specs.declared.record.building_element.Coefficients.{Coefficients}
 use Rattle.zone.specs.declared.record.zone_record.Zone.{Zone}
 use Rattle.zone.specs.declared.format.conditions.Conditions.{Conditions}
 use Rattle.zone.specs.Check.Ranges.{gainsRange, fractionRange, rateRange}
-use Rattle.zone.proofs.Claims.HeadRefusals.{zone-refusals}
+use Rattle.zone.proofs.Claims.HeadRefusals.{zone-below, conditions-below, zone-refusals}
 use Rattle.zone.specs.declared.physics.balance.HeatBalance.{HeatBalance}
 use Rattle.zone.specs.declared.calls.state.State.{State}
 use Rattle.zone.specs.declared.calls.state.Demand.{Demand}
@@ -20,7 +20,7 @@ use Rattle.zone.specs.declared.calls.state.UpdateAnswer.the-variants as 
 use Rattle.zone.specs.declared.calls.state.HourAnswer.the-variants as HourAnswer
 use Rattle.zone.specs.Calls.State.{slotsOf, operative}
 use Rattle.zone.specs.Hour.Demand.{spaceHeatCoolDemand}
-use Rattle.zone.specs.Calls.Hour.{HourResult, tested, updateTemperatures, demand, hourStep}
+use Rattle.zone.specs.Calls.Hour.{HourResult, hourVersion, tested, testedStep, updateTemperatures, demand, hourStep}
 use Rattle.zone.specs.Calls.StartUp.{startState, close, settle, initNodeTemps}
 use Rattle.zone.specs.Calls.Answers.{demandReply, updateReply, hourStepReply}
 use Rattle.zone.specs.Claims.Refusals.{
@@ -37,7 +37,7 @@ use Rattle.zone.specs.Claims.Refusals.{
   demandNoEffect,
   HourRefusal,
   hourDemand,
-  hourEntryVersion,
+  hourFalseEntry,
   UpdateRefusal,
   updateZone,
   updateStateInvalid,
@@ -53,8 +53,23 @@ use Rattle.zone.specs.Claims.Refusals.{
   CallRefusals,
 }
 use Rattle.zone.specs.Claims.StateClaims.{StateKept}
+use Rattle.zone.proofs.Laws.Versions.{step-known}
 use Rattle.zone.proofs.Laws.Refusals.{before-refuses, tested-refuses, tested-step-refuses, step-refuses, demand-refuses, pass-refuses}
 use Rattle.zone.specs.Record.Numbers as Number
+
+-- the demand's numbers
+pub solve-below : (number index : ℕ) → SolveRefusal number index → number < 14
+solve-below number index solveDivisor = omega arith
+solve-below number index solveTemperature = omega arith
+
+pub demand-below : (number index : ℕ) → DemandRefusal number index → number < 15
+demand-below number index (demandZone p) = omega (arith, zone-below number index p)
+demand-below number index demandStateInvalid = omega arith
+demand-below number index (demandConditions p) = omega (arith, conditions-below number index p)
+demand-below number index demandCoolingBelowHeating = omega arith
+demand-below number index demandVentilationBelowHeating = omega arith
+demand-below number index (demandSolve p) = omega (arith, solve-below number index p)
+demand-below number index demandNoEffect = omega arith
 
 module _ (c : Coefficients) (z : Zone) where
   module _ (s : State) (bytes : List ℕ) where
@@ -76,13 +91,23 @@ module _ (c : Coefficients) (z : Zone) where
         bind-refuses _ demand-tested λ h _.
         demand-asked h
 
-    pub hour-step-refusals : (version : ℕ) → RefusesOnly HourRefusal (hourStep c z version s bytes)
+    -- after its tests an hour step has the demand's
+    step-after-tests : {P : ℕ → ℕ → Type 0} → ((n i : ℕ) → DemandRefusal n i → P n i) → (version : ℕ) → RefusesOnly P (testedStep z version s bytes) → RefusesOnly P (hourStep c z version s bytes)
     unfolding hourStep
-    hour-step-refusals version =
-        bind-refuses _ (tested-step-refuses (λ n i p. hourDemand (demandZone p)) hourEntryVersion (hourDemand demandStateInvalid) (λ n i p. hourDemand (demandConditions p)) z version s bytes) λ h _.
-        bind-refuses _ (refuses-also (λ n i p. hourDemand p) (demand-asked h)) λ d _.
-        bind-refuses _ (step-refuses (λ n i p. hourDemand (demandSolve p)) c z s h _ _ _) λ r _.
+    step-after-tests also version tests =
+        bind-refuses _ tests λ h _.
+        bind-refuses _ (refuses-also also (demand-asked h)) λ d _.
+        bind-refuses _ (step-refuses (λ n i p. also n i (demandSolve p)) c z s h _ _ _) λ r _.
         accepts _
+
+    pub hour-step-refusals : (version : ℕ) → RefusesOnly HourRefusal (hourStep c z version s bytes)
+    hour-step-refusals version =
+        step-after-tests (λ n i p. hourDemand p) version
+        (tested-step-refuses (λ n i p. hourDemand (demandZone p)) hourFalseEntry (hourDemand demandStateInvalid) (λ n i p. hourDemand (demandConditions p)) z version s bytes)
+
+    -- of a version that hours have it has no others
+    pub known-step-refusals : (version : ℕ) → hourVersion version ≡ true → RefusesOnly DemandRefusal (hourStep c z version s bytes)
+    known-step-refusals version k = step-after-tests (λ n i p. p) version (subst (RefusesOnly DemandRefusal) (sym (step-known z version s bytes k)) demand-tested)
 
     pub update-refusals : (gains fraction ach : Float) → RefusesOnly UpdateRefusal (updateTemperatures c z s bytes gains fraction ach)
     unfolding updateTemperatures

@@ -7,7 +7,7 @@ use native.Mathlib.Omega.{arith}
 use lib.Ieee.{Float}
 use Rattle.solver.specs.Result.{Result, ok, refused, bind}
 use Rattle.solver.proofs.Laws.Result.{bind-ok, ok-inj}
-use Rattle.solver.specs.Refusals.{RefusesOnly, SolveRefusal, solveDivisor, solveTemperature}
+use Rattle.solver.specs.Refusals.{RefusesOnly}
 use Rattle.solver.proofs.Laws.Refusals.{refusal-by}
 use Rattle.zone.specs.declared.record.building_element.Coefficients.{Coefficients}
 use Rattle.zone.specs.declared.record.zone_record.Zone.{Zone}
@@ -15,22 +15,14 @@ use Rattle.zone.specs.Check.ZoneTest.{zoneTest}
 use Rattle.zone.specs.Calls.State.{slotsOf, stateOf}
 use Rattle.zone.specs.Calls.StartUp.{startState, close, pass, settle, initNodeTemps}
 use Rattle.zone.specs.Claims.StartUpClaims.{Unsettled, start, further, Settles, SettledAt, LimitUnsettled, StartUpNotSettled, StartUpIsNotSettled, StartUpSettled, StartUpIsSettled}
-use Rattle.zone.specs.Claims.HeadRefusals.{ZoneRefusal, zoneStructure, zoneValue}
-use Rattle.zone.proofs.Claims.HeadRefusals.{zone-refusals}
+use Rattle.zone.proofs.Claims.HeadRefusals.{zone-below, zone-refusals}
+use Rattle.zone.proofs.Claims.Refusals.{solve-below}
 use Rattle.zone.proofs.Laws.Refusals.{pass-refuses}
 use Rattle.zone.specs.Record.Numbers as Number
 
 -- a refusal's number is below 15
 abbrev Below15 : (number index : ℕ) → Type 0
 Below15 number index = number < 15
-
-solve-below : (number index : ℕ) → SolveRefusal number index → Below15 number index
-solve-below number index solveDivisor = omega arith
-solve-below number index solveTemperature = omega arith
-
-zone-below : (number index : ℕ) → ZoneRefusal number index → Below15 number index
-zone-below number index (zoneStructure i h) = omega arith
-zone-below number index (zoneValue i h) = omega arith
 
 module _ (c : Coefficients) (z : Zone) where
   -- the answer, by what the pass gave
@@ -56,7 +48,7 @@ module _ (c : Coefficients) (z : Zone) where
       go (refused k j) p f rest = let w : _≡_ {A = ℕ} 0 1 = cc in absurd (omega arith)
 
   below-pass : (t : List Float) → RefusesOnly Below15 (pass c z t)
-  below-pass t = pass-refuses {P = Below15} (omega arith) solve-below (omega arith) c z t
+  below-pass t = pass-refuses {P = Below15} (omega arith) (λ n i p. omega (arith, solve-below n i p)) (omega arith) c z t
 
   no-pass-gives-not-settled : (t : List Float) (j : ℕ) → pass c z t ≡ refused Number.notSettled j → ⊥
   no-pass-gives-not-settled t j e = let w : 15 < 15 = refusal-by (below-pass t) e in omega arith
@@ -105,7 +97,7 @@ module _ (c : Coefficients) (z : Zone) where
       go (ok _) p f = not-settled (z .«start_up_limit») j (slotsOf z (startState z)) (settled-from (settle c z (z .«start_up_limit») (slotsOf z (startState z))) j f)
       go (refused n i) p f =
           let n15 : n ≡ Number.notSettled = cc in
-          let w : n < 15 = zone-below n i (refusal-by (zone-refusals z) p) in
+          let w = zone-below n i (refusal-by (zone-refusals z) p) in
           absurd (omega arith)
 
   pub start-up-is-not-settled : StartUpIsNotSettled c z

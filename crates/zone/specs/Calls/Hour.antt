@@ -53,11 +53,17 @@ demand c z s bytes =
     bind (tested z s bytes) λ h.
     spaceHeatCoolDemand c z (slotsOf z s) h
 
--- ---- hour step (document 01): the demand is met, by the rule of the entry version that the call names
+-- ---- hour step (document 01, and document 02 (a)): the demand is met, by the rule of the entry version that the call names
 
 -- the versions that hours have: 1 and 2
+abbrev pub firstVersion : ℕ
+firstVersion = 1
+
+abbrev pub newestVersion : ℕ
+newestVersion = 2
+
 abbrev pub hourVersion : (version : ℕ) → Bool
-hourVersion version = leb 1 version && leb version 2
+hourVersion version = leb firstVersion version && leb version newestVersion
 
 -- "An hour step alone names one too; an unknown one is 18, index 0, before 6": after the zone's 4, 5
 unfoldable pub testedStep : Zone → (version : ℕ) → State → List ℕ → Result Conditions
@@ -71,8 +77,11 @@ unfoldable pub delivered : Conditions → Demand → Float
 delivered h d = (d .«space_heat_demand» +ᶠ d .«space_cool_demand») *ᶠ decimal 1000 0 /ᶠ h .«delta_t_h»
 
 -- "From entry version 2 on, delivered power below 0 uses the cooling fraction, any other the heating fraction. Version 1 entries keep their own rule"
+abbrev pub coolingFractionVersion : ℕ
+coolingFractionVersion = 2
+
 unfoldable pub deliveredFraction : (version : ℕ) → Conditions → (w : Float) → Float
-deliveredFraction version h w = cond (leb 2 version && lt w zero64) (h .«frac_convective_cool») (h .«frac_convective_heat»)
+deliveredFraction version h w = cond (leb coolingFractionVersion version && lt w zero64) (h .«frac_convective_cool») (h .«frac_convective_heat»)
 
 -- the convective share of the total gains g, 0 where g is close to 0
 unfoldable pub convectiveShare : (version : ℕ) → Conditions → (w g : Float) → Float

@@ -120,8 +120,8 @@ module _ (c : Coefficients) (z : Zone) where
 
   -- "An hour step alone names one too; an unknown one is 18, index 0, before 6": between the zone's 4, 5 and all others
   pub data HourStepReason (version : ℕ) (s : State) (bytes : List ℕ) : (number index : ℕ) → Type 0 where
-    byZone : {number index : ℕ} → zoneTest z ≡ refused number index → number < 6 → HourStepReason version s bytes number index
-    byVersion : zoneTest z ≡ ok tt → hourVersion version ≡ false → HourStepReason version s bytes falseEntry 0
+    inHourZone : {number index : ℕ} → zoneTest z ≡ refused number index → number < 6 → HourStepReason version s bytes number index
+    byFalseEntry : zoneTest z ≡ ok tt → hourVersion version ≡ false → HourStepReason version s bytes falseEntry 0
     ofVersion : {number index : ℕ} → zoneTest z ≡ ok tt → hourVersion version ≡ true → AfterTests z s bytes (HourReason version s) number index
         → HourStepReason version s bytes number index
 

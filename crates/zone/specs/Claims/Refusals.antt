@@ -37,7 +37,7 @@ pub data DemandRefusal : (number index : ℕ) → Type 0 where
 -- the hour step has 18 besides: "an unknown one is 18, index 0"
 pub data HourRefusal : (number index : ℕ) → Type 0 where
   hourDemand : {number index : ℕ} → DemandRefusal number index → HourRefusal number index
-  hourEntryVersion : HourRefusal falseEntry 0
+  hourFalseEntry : HourRefusal falseEntry 0
 
 -- "Update: 6 to 9, its own gains, fraction and rate tested in 9 after the conditions, index 0, then 12, 13."
 pub data UpdateRefusal : (number index : ℕ) → Type 0 where

@@ -6,7 +6,7 @@ use lib.ListN.{length}
 use lib.Dec.{leb, eqb}
 use Rattle.solver.specs.Result.{Result, ok, bind, require, requireAt}
 use Rattle.zone.specs.Record.Numbers.{headShort, headLength, headVersion, structure}
-use Rattle.zone.specs.Format.Layout.{lengthSize, lengthField, version, versionIn, basisIn, countIn, firstElement, shortestLength, longestLength, elementFloats}
+use Rattle.zone.specs.Format.Layout.{lengthSize, lengthField, versionOfHead, versionIn, basisIn, countIn, firstElement, shortestLength, longestLength, elementFloats}
 use Rattle.zone.specs.Format.ElementLayout.{kindValidAt, sizeAt}
 use Rattle.zone.specs.Format.Decode.{zoneAt}
 use Rattle.zone.specs.Check.ZoneTest.{countValid, valuesTest}
@@ -28,7 +28,7 @@ structureOf bs =
     bind (require (leb lengthSize (length bs)) headShort) λ _.
     bind (require (leb shortestLength (lengthField bs) && leb (lengthField bs) longestLength) headLength) λ _.
     bind (require (leb end (length bs)) headShort) λ _.
-    bind (require (eqb (versionIn bs) version) headVersion) λ _.
+    bind (require (eqb (versionIn bs) versionOfHead) headVersion) λ _.
     bind (require (leb (basisIn bs) 1 && countValid (countIn bs)) structure) λ _.
     bind (elementsEnd bs end (countIn bs) 0 firstElement) λ p.
     bind (require (eqb p end) headLength) λ _.

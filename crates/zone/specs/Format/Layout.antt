@@ -4,12 +4,12 @@ use mathlib.Core.List.{List}
 use lib.ListN.{getD}
 use Rattle.zone.specs.Format.Bytes.{numAt, floatSize}
 
--- "Each record: 4-byte length of what follows, then version byte 1."
+-- "Each record: 4-byte length of what follows, then version byte": of a head 1
 abbrev pub lengthSize : ℕ
 lengthSize = 4
 
-abbrev pub version : ℕ
-version = 1
+abbrev pub versionOfHead : ℕ
+versionOfHead = 1
 
 abbrev pub versionAt : ℕ
 versionAt = lengthSize

@@ -6,7 +6,7 @@ use lib.ListN.{length, take}
 use lib.Dec.{leb, eqb}
 use Rattle.solver.specs.Result.{Result, ok, refused, bind, require}
 use Rattle.zone.specs.Record.Numbers.{headLength, headVersion, structure, conditionsSize, conditionsCode}
-use Rattle.zone.specs.Format.Layout.{version, versionIn, basisIn, countIn, firstElement, firstElementHour, conditionsLength}
+use Rattle.zone.specs.Format.Layout.{versionOfHead, versionIn, basisIn, countIn, firstElement, firstElementHour, conditionsLength}
 use Rattle.zone.specs.Format.ElementLayout.{kindOf, treatmentsValid}
 use Rattle.zone.specs.Check.ZoneTest.{countValid}
 use Rattle.zone.specs.Format.Head.{elementsEnd}
@@ -22,7 +22,7 @@ kindValid k t = leb k 5 && treatmentsValid (kindOf k) t
 -- a head that ends at `end`, of whose bytes none is missing
 unfoldable pub structureWithin : List ℕ → (end : ℕ) → Result ℕ
 structureWithin bs end =
-    bind (require (eqb (versionIn bs) version) headVersion) λ _.
+    bind (require (eqb (versionIn bs) versionOfHead) headVersion) λ _.
     bind (require (leb (basisIn bs) 1 && countValid (countIn bs)) structure) λ _.
     bind (elementsEnd bs end (countIn bs) 0 firstElement) λ p.
     bind (require (eqb p end) headLength) λ _.

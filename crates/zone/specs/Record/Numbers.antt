@@ -1,4 +1,4 @@
--- Document 01's numbers of refusals, "Refused, operation by operation". 12 and 13 are the solver's, 16 to 18 the book's; 18 is an hour step's too.
+-- Document 01's numbers of refusals, "Refused, operation by operation". 12 and 13 are the solver's, 16 and 17 the book's; 18, an hour step's and the book's, stands here.
 use Prim.Native.Nat.{ℕ}
 
 -- "fewer than 4 bytes", "bytes end early"

@@ -4,13 +4,13 @@ ghost use Rattle.zone.specs.Calls.Hour.{hourVersion};
 
 const FIRST_VERSION: u64 = 1;
 
-const LAST_VERSION: u64 = 2;
+const NEWEST_VERSION: u64 = 2;
 
 // Whether hours have this version.
 pub fn hour_version(version: u64) -> bool
     ensures { λ r. ⌜ r ≡ hourVersion version ⌝ }
 {
     let from = FIRST_VERSION <= version;
-    let to = version <= LAST_VERSION;
+    let to = version <= NEWEST_VERSION;
     from & to
 }

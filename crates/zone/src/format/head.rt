@@ -16,8 +16,8 @@ use crate::format::layout::LENGTH_SIZE;
 use crate::format::layout::LONGEST_LENGTH;
 use crate::format::layout::SHORTEST_LENGTH;
 use crate::format::layout::TREATMENTS;
-use crate::format::layout::VERSION;
 use crate::format::layout::VERSION_AT;
+use crate::format::layout::VERSION_OF_HEAD;
 use crate::record::numbers::HEAD_LENGTH;
 use crate::record::numbers::HEAD_SHORT;
 use crate::record::numbers::HEAD_VERSION;
@@ -100,7 +100,7 @@ fn structure_within(s: &[u8], end: usize) -> Extent
     requires { ⌜ (lengthSize + shortestLength ≤ end) × (end ≤ length (now s)) ⌝ }
     ensures { λ r. ⌜ r ≡ extentAnswer (structureWithin (now (s .entry)) end) ⌝ }
 {
-    let version = s[VERSION_AT] == VERSION;
+    let version = s[VERSION_AT] == VERSION_OF_HEAD;
     let basis = s[BASIS_AT] <= 1;
     let n = count_of(s[COUNT_AT]);
     let count = count_valid(n);

@@ -2,10 +2,10 @@
 
 pub const FLOAT_SIZE: usize = 8;
 
-// "Each record: 4-byte length of what follows, then version byte 1."
+// "Each record: 4-byte length of what follows, then version byte": of a head 1.
 pub const LENGTH_SIZE: usize = 4;
 
-pub const VERSION: u8 = 1;
+pub const VERSION_OF_HEAD: u8 = 1;
 
 // The head: length, version, basis, element count, 2-byte start-up limit, six floats, elements.
 pub const VERSION_AT: usize = LENGTH_SIZE;

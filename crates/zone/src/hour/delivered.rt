@@ -27,7 +27,7 @@ pub fn total_gains(h: HourFront, w: f64) -> f64
     gains_heat_cool_of(h) + w
 }
 
-// The convective fraction of delivered power: from its version on that of cooling where the power is below 0, else that of heating.
+// The convective fraction of delivered power: from version 2 on that of cooling where the power is below 0, else that of heating.
 fn delivered_fraction(version: u64, h: HourFront, w: f64) -> f64
     ensures { λ r. ⌜ r ≡ deliveredFraction version (hourOf h []) w ⌝ }
 {

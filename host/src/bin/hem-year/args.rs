@@ -2,9 +2,11 @@
 //! `--` ends them. What each command takes is told by `commands.rs`.
 use crate::commands::{Command, COMMANDS, FLAGS, VALUED};
 use crate::failure::Failure;
+use crate::words::grouped;
 use lexopt::Arg;
 use std::ffi::{OsStr, OsString};
 use std::path::Path;
+use std::str::FromStr;
 
 /// What is asked for.
 pub enum Asked {
@@ -189,18 +191,30 @@ impl Words {
 
     /// The whole number at a place.
     pub fn number(&self, place: usize) -> Result<usize, Failure> {
-        self.whole(self.command.places[place], &self.places[place])
+        self.whole(self.command.places[place], &self.places[place], usize::MAX)
     }
 
-    /// The whole number of an option.
-    pub fn number_of(&self, option: &str) -> Result<Option<usize>, Failure> {
-        self.value(option).map(|value| self.whole(&format!("--{option}"), value)).transpose()
+    /// The whole number of an option, at most the greatest of its type.
+    pub fn number_of<T: FromStr + ToString>(
+        &self,
+        option: &str,
+        most: T,
+    ) -> Result<Option<T>, Failure> {
+        let Some(word) = self.value(option) else { return Ok(None) };
+        self.whole(&format!("--{option}"), word, most).map(Some)
     }
 
-    fn whole(&self, name: &str, word: &OsStr) -> Result<usize, Failure> {
+    fn whole<T: FromStr + ToString>(
+        &self,
+        name: &str,
+        word: &OsStr,
+        most: T,
+    ) -> Result<T, Failure> {
         let number = word.to_str().and_then(|text| text.parse().ok());
         number.ok_or_else(|| {
-            self.wrong(format_args!("{name} is {word:?}, which is not a whole number from 0"))
+            let most = grouped(most);
+            let text = format!("{name} is {word:?}, which is not a whole number from 0 to {most}");
+            self.wrong(text)
         })
     }
 

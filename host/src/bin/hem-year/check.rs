@@ -3,19 +3,31 @@ use crate::calendar::hour_name;
 use crate::failure::Failure;
 use crate::files;
 use crate::inputs::{self, Year};
+use crate::version::{self, NEW_BOOK_VERSION};
 use crate::words::{count, hours};
 use hem_zone::text::{conditions_faults, head_faults, read_hours, read_house, Faults, Plan};
-use hem_zone::{Book, Conditions, Head, Zone, ENTRY_VERSION};
+use hem_zone::{Book, Conditions, Head, Zone};
 use std::path::Path;
 
-pub fn check(house: &Path, hours: &Path) -> Result<(), Failure> {
+/// What is checked.
+pub struct Check<'a> {
+    pub house: &'a Path,
+    pub hours: &'a Path,
+    /// The version of the entries that are calculated, where it is given.
+    pub version: Option<u64>,
+}
+
+pub fn check(given: &Check) -> Result<(), Failure> {
+    version::must_be_known(given.version)?;
+    let version = given.version.unwrap_or(NEW_BOOK_VERSION);
+    let (house, hours) = (given.house, given.hours);
     let mut faults = Faults::new();
     let (zone, plan) = check_house(house, &mut faults)?;
     let year = check_hours(hours, zone.as_ref(), plan.as_ref(), &mut faults)?;
     if let (Some(zone), Read::Good(year), true) = (&zone, &year, faults.is_empty()) {
-        check_run(house, hours, zone, year, &mut faults);
+        check_run(given, zone, year, version, &mut faults);
         if faults.is_empty() {
-            return files::print(&praise(house, hours, zone, year.len()));
+            return files::print(&praise(given, zone, year.len(), version));
         }
     }
     files::print(&faults.to_string())?;
@@ -36,13 +48,14 @@ enum Read {
     Not,
 }
 
-fn praise(house: &Path, year: &Path, zone: &Zone, held: usize) -> String {
+fn praise(given: &Check, zone: &Zone, number: usize, version: u64) -> String {
     format!(
-        "{}: a house of {}\n{}: {}\nno faults: start-up settles and every hour can be calculated\n",
-        house.display(),
+        "{}: a house of {}\n{}: {}\n\
+         no faults: start-up settles and every hour can be calculated, as entries of version {version}\n",
+        given.house.display(),
         count(zone.layout().elements(), "element"),
-        year.display(),
-        hours(held),
+        given.hours.display(),
+        hours(number),
     )
 }
 
@@ -109,15 +122,15 @@ fn check_year(path: &Path, zone: &Zone, year: &Year, faults: &mut Faults) -> Vec
 }
 
 /// Runs start-up and the hours, as in a new book: what they lead to can be refused too.
-fn check_run(house: &Path, path: &Path, zone: &Zone, year: &[Vec<u8>], faults: &mut Faults) {
+fn check_run(given: &Check, zone: &Zone, year: &[Vec<u8>], version: u64, faults: &mut Faults) {
     let mut book = match Book::begin(zone.head()) {
         Ok(book) => book,
-        Err(refusal) => return faults.add(house.display(), refusal),
+        Err(refusal) => return faults.add(given.house.display(), refusal),
     };
     let mut start = 0.0;
     for (place, hour) in year.iter().enumerate() {
-        if let Err(refusal) = book.append(hour, ENTRY_VERSION) {
-            let at = format!("{}: {}", path.display(), hour_name(place, start));
+        if let Err(refusal) = book.append(hour, version) {
+            let at = format!("{}: {}", given.hours.display(), hour_name(place, start));
             return faults
                 .add(at, format_args!("{refusal}; the hours after it were not calculated"));
         }

@@ -31,7 +31,12 @@ pub const COMMANDS: &[Command] = &[
         options: &["head", "force"],
         help: HOURS,
     },
-    Command { name: "check", places: &["HOUSE", "HOURS"], options: &[], help: CHECK },
+    Command {
+        name: "check",
+        places: &["HOUSE", "HOURS"],
+        options: &["entry-version"],
+        help: CHECK,
+    },
     Command {
         name: "run",
         places: &["HOUSE", "HOURS", "BOOK"],
@@ -112,11 +117,15 @@ fault of the file is told, with line, column, value and range.
 ";
 
 const CHECK: &str = "\
-hem-year check HOUSE HOURS
+hem-year check HOUSE HOURS [--entry-version N]
 
 Lists all faults of a house (HOUSE.toml or HEAD) and its hours (HOURS.csv or YEAR), a line each:
 the first 100, then their number. Where there are none, start-up and all hours are calculated, as
 in a new book, and what the engine refuses is told. Nothing is written.
+
+  --entry-version N
+               the version of the entries that are calculated, as `hem-year help run` has it; without
+               it that of new books, 2
 ";
 
 const RUN: &str = "\
@@ -126,8 +135,8 @@ Begins BOOK for a house (HOUSE.toml or HEAD), or takes it up, and appends those 
 (HOURS.csv or YEAR) that it does not hold yet. Every hour that is held is calculated again first
 and must be the same bytes.
 
-A run may be stopped at any time, by Ctrl-C, by a kill or by a power cut: the same command goes on
-from there, and the finished book is the same, byte for byte. After Ctrl-C it says what is held.
+A run may be stopped at any time, by Ctrl-C, by a kill or by a power cut: run again, the same
+command ends in the same book, byte for byte. After Ctrl-C it says what is held.
 
 A book that is damaged, that belongs to another house or other hours, or that another run is
 writing is left as it is. Where a part of it is good, `hem-year cut` keeps that part.
@@ -135,8 +144,10 @@ writing is left as it is. Where a part of it is good, `hem-year cut` keeps that 
   --entry-version N
                the version of the entries that are appended, which says how heating and cooling are
                shared between the air and the surfaces. 1: both by frac_convective_heat. 2: cooling
-               by frac_convective_cool. Without it they have that of the book's last entry; in a new
-               book, or one that holds no hour yet, 2. A book may pass from 1 to 2, never back
+               by frac_convective_cool. Without it they have that of the book's last entry, so a book
+               that `cut` took back to hours of version 1 goes on in 1; in a new book, or one that
+               holds no hour yet, 2. A book may pass from 1 to 2, never back. Hours that are held keep
+               their version
 ";
 
 const REPORT: &str = "\

@@ -3,7 +3,7 @@
 use crate::calendar::hour_name;
 use crate::failure::Failure;
 use crate::places::heads_differ;
-use crate::words::{grouped, hours};
+use crate::words::{first_hours, grouped, hours};
 use hem_zone::{Book, Refusal, Zone};
 use std::path::Path;
 
@@ -95,17 +95,19 @@ fn start_of(bytes: &[u8], place: usize) -> f64 {
 /// How the good hours can be kept.
 fn keep(path: &Path, good: Option<usize>, option: &str) -> String {
     let Some(good) = good else { return String::new() };
-    let verb = if good == 1 { "is" } else { "are" };
-    let number = if good == 1 { "hour".into() } else { hours(good) };
     let lead = if option.is_empty() { "; " } else { " " };
     match good {
         0 => format!("{lead}no hour before it is held"),
-        _ => format!(
-            "{lead}its first {number} {verb} good, and `hem-year cut {} {good} NEW{option}` keeps {}",
-            path.display(),
-            if good == 1 { "it" } else { "them" }
-        ),
+        _ => {
+            format!("{lead}its {} good, and {}", first_hours(good), cut_keeps(path, good, option))
+        }
     }
+}
+
+/// The command that keeps the first hours of a book.
+pub fn cut_keeps(path: &Path, number: usize, option: &str) -> String {
+    let them = if number == 1 { "it" } else { "them" };
+    format!("`hem-year cut {} {number} NEW{option}` keeps {them}", path.display())
 }
 
 /// Says that a book holds fewer hours than were asked for.

@@ -70,13 +70,17 @@ fn command(words: &Words) -> Result<(), Failure> {
         "hours" => {
             hours::hours(words.path(0), words.path(1), words.file("head"), words.has("force"))
         }
-        "check" => check::check(words.path(0), words.path(1)),
+        "check" => check::check(&check::Check {
+            house: words.path(0),
+            hours: words.path(1),
+            version: words.number_of("entry-version", u64::MAX)?,
+        }),
         "show" => show(words),
         "run" => run::run(&run::Run {
             house: words.path(0),
             hours: words.path(1),
             book: words.path(2),
-            version: words.number_of("entry-version")?.map(|version| version as u64),
+            version: words.number_of("entry-version", u64::MAX)?,
         }),
         "cut" => cut::cut(&cut::Cut {
             book: words.path(0),
@@ -92,7 +96,7 @@ fn command(words: &Words) -> Result<(), Failure> {
 
 fn show(words: &Words) -> Result<(), Failure> {
     words.excludes("hours", "hour")?;
-    let (hour, hours) = (words.number_of("hour")?, words.has("hours"));
+    let (hour, hours) = (words.number_of("hour", usize::MAX)?, words.has("hours"));
     show::show(words.path(0), show::Show { hour, hours, house: words.file("head") })
 }
 

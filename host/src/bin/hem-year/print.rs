@@ -1,8 +1,8 @@
 //! What is told of a book: in words, as a table and as a drawing, from one reading of it.
 use crate::figures::{figures, HourFigures, Sums};
 use crate::fingerprint::Fingerprints;
-use crate::words::{count, grouped, length_of_time};
-use hem_zone::{Book, ENTRY_VERSION, VERSION_1};
+use crate::words::{count, length_of_time};
+use hem_zone::Book;
 
 /// The name and version of this program, as every print gives it.
 pub const PROGRAM: &str = concat!("hem-year ", env!("CARGO_PKG_VERSION"));
@@ -31,16 +31,6 @@ impl<'a> Print<'a> {
     /// Useful floor area, m².
     pub fn area(&self) -> f64 {
         self.book.zone().layout().useful_area()
-    }
-
-    /// How many entries are of which version: as `24 of version 1, 8,736 of version 2`.
-    pub fn versions(&self) -> String {
-        let number = |version| self.book.entries().filter(|e| e.version() == version).count();
-        let held = (VERSION_1..=ENTRY_VERSION).map(|version| (version, number(version)));
-        let held = held.filter(|(_, number)| *number > 0);
-        let words =
-            held.map(|(version, number)| format!("{} of version {version}", grouped(number)));
-        words.collect::<Vec<_>>().join(", ")
     }
 
     /// How long the book is: as `8,760 hours`, or `2,190 hours in 8,760 steps` where its entries are

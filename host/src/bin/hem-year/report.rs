@@ -10,6 +10,7 @@ use crate::output::{self, Output};
 use crate::print::{Print, PROGRAM};
 use crate::svg;
 use crate::table::{self, Columns};
+use crate::version::held_by_version_and_rule;
 use crate::words::{count, length_of_time};
 use hem_zone::text::Plan;
 use hem_zone::Book;
@@ -99,7 +100,7 @@ fn text(path: &Path, print: &Print, torn: usize) -> String {
         text.push('\n');
         text += &totals(print);
         text += &extremes(&print.hours);
-        let _ = writeln!(text, "Entries    {}", print.versions());
+        let _ = writeln!(text, "Entries    {}", held_by_version_and_rule(print.book));
         text += &monthly(&print.hours);
         text += &highest("heating", &print.hours, &HEATING);
         text += &highest("cooling", &print.hours, &COOLING);

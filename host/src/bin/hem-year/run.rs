@@ -6,7 +6,7 @@ use crate::inputs::{House, Year};
 use crate::places::conditions_differ;
 use crate::stop::Stop;
 use crate::store::Store;
-use crate::version;
+use crate::version::{self, another_book, held_by_version};
 use crate::words::{count, grouped, hours};
 use hem_zone::Book;
 use std::path::Path;
@@ -21,21 +21,36 @@ pub struct Run<'a> {
 }
 
 pub fn run(given: &Run) -> Result<(), Failure> {
+    version::must_be_known(given.version)?;
     must_be_apart(given)?;
     let house = House::read(given.house)?;
     let year = Year::read(given.hours, &house)?;
-    version::must_be_known(&house.zone, given.version)?;
     let stop = Stop::listen();
     let mut store = Store::open(given.book, given.house, &house.zone)?;
     must_agree(given.book, &store.book, given.hours, &year)?;
-    let version = version::to_append(given.book, &mut store.book, given.version)?;
+    let held = Held::of(&store.book);
+    // A version has a meaning only where there is an hour to append.
+    let version = match held.hours < year.len() {
+        true => Some(version::to_append(given.book, &mut store.book, given.version)?),
+        false => None,
+    };
     let dropped = store.drop_torn_tail()?;
-    let held = store.book.hours();
-    store.append_missing(&year, version, &stop)?;
-    files::print(&summary(given.book, held, dropped, &store.book))?;
-    match held > year.len() {
-        true => files::print(&fewer(given.hours, &year)),
-        false => Ok(()),
+    if let Some(version) = version {
+        store.append_missing(&year, version, &stop)?;
+    }
+    let text = summary(given.book, &held, dropped, &store.book);
+    files::print(&(text + &fewer(given.hours, &held, &year) + &unused(given, &store.book, &year)))
+}
+
+/// What a book held before the run.
+struct Held {
+    hours: usize,
+    by_version: String,
+}
+
+impl Held {
+    fn of(book: &Book) -> Self {
+        Self { hours: book.hours(), by_version: held_by_version(book) }
     }
 }
 
@@ -70,7 +85,7 @@ fn must_agree(path: &Path, book: &Book, conditions: &Path, year: &Year) -> Resul
     Ok(())
 }
 
-fn summary(path: &Path, held: usize, dropped: usize, book: &Book) -> String {
+fn summary(path: &Path, held: &Held, dropped: usize, book: &Book) -> String {
     let mut text = String::new();
     if dropped > 0 {
         text += &format!(
@@ -78,24 +93,43 @@ fn summary(path: &Path, held: usize, dropped: usize, book: &Book) -> String {
             count(dropped, "byte")
         );
     }
-    let appended = match book.hours() - held {
+    let appended = match book.hours() - held.hours {
         0 => "0 appended".into(),
         more => format!("{} appended with entry version {}", grouped(more), book.last_version()),
     };
-    text += &format!(
-        "{}: {} {} held, {appended}, {} bytes\n",
-        path.display(),
-        hours(held),
-        if held == 1 { "was" } else { "were" },
-        grouped(book.bytes().len())
-    );
+    let bytes = grouped(book.bytes().len());
+    text += &format!("{}: {}, {appended}, {bytes} bytes\n", path.display(), held_before(held));
     text
 }
 
-fn fewer(conditions: &Path, year: &Year) -> String {
-    format!(
-        "{} has only {}; the others stay in the book\n",
-        conditions.display(),
-        hours(year.len())
-    )
+fn held_before(held: &Held) -> String {
+    match held.hours {
+        0 => "0 hours were held".into(),
+        1 => format!("1 hour was held ({})", held.by_version),
+        more => format!("{} were held ({})", hours(more), held.by_version),
+    }
+}
+
+/// Said where the book holds more hours than are given.
+fn fewer(conditions: &Path, held: &Held, year: &Year) -> String {
+    match held.hours > year.len() {
+        true => format!(
+            "{} has only {}; the others stay in the book\n",
+            conditions.display(),
+            hours(year.len())
+        ),
+        false => String::new(),
+    }
+}
+
+/// Said where the version that is given had no hour to be used for: the last of the hours that are given
+/// was held before, in another version.
+fn unused(given: &Run, book: &Book, year: &Year) -> String {
+    let last = year.len().checked_sub(1).and_then(|place| book.entry(place));
+    match (given.version, last) {
+        (Some(version), Some(last)) if last.version() != version => {
+            format!("the hours held keep their version; {}\n", another_book(version))
+        }
+        _ => String::new(),
+    }
 }

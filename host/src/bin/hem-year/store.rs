@@ -2,7 +2,7 @@
 //!
 //! Only whole entries are added to the file, one write each, and it is synced after each day. So a cut
 //! at any byte leaves the entries before it, and perhaps a part of one, which is dropped once the
-//! engine has accepted the rest (README.md, "What is promised under power loss").
+//! engine has accepted the rest (README.md, "What is promised of files").
 use crate::calendar::{hour_name, Moment};
 use crate::damage;
 use crate::failure::Failure;
@@ -45,6 +45,9 @@ impl<'a> Store<'a> {
         let mut bytes = vec![];
         file.read_to_end(&mut bytes).map_err(|e| Failure::io("be read", path, e))?;
         let book = damage::take_up_with_head(path, &bytes, head, zone)?;
+        // The hours that are found choose the version of those to come. They are stored first, so that
+        // the same command finds them again after a power cut.
+        file.sync_data().map_err(|e| Failure::io("be written", path, e))?;
         let end = book.entries().map(|e| e.conditions().delta_t_h).sum();
         Ok(Self { path, file, file_len: bytes.len(), book, end })
     }

@@ -4,9 +4,10 @@ use crate::chart::{Anchor, Axis, Canvas, Frame, FAINT_INK, GRID};
 use crate::days::{self, Days};
 use crate::figures::{falling, HourFigures, Spread, Sums};
 use crate::print::{Print, PROGRAM};
+use crate::version::held_by_version;
 
 const WIDTH: f64 = 1200.0;
-const HEIGHT: f64 = 1310.0;
+const HEIGHT: f64 = 1332.0;
 const LEFT: f64 = 78.0;
 const INNER: f64 = WIDTH - LEFT - 36.0;
 
@@ -54,6 +55,8 @@ fn title(canvas: &mut Canvas, print: &Print) {
         sums.cooling / area,
     );
     canvas.text((LEFT, 74.0), Anchor::Start, 15, FAINT_INK, &words);
+    let entries = format!("entries: {}", held_by_version(print.book));
+    canvas.text((LEFT, 96.0), Anchor::Start, 15, FAINT_INK, &entries);
 }
 
 /// Which program drew it, and of what.
@@ -101,7 +104,7 @@ fn demand(canvas: &mut Canvas, days: &Days, shown: f64) {
     let y = Axis::covering(-lowest, highest.max(1.0), 6.0);
     let keys = [(HEATING, "heating"), (COOLING, "cooling")];
     let heading = format!("Demand, kWh a day{}", means_of(days));
-    let frame = panel(canvas, &heading, &keys, 136.0, (0.0, shown), y);
+    let frame = panel(canvas, &heading, &keys, 158.0, (0.0, shown), y);
     time_axis(canvas, &frame);
     frame.draw_y(canvas, |axis, tick| axis.label(tick.abs()));
     for (first, d) in steps {
@@ -137,7 +140,7 @@ fn temperature(canvas: &mut Canvas, days: &Days, shown: f64) {
         1 => "Temperature, °C: mean, lowest and highest hour of each day".into(),
         together => format!("Temperature, °C: mean, lowest and highest hour of {together} days"),
     };
-    let frame = panel(canvas, &heading, &keys, 510.0, (0.0, shown), y);
+    let frame = panel(canvas, &heading, &keys, 532.0, (0.0, shown), y);
     time_axis(canvas, &frame);
     frame.draw_y(canvas, Axis::label);
     band(canvas, &frame, days, |d| &d.external, OUTSIDE);
@@ -217,7 +220,7 @@ fn load_duration(canvas: &mut Canvas, hours: &[HourFigures]) {
         with_highest("cooling", hours, HourFigures::cooling_power),
     ];
     let keys = [(HEATING, named[0].as_str()), (COOLING, named[1].as_str())];
-    let frame = panel(canvas, "Load duration, kW", &keys, 884.0, (0.0, span.high), y);
+    let frame = panel(canvas, "Load duration, kW", &keys, 906.0, (0.0, span.high), y);
     for tick in span.ticks() {
         number_below(canvas, &frame, tick, &span.label(tick));
     }

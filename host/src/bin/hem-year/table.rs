@@ -5,6 +5,7 @@ use crate::figures::{windows_used, HourFigures};
 use crate::kind::TABLE_MARK;
 use crate::places::nodes_by_element;
 use crate::print::{Print, PROGRAM};
+use crate::version::held_by_version;
 use hem_zone::{AirChangesPerHour, Conditions, Demand, Entry, HeatBalance, State};
 
 /// Which columns are written beyond the usual ones.
@@ -79,6 +80,7 @@ fn not_made(error: &dyn std::fmt::Display) -> Failure {
 fn beginning(print: &Print) -> String {
     let mut text = format!("{TABLE_MARK}, {PROGRAM}\n# house: {}\n", print.name);
     text += &format!("# useful floor area: {} m2\n", print.area());
+    text += &format!("# entries: {}\n", held_by_version(print.book));
     for (name, digits) in print.fingerprints.named() {
         text += &format!("# SHA-256 of {name}: {digits}\n");
     }

@@ -1,7 +1,7 @@
 //! Numbers with their words.
 
 /// A whole number in groups of three: 8784 is 8,784.
-pub fn grouped(number: usize) -> String {
+pub fn grouped(number: impl ToString) -> String {
     let digits = number.to_string();
     let mut text = String::new();
     for (place, digit) in digits.chars().enumerate() {
@@ -26,10 +26,18 @@ pub fn hours(number: usize) -> String {
     count(number, "hour")
 }
 
+/// The first hours of a book with their verb, as `first hour is` and `first 24 hours are`.
+pub fn first_hours(number: usize) -> String {
+    match number {
+        1 => "first hour is".into(),
+        _ => format!("first {} are", hours(number)),
+    }
+}
+
 /// A length of time in hours, to the thousandth, as `1,227.5`.
 pub fn length(hours: f64) -> String {
     let thousandths = (hours * 1000.0).round() as u64;
-    let mut text = grouped((thousandths / 1000) as usize);
+    let mut text = grouped(thousandths / 1000);
     if thousandths % 1000 > 0 {
         text += format!(".{:03}", thousandths % 1000).trim_end_matches('0');
     }
@@ -51,8 +59,8 @@ mod tests {
     #[test]
     fn numbers_have_groups_and_their_words() {
         assert_eq!(
-            (grouped(0), grouped(999), grouped(8760)),
-            ("0".into(), "999".into(), "8,760".into())
+            (grouped(0), grouped(8760), grouped(u64::MAX)),
+            ("0".into(), "8,760".into(), "18,446,744,073,709,551,615".into())
         );
         assert_eq!(
             (hours(1), hours(0), hours(1_000_000)),

@@ -70,6 +70,13 @@ module _ (L : Interface) (W : Laws L) (z : L .Zone) where
       go zero l w = absurd (omega arith)
       go (suc f) l w = rw e (ap (λ x. take n bs ∷ x) (upTo-enough f (length (drop n bs)) (drop n bs) (omega (arith, length-drop n bs)) (omega arith)))
 
+  -- an entry that the hour step gives, and what stands behind it
+  pub whole-next : (k : ℕ) (s : L .State) (i : L .Item) (e : Written (L .State)) → L .step z k s i ≡ ok e → (behind : List ℕ)
+      → wholeEntries L z (e .bytes ++ behind) ≡ e .bytes ∷ wholeEntries L z behind
+  whole-next k s i e stepped behind =
+      whole-some (e .bytes ++ behind) (length (e .bytes)) (W .length-whole z k s i e stepped behind)
+      ∙ (λ j. take-at (e .bytes) behind (length (e .bytes)) refl j ∷ wholeEntries L z (drop-at (e .bytes) behind (length (e .bytes)) refl j))
+
   -- ---- bytes are their whole entries, and a rest that begins with none and is dropped
 
   pub record Dropped (bs : List ℕ) : Type 0 where
@@ -124,8 +131,7 @@ module _ (L : Interface) (W : Laws L) (z : L .Zone) where
           kept = entry L i e ∷ r .kept;
           read =
               ap (wholeEntries L z) tk
-              ∙ whole-some (e .bytes ++ T) (length (e .bytes)) (W .length-whole z k s i e stepped T)
-              ∙ (λ j. take-at (e .bytes) T (length (e .bytes)) refl j ∷ wholeEntries L z (drop-at (e .bytes) T (length (e .bytes)) refl j))
+              ∙ whole-next k s i e stepped T
               ∙ ap (λ x. e .bytes ∷ x) (r .read);
           entries-are = rw keep (bind-is _ _ _ _ stepped (bind-is _ _ _ _ (r .entries-are) refl));
           items = rw keep (cc (W .item-back z k s i e stepped, r .items));

@@ -1,5 +1,6 @@
 -- What begin, append and take-up are refused with: by every family that allows what the layers refuse with, and the numbers of the book.
 use Prim.Native.Nat.{ℕ, _+_, _<_}
+use mathlib.Core.Path.{_≡_}
 use mathlib.Core.Bool.{Bool, true, false, cond}
 use mathlib.Core.List.{List, [], _∷_}
 use lib.Dec.{leb, ltb}
@@ -14,14 +15,15 @@ use Rattle.book.specs.Model.Calls.{BookState, beginRes, appendRes, whole
 
 module _ (L : Interface) {P : ℕ → ℕ → Type 0} where
   pub append-refuses-by :
-      ((z : L .Zone) (s : L .State) → RefusesOnly P (L .givenTest z s))
-      → ((z : L .Zone) (k : ℕ) (s : L .State) (i : L .Item) → k < L .limit → RefusesOnly P (L .appendStep z k s i)) → P bufferShort 0 → P bookFull 0
-      → (z : L .Zone) (g : BookState (L .State)) (i : L .Item) (buf : List ℕ) → RefusesOnly P (appendRes L z g i buf)
+      (z : L .Zone) (g : BookState (L .State)) (i : L .Item) (buf : List ℕ)
+      → RefusesOnly P (L .givenTest z (g .state))
+      → (L .givenTest z (g .state) ≡ ok tt → g .count < L .limit → RefusesOnly P (L .appendStep z (g .count) (g .state) i)) → P bufferShort 0 → P bookFull 0
+      → RefusesOnly P (appendRes L z g i buf)
   unfolding appendRes
-  append-refuses-by zone step buffer-short book-full z g i buf =
-      bind-refuses _ (zone z (g .state)) λ _ _.
+  append-refuses-by z g i buf zone step buffer-short book-full =
+      bind-refuses _ zone λ _ tested.
       test-refuses (ltb (g .count) (L .limit)) bookFull 0 _ book-full λ t.
-      bind-refuses _ (step z (g .count) (g .state) i (ltb-true (g .count) (L .limit) t)) λ e _.
+      bind-refuses _ (step tested (ltb-true (g .count) (L .limit) t)) λ e _.
       test-refuses (leb (g .used + length (e .bytes)) (length buf)) bufferShort 0 _ buffer-short λ _.
       accepts _
 

@@ -5,7 +5,7 @@ use lib.ListN.{length, drop}
 use Rattle.zone.specs.Inner.Lent.{zoneIn}
 use Rattle.zone.specs.Inner.Kept.{arrays, held, Kept}
 use Rattle.book.specs.Model.Calls as Book
-use Rattle.book.specs.Year.{noEntryVersion, yearInterface}
+use Rattle.book.specs.Year.{carried, noEntryVersion, yearInterface}
 use Rattle.zone.proofs.Promise.{tested-few}
 use Rattle.book.proofs.TakeUp.{loop-cases, left-length, check-false, check-right}
 use borrow.Author.Needs.{needs}
@@ -15,7 +15,7 @@ use Rattle.book.proofs.entries.check_entries.Tie as tie
 abbrev Inv-loop : tie.InvT-loop
 Inv-loop z codes values n given bytes flags₀ numbers₀ key₀ two₀ diag₀ next₀ prev₀ dense₀ interchanges₀ column₀ m state₀ last₀ count₀ at₀ flags numbers key two diag next prev dense interchanges column state last count at =
     (at ≤ length bytes)
-    × (Book.checkEntries yearInterface (zoneIn z codes values) 0 (record { state = state₀; lastVersion = noEntryVersion }) n (Book.wholeEntries yearInterface (zoneIn z codes values) (drop n bytes)) ≡ Book.checkEntries yearInterface (zoneIn z codes values) count (record { state = state; lastVersion = last }) at (Book.wholeEntries yearInterface (zoneIn z codes values) (drop at bytes)))
+    × (Book.checkEntries yearInterface (zoneIn z codes values) 0 (carried state₀ noEntryVersion) n (Book.wholeEntries yearInterface (zoneIn z codes values) (drop n bytes)) ≡ Book.checkEntries yearInterface (zoneIn z codes values) count (carried state last) at (Book.wholeEntries yearInterface (zoneIn z codes values) (drop at bytes)))
     × Kept (zoneIn z codes values) (held flags numbers key (arrays two diag next prev dense interchanges) column)
 
 abbrev μ-loop : tie.MeasureT-loop

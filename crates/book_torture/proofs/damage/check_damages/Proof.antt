@@ -6,10 +6,10 @@ use Rattle.book_torture.proofs.damage.check_damages.Statement.{statemen
 use Rattle.book_torture.proofs.damage.check_damages.Tie as tie
 
 abbrev Inv-loop : tie.InvT-loop
-Inv-loop z codes values whole from step count t₀ place₀ counter₀ t place counter = Unit {0}
+Inv-loop z codes values whole places count t₀ place₀ counter₀ t place counter = Unit {0}
 
 abbrev μ-loop : tie.MeasureT-loop
-μ-loop z codes values whole from step count t₀ place₀ counter₀ t place counter = count - counter
+μ-loop z codes values whole places count t₀ place₀ counter₀ t place counter = count - counter
 
 pub check-damages-spec : {M : Type 1} → statement M
 check-damages-spec =

@@ -6,10 +6,10 @@ use Rattle.book_torture.proofs.full.check_year.Statement.{statement}
 use Rattle.book_torture.proofs.full.check_year.Tie as tie
 
 abbrev Inv-loop : tie.InvT-loop
-Inv-loop z codes values end b₀ from step count right₀ cut₀ counter₀ b right cut counter = Unit {0}
+Inv-loop z codes values end b₀ places count right₀ cut₀ counter₀ b right cut counter = Unit {0}
 
 abbrev μ-loop : tie.MeasureT-loop
-μ-loop z codes values end b₀ from step count right₀ cut₀ counter₀ b right cut counter = count - counter
+μ-loop z codes values end b₀ places count right₀ cut₀ counter₀ b right cut counter = count - counter
 
 pub check-year-spec : {M : Type 1} → statement M
 check-year-spec =

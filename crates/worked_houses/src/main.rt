@@ -1,0 +1,46 @@
+// Two worked houses, row by row: what is asked, what came and what is expected. A value is given by its bits, with what
+// is expected in words; a value with nothing to be laid beside by its bits, with decimals before them; a refusal by its
+// number, 0 for none.
+//
+// First House P of document 01. Then a room with a chilled ceiling: a warm hour is asked, and met in version 1 and in
+// version 2. By the heating fraction the room is left too warm, by the cooling fraction it keeps its cooling setpoint. A
+// cold hour is the same in both. Then the entries of these hours in books, and versions that no hour has.
+mod bytes;
+mod chilled_ceiling;
+mod house_p;
+mod replies;
+mod table;
+
+use chilled_ceiling::books;
+use chilled_ceiling::hours;
+use chilled_ceiling::room;
+use chilled_ceiling::unknown;
+use house_p::book_rows;
+use house_p::rows;
+
+fn print_house_p() {
+    table::heading(b"House P\n");
+    rows::print_zone();
+    rows::print_h_ci();
+    rows::print_rates();
+    book_rows::print_book();
+}
+
+fn print_chilled_ceiling() {
+    let h = room::head();
+    let mut codes = [0; 72];
+    let mut values = [0.0; 600];
+    let read = zone::read_head(&h, &mut codes, &mut values);
+    let z = read.zone;
+    table::heading(b"\nA room with a chilled ceiling\n");
+    let start = hours::print_start(z, &codes, &values);
+    hours::print_warm(z, &codes, &values, start);
+    hours::print_cold(z, &codes, &values, start);
+    books::print_books(z, &codes, &values, &h, start);
+    unknown::print_unknown(z, &codes, &values, &h, start);
+}
+
+fn main() {
+    print_house_p();
+    print_chilled_ceiling();
+}
