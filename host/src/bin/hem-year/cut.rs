@@ -5,7 +5,7 @@ use crate::files;
 use crate::inputs;
 use crate::kind::Kind;
 use crate::output;
-use crate::words::hours;
+use crate::words::{grouped, hours};
 use hem_zone::{Book, Zone};
 use std::path::Path;
 
@@ -36,7 +36,7 @@ pub fn cut(given: &Cut) -> Result<(), Failure> {
         given.new.display(),
         hours(kept.hours()),
         given.book.display(),
-        kept.bytes().len()
+        grouped(kept.bytes().len())
     ))
 }
 
