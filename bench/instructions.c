@@ -78,7 +78,8 @@ int main(int count, char **words) {
     make_conditions(atoi(words[2]));
     uint32_t answer = hem_start_up(head, sizeof head, temps, &nodes);
     for (int i = atoi(words[1]); answer == 0 && i > 0; i--)
-        answer = hem_hour_step(head, sizeof head, temps, nodes, conditions, sizeof conditions, 1, out, balance);
+        answer = hem_hour_step(head, sizeof head, temps, nodes, conditions, sizeof conditions, 1, 0.0, 0.0, out,
+                               balance);
     if (answer != 0) fprintf(stderr, "refused: %u\n", (unsigned)answer);
     return answer != 0;
 }

@@ -144,10 +144,11 @@ static uint32_t calculate(struct hour *h, struct temps *after, double *out, doub
     return number;
 }
 
-/* Called as hem_hour_step is; of the versions it has only the first. */
+/* Called as hem_hour_step is; of the versions it has only the first, which looks at no limits. */
 static uint32_t hour_step(const uint8_t *head, size_t head_len, double *temps, uint64_t nodes,
-                          const uint8_t *conditions, size_t conditions_len, uint64_t version, double *out,
-                          double *balance) {
+                          const uint8_t *conditions, size_t conditions_len, uint64_t version, double heating_limit,
+                          double cooling_limit, double *out, double *balance) {
+    (void)heating_limit, (void)cooling_limit;
     struct hour h;
     struct temps after;
     uint32_t number = read_head(head, head_len, &h.z);
@@ -161,8 +162,8 @@ static uint32_t hour_step(const uint8_t *head, size_t head_len, double *temps, u
 
 /* ---- comparison and time ---- */
 
-typedef uint32_t step(const uint8_t *, size_t, double *, uint64_t, const uint8_t *, size_t, uint64_t, double *,
-                      double *);
+typedef uint32_t step(const uint8_t *, size_t, double *, uint64_t, const uint8_t *, size_t, uint64_t, double, double,
+                      double *, double *);
 
 /* The compiler cannot know where it leads, and so leaves out nothing of a step whose results are not looked at. */
 static step *volatile model_step = hour_step;
@@ -172,7 +173,8 @@ struct results {
 };
 
 static void run(step *step, const struct year *y, size_t hour, uint64_t nodes, struct results *r) {
-    accepted(step(y->head, y->head_len, r->temps, nodes, hour_of(y, hour), y->hour_len, VERSION, r->out, r->balance));
+    accepted(step(y->head, y->head_len, r->temps, nodes, hour_of(y, hour), y->hour_len, VERSION, UNUSED_LIMIT,
+                  UNUSED_LIMIT, r->out, r->balance));
 }
 
 static void compare(const struct year *y, struct results start, uint64_t nodes, const char *rate) {

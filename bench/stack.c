@@ -37,7 +37,8 @@ static void update(void) {
 
 static void hour_step(void) {
     for (size_t i = 0; i < HOURS; i++)
-        accepted(hem_hour_step(y.head, y.head_len, temps, nodes, hour_of(&y, i), y.hour_len, VERSION, out, balance));
+        accepted(hem_hour_step(y.head, y.head_len, temps, nodes, hour_of(&y, i), y.hour_len, VERSION, UNUSED_LIMIT,
+                               UNUSED_LIMIT, out, balance));
 }
 
 static void begin(void) {
@@ -47,7 +48,7 @@ static void begin(void) {
 static void append(void) {
     for (size_t i = 0; i < HOURS; i++)
         accepted(hem_append(y.head, y.head_len, book, book_len, temps, &nodes, &count, &used, &last_version,
-                            hour_of(&y, i), y.hour_len, VERSION));
+                            hour_of(&y, i), y.hour_len, VERSION, UNUSED_LIMIT, UNUSED_LIMIT));
 }
 
 static void take_up(void) { accepted(hem_take_up(book, book_len, temps, &nodes, &count, &used, &last_version)); }

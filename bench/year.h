@@ -5,8 +5,9 @@
 
 #include "hem_zone.h"
 
-/* Entries have version 1, whose hours are those of the original. */
+/* Entries have version 1, whose hours are those of the original. It looks at no limits. */
 enum { HOURS = 8760, VERSION = 1 };
+#define UNUSED_LIMIT 0.0
 
 struct year {
     size_t elements, head_len, hour_len;

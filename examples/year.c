@@ -8,6 +8,10 @@
 
 /* Entries of version 2, as in new books of hem-year: power that cools is shared by the fraction of cooling. */
 #define VERSION 2
+/* The greatest heating and cooling of the plant, W. They count in version 3 only; the greatest that there are limit
+   nothing, and 0 would deliver nothing. */
+#define HEATING_LIMIT HEM_LIMIT_MOST
+#define COOLING_LIMIT HEM_LIMIT_MOST
 
 static void fail(const char *what, const char *why) {
     fprintf(stderr, "year: %s: %s\n", what, why);
@@ -46,7 +50,7 @@ int main(int argc, char **argv) {
     uint32_t answer = hem_begin(head, head_len, book, room, temps, &nodes, &count, &used, &last_version);
     if (answer) return fprintf(stderr, "year: %s: refusal %u\n", argv[1], HEM_NUMBER(answer)), 1;
 
-    const size_t n = head[HEM_HEAD_AT_COUNT], size = HEM_CONDITIONS(n), entry = HEM_ENTRY(n, nodes);
+    const size_t n = head[HEM_HEAD_AT_COUNT], size = HEM_CONDITIONS(n), entry = HEM_ENTRY_OF(VERSION, n, nodes);
     if (year_len % size) fail(argv[2], "is not a whole number of hours");
     room = used + year_len / size * entry;
     book = realloc(book, room);
@@ -54,15 +58,15 @@ int main(int argc, char **argv) {
     memset(book + used, 0, room - used); /* everything lent has been initialised */
 
     for (size_t at = 0; at < year_len; at += size) {
-        const uint8_t *added = book + used;
+        const uint8_t *results = book + used + HEM_LIMITS_OF(VERSION); /* their places begin here */
         answer = hem_append(head, head_len, book, room, temps, &nodes, &count, &used, &last_version, year + at, size,
-                            VERSION);
+                            VERSION, HEATING_LIMIT, COOLING_LIMIT);
         if (answer)
             return fprintf(stderr, "year: hour %zu: refusal %u, element %u\n", at / size + 1, HEM_NUMBER(answer), HEM_INDEX(answer)), 1;
-        double need = float_at(added + HEM_ENTRY_AT_HEATING(n)), length = float_at(year + at);
+        double need = float_at(results + HEM_ENTRY_AT_HEATING(n)), length = float_at(year + at);
         if (need / length > highest) highest = need / length, hour = count;
         heating += need;
-        cooling += float_at(added + HEM_ENTRY_AT_COOLING(n));
+        cooling += float_at(results + HEM_ENTRY_AT_COOLING(n));
     }
     printf("%llu hours: heating %.1f kWh, cooling %.1f kWh\n", (unsigned long long)count, heating, 0 - cooling);
     if (hour) printf("highest heating load: %.2f kW in hour %llu\n", highest, (unsigned long long)hour);

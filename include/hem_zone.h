@@ -42,14 +42,20 @@ extern "C" {
 #endif
 
 /* The version of this interface: 10000 * major + 100 * minor + patch, and as text. */
-#define HEM_ZONE_VERSION 200
-#define HEM_ZONE_VERSION_TEXT "0.2.0"
+#define HEM_ZONE_VERSION 300
+#define HEM_ZONE_VERSION_TEXT "0.3.0"
 /* The version byte of heads. */
 #define HEM_FORMAT 1
-/* The newest version of entries; hours have 1 and 2. It says how the power that heating or cooling delivers
-   is shared between the air and the surfaces. Version 1: by the convective fraction of heating, always.
-   Version 2: a power below 0 by the convective fraction of cooling, any other by that of heating. */
-#define HEM_NEWEST_ENTRY_VERSION 2
+/* The newest version of entries; hours have 1 to this one. It says how the power that heating or cooling
+   delivers is shared between the air and the surfaces, and whether the plant has a limit. Version 1: by the
+   convective fraction of heating, always. Version 2: a power below 0 by the convective fraction of
+   cooling, any other by that of heating. Version 3: as 2, but a power above `heating_limit` becomes
+   `heating_limit`, and one below -`cooling_limit` becomes -`cooling_limit`. The demand is not cut. */
+#define HEM_NEWEST_ENTRY_VERSION 3
+/* The first version of entries that has limits, and the greatest limit, W: for a side of the plant that is
+   not to be limited (a limit of 0 delivers nothing). */
+#define HEM_LIMITS_ENTRY_VERSION 3
+#define HEM_LIMIT_MOST 1e7
 
 /* The stack, in bytes, that suffices for every call (31 KB were measured, by hem_take_up; bench/stack). */
 #define HEM_STACK 49152
@@ -78,12 +84,17 @@ extern "C" {
 /* An element's part of the conditions of an hour, and the conditions for n elements. */
 #define HEM_ELEMENT_HOUR 41
 #define HEM_CONDITIONS(n) (113 + HEM_ELEMENT_HOUR * (n))
-/* An entry, its 4-byte length included, for n elements and `nodes` node temperatures. */
+/* The two limits of an hour that has them, and the bytes that limits take in an entry of a version. */
+#define HEM_LIMITS 16
+#define HEM_LIMITS_OF(version) ((version) < HEM_LIMITS_ENTRY_VERSION ? 0 : HEM_LIMITS)
+/* An entry, its 4-byte length included, for n elements and `nodes` node temperatures: of versions 1 and 2,
+   and of a version. Room for a year of any version: the head, and HEM_ENTRIES entries of the newest. */
 #define HEM_ENTRY(n, nodes) (38 + HEM_CONDITIONS(n) + 8 * (nodes))
+#define HEM_ENTRY_OF(version, n, nodes) (HEM_ENTRY(n, nodes) + HEM_LIMITS_OF(version))
 
 /* ---- answers ---- */
 
-/* The number of a refusal, 1 to 18, and its index: for 4, 5 and 9 the element from 1 (0 if none), for 18
+/* The number of a refusal, 1 to 19, and its index: for 4, 5 and 9 the element from 1 (0 if none), for 18
    at a take-up the entry from 0, at an append the count held, at an hour step 0; otherwise 0. */
 #define HEM_NUMBER(answer) ((answer) & 255u)
 #define HEM_INDEX(answer) ((answer) >> 8)
@@ -109,8 +120,9 @@ enum hem_number {
     HEM_NOT_SETTLED = 15,               /* start-up did not settle within the head's limit of passes */
     HEM_BUFFER_SHORT = 16,              /* the buffer is too short */
     HEM_BOOK_FULL = 17,                 /* the book would hold more than 8,784 entries */
-    HEM_FALSE_ENTRY = 18                /* an entry is false: it is not what the hour step gives; or a version that no
+    HEM_FALSE_ENTRY = 18,               /* an entry is false: it is not what the hour step gives; or a version that no
                                            hour has, or that is below the last entry's */
+    HEM_LIMIT_VALUE = 19                /* a limit of version 3 is out of range: 0 to 1e7 W */
 };
 
 /* ---- places in a head, from its first byte; floats have 8 bytes ---- */
@@ -194,16 +206,20 @@ enum hem_element_hour_at {
 /* ---- places in an entry; behind the conditions they depend on the n elements ---- */
 
 enum hem_entry_at {
-    HEM_ENTRY_AT_LENGTH = 0,    /* 4 bytes: the length of what follows, the same in both versions */
-    HEM_ENTRY_AT_VERSION = 4,   /* 1 byte: 1 or 2 */
+    HEM_ENTRY_AT_LENGTH = 0,    /* 4 bytes: the length of what follows; of version 3 HEM_LIMITS more */
+    HEM_ENTRY_AT_VERSION = 4,   /* 1 byte: 1 to HEM_NEWEST_ENTRY_VERSION */
     HEM_ENTRY_AT_CONDITIONS = 5
 };
+/* Of versions 1 and 2; of any version each stands HEM_LIMITS_OF(version) further on. */
 #define HEM_ENTRY_AT_HEATING(n) (5 + HEM_CONDITIONS(n))       /* kWh, at least 0 */
 #define HEM_ENTRY_AT_COOLING(n) (13 + HEM_CONDITIONS(n))      /* kWh, at most 0 */
 #define HEM_ENTRY_AT_RATE(n) (21 + HEM_CONDITIONS(n))         /* the chosen rate, air changes per hour */
 #define HEM_ENTRY_AT_TRIGGER(n) (29 + HEM_CONDITIONS(n))      /* 1 byte: 1 where there is a trigger rate */
 #define HEM_ENTRY_AT_TRIGGER_RATE(n) (30 + HEM_CONDITIONS(n)) /* per hour; zero bits where there is none */
 #define HEM_ENTRY_AT_TEMPS(n) (38 + HEM_CONDITIONS(n))        /* node temperatures after the hour, deg C */
+/* Of version 3, between the conditions and heating: */
+#define HEM_ENTRY_AT_HEATING_LIMIT(n) (5 + HEM_CONDITIONS(n))  /* greatest heating, W */
+#define HEM_ENTRY_AT_COOLING_LIMIT(n) (13 + HEM_CONDITIONS(n)) /* greatest cooling, W, at least 0 */
 
 /* ---- places in `out` and `balance` ---- */
 
@@ -271,12 +287,15 @@ uint32_t hem_update(const uint8_t *head, size_t head_len, double temps[HEM_TEMPS
                     double balance[HEM_BALANCE]);
 
 /* One hour: its demand, and the temperatures after that demand was met, by the rule of an entry version
-   (1 to HEM_NEWEST_ENTRY_VERSION; every number is taken, so 257 is not 1). Replaces `temps`, writes `out`
-   and `balance`.
-   Refused with 1 to 5, 18 for a version that no hour has, then 6 to 14. */
+   (1 to HEM_NEWEST_ENTRY_VERSION; every number is taken, so 257 is not 1). `heating_limit` and
+   `cooling_limit` are the greatest powers of the plant in watts, 0 to 1e7 each; before version 3 they are
+   not looked at, and may be any doubles. Replaces `temps`, writes `out`, which no limit cuts, and
+   `balance`.
+   Refused with 1 to 5, 18 for a version that no hour has, then 6 to 9, 19 for a limit out of range, 10
+   to 14. */
 uint32_t hem_hour_step(const uint8_t *head, size_t head_len, double temps[HEM_TEMPS], uint64_t nodes,
-                       const uint8_t *cond, size_t cond_len, uint64_t version, double out[HEM_OUT],
-                       double balance[HEM_BALANCE]);
+                       const uint8_t *cond, size_t cond_len, uint64_t version, double heating_limit,
+                       double cooling_limit, double out[HEM_OUT], double balance[HEM_BALANCE]);
 
 /* The operative temperature of node temperatures, deg C: the mean of the air and of the inner surfaces
    weighted by area. Writes `*operative`. Refused with 1 to 6. */
@@ -294,21 +313,24 @@ uint32_t hem_begin(const uint8_t *head, size_t head_len, uint8_t *buf, size_t bu
 
 /* Appends the entry of one hour at `buf + *used`, by the rule of `version` and with it as version byte.
    `buf`, `temps`, `*nodes`, `*count`, `*used` and `*last_version` are those that the last call on this
-   book left, and are moved on; `head` is the book's own head (it may not be a part of `buf`). A book may
-   pass from version 1 to 2, never back. Refused with 1 to 5, 17 if 8,784 entries are held, 18 for a
-   version that no hour has or one below `*last_version`, then 6 to 14, and last 16 if `buf` cannot hold
-   the entry. */
+   book left, and are moved on; `head` is the book's own head (it may not be a part of `buf`). The limits
+   are as in hem_hour_step; in version 3 they stand in the entry. A book's versions may rise, never fall.
+   Refused with 1 to 5, 17 if 8,784 entries are held, 18 for a version that no hour has or one below
+   `*last_version`, then 6 to 9, 19, 10 to 14, and last 16 if `buf` cannot hold the entry, which is longer
+   in version 3. */
 uint32_t hem_append(const uint8_t *head, size_t head_len, uint8_t *buf, size_t buf_len,
                     double temps[HEM_TEMPS], uint64_t *nodes, uint64_t *count, uint64_t *used,
-                    uint64_t *last_version, const uint8_t *cond, size_t cond_len, uint64_t version);
+                    uint64_t *last_version, const uint8_t *cond, size_t cond_len, uint64_t version,
+                    double heating_limit, double cooling_limit);
 
 /* Takes up the bytes of a book: each whole entry is calculated again, by the rule of its own version, and
-   must be the same bytes. (A changed condition or version that has no effect in its hour gives another
-   true book.) Writes the temperatures after the last whole entry (start-up's if there is none) and their
+   must be the same bytes. (A changed condition, limit or version that has no effect in its hour gives
+   another true book.) Writes the temperatures after the last whole entry (start-up's if there is none) and their
    number, the number of entries, the number of bytes that they and the head take, and the version of the
-   last entry; a shorter rest behind them is an entry that was not written to its end. Refused with 1 to 5,
-   11 to 15, 17 at the 8,785th entry and 18 at the first false one, such as one whose version is unknown
-   or below that of the entry before it. */
+   last entry. Behind them a rest of fewer than 5 bytes, or one shorter than its version byte calls for, is
+   an entry that was not written to its end; a rest of 5 bytes or more with a version byte that no hour has
+   counts as an entry, a false one. Refused with 1 to 5, 11 to 15, 17 at the 8,785th entry and 18 at the
+   first false one, such as one whose version is below that of the entry before it. */
 uint32_t hem_take_up(const uint8_t *bytes, size_t bytes_len, double temps[HEM_TEMPS], uint64_t *nodes,
                      uint64_t *count, uint64_t *used, uint64_t *last_version);
 

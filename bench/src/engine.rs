@@ -2,8 +2,9 @@
 use crate::houses;
 use hem_zone::ffi::*;
 
-/// Entries have version 1, whose hours are those of the original.
+/// Entries have version 1, whose hours are those of the original. It looks at no limits.
 const VERSION: u64 = hem_zone::ENTRY_VERSION_1;
+const UNUSED_LIMIT: f64 = 0.0;
 
 /// Node temperatures.
 #[derive(Clone)]
@@ -83,6 +84,8 @@ impl Engine {
                 hour.as_ptr(),
                 hour.len(),
                 VERSION,
+                UNUSED_LIMIT,
+                UNUSED_LIMIT,
                 out.as_mut_ptr(),
                 balance.as_mut_ptr(),
             )
@@ -160,6 +163,8 @@ impl Engine {
                     hour.as_ptr(),
                     hour.len(),
                     VERSION,
+                    UNUSED_LIMIT,
+                    UNUSED_LIMIT,
                 )
             });
         }

@@ -20,11 +20,12 @@ static void *every_call(void *given) {
     c->answers |= hem_start_up(c->head, c->head_len, c->temps, &c->nodes);
     c->answers |= hem_demand(c->head, c->head_len, c->temps, c->nodes, c->hour, c->hour_len, c->out);
     c->answers |= hem_update(c->head, c->head_len, c->temps, c->nodes, c->hour, c->hour_len, 0, 1, 0.5, c->balance);
-    c->answers |= hem_hour_step(c->head, c->head_len, c->temps, c->nodes, c->hour, c->hour_len, VERSION, c->out, c->balance);
+    c->answers |= hem_hour_step(c->head, c->head_len, c->temps, c->nodes, c->hour, c->hour_len, HEM_NEWEST_ENTRY_VERSION, 0, 0,
+                                c->out, c->balance);
     c->answers |= hem_operative(c->head, c->head_len, c->temps, c->nodes, c->out);
     c->answers |= hem_begin(c->head, c->head_len, c->book, c->book_len, c->temps, &c->nodes, &c->count, &c->used, &c->last);
     c->answers |= hem_append(c->head, c->head_len, c->book, c->book_len, c->temps, &c->nodes, &c->count, &c->used, &c->last, c->hour,
-                             c->hour_len, VERSION);
+                             c->hour_len, HEM_NEWEST_ENTRY_VERSION, 0, 0);
     c->answers |= hem_take_up(c->book, c->book_len, c->temps, &c->nodes, &c->count, &c->used, &c->last);
     return NULL;
 }
@@ -37,15 +38,17 @@ static void run_with(size_t stack, Calls *calls) {
     pthread_attr_destroy(&attributes);
 }
 
-void test_stack_of(uint8_t *head, size_t head_len, uint8_t *hour, size_t hour_len) {
+void test_stack(void) {
+    House h = house(HEM_ELEMENTS, 0, 0);
     Calls *calls = lent(sizeof *calls);
     memset(calls, 0, sizeof *calls);
-    calls->head = head, calls->head_len = head_len;
-    calls->hour = hour, calls->hour_len = hour_len;
-    calls->book_len = head_len + HEM_ENTRY(HEM_ELEMENTS, HEM_TEMPS);
+    calls->head = h.head, calls->head_len = h.head_len;
+    calls->hour = h.hour, calls->hour_len = h.hour_len;
+    calls->book_len = h.head_len + HEM_ENTRY_OF(HEM_NEWEST_ENTRY_VERSION, HEM_ELEMENTS, HEM_TEMPS);
     calls->book = lent(calls->book_len);
     run_with(HEM_STACK, calls);
     expect("HEM_STACK is enough for every call", calls->answers == 0 && calls->count == 1);
     free(calls->book);
     free(calls);
+    give_back(h);
 }

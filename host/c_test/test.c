@@ -4,13 +4,14 @@
 #include "hem_zone.h"
 #include "test.h"
 
+#include <math.h>
 #include <stdio.h>
 #include <stdlib.h>
 #include <string.h>
 
 /* ---- House P of docs/FORMATS.md ---- */
 
-enum { HEAD = 180, HOUR = 154, ENTRY = 216, NODES = 3 };
+enum { HEAD = 180, HOUR = 154, ENTRY = 216, ENTRY_3 = 232, NODES = 3 };
 
 static uint8_t *put_element_hour(uint8_t *at) {
     const double values[] = {20, 0, 0, 1, 1};
@@ -92,11 +93,18 @@ static void test_hour_step(const uint8_t *p, const uint8_t *warm) {
     double *temps = twenty(), *out = lent(HEM_OUT * sizeof *out), *balance = lent(HEM_BALANCE * sizeof *balance);
     out[0] = balance[0] = -1;
     expect("hour step refused: 6",
-           hem_hour_step(p, HEAD, temps, NODES + 1, warm, HOUR, 2, out, balance) == 6 && out[0] == -1 && balance[0] == -1);
+           hem_hour_step(p, HEAD, temps, NODES + 1, warm, HOUR, 2, NAN, NAN, out, balance) == 6 && out[0] == -1 && balance[0] == -1);
     expect("hour step of version 257 refused: 18",
-           hem_hour_step(p, HEAD, temps, NODES + 1, warm, HOUR, 257, out, balance) == 18 && out[0] == -1 && temps[2] == 20);
-    expect("hour step accepted", hem_hour_step(p, HEAD, temps, NODES, warm, HOUR, 2, out, balance) == 0);
+           hem_hour_step(p, HEAD, temps, NODES + 1, warm, HOUR, 257, NAN, NAN, out, balance) == 18 && out[0] == -1 && temps[2] == 20);
+    expect("hour step accepted", hem_hour_step(p, HEAD, temps, NODES, warm, HOUR, 2, NAN, NAN, out, balance) == 0);
     expect("hour step: 0.144 kWh, air 21", out[0] == 0.144 && temps[2] == 21 && balance[2] == 144);
+    free(temps);
+    temps = twenty();
+    out[0] = -1;
+    expect("hour step with limits refused: 19",
+           hem_hour_step(p, HEAD, temps, NODES, warm, HOUR, 3, 72, NAN, out, balance) == 19 && out[0] == -1 && temps[2] == 20);
+    expect("hour step with limits accepted", hem_hour_step(p, HEAD, temps, NODES, warm, HOUR, 3, 72, 0, out, balance) == 0);
+    expect("hour step with limits: 0.144 kWh asked for, 72 W delivered", out[0] == 0.144 && balance[2] == 72 && temps[2] == 20.5);
     free(temps);
     free(out);
     free(balance);
@@ -122,15 +130,19 @@ static void test_book(const uint8_t *p, const uint8_t *warm) {
     expect("begin refused: nothing written", nodes == 0 && count == 99 && used == 99 && last == 99 && book[0] == 0xA5);
     expect("begin accepted", hem_begin(p, HEAD, book, HEAD + ENTRY, temps, &nodes, &count, &used, &last) == 0);
     expect("begin: the head", nodes == NODES && count == 0 && used == HEAD && last == 1 && memcmp(book, p, HEAD) == 0);
-    expect("append of version 3 refused: 18",
-           hem_append(p, HEAD, book, HEAD + ENTRY, temps, &nodes, &count, &used, &last, warm, HOUR, 3) == 18 && last == 1);
+    expect("append of version 4 refused: 18",
+           hem_append(p, HEAD, book, HEAD + ENTRY, temps, &nodes, &count, &used, &last, warm, HOUR, 4, 72, 0) == 18 && last == 1);
+    expect("append of version 3 refused: 19",
+           hem_append(p, HEAD, book, HEAD + ENTRY, temps, &nodes, &count, &used, &last, warm, HOUR, 3, -1, 0) == 19 && last == 1);
+    expect("append of version 3 refused: 16",
+           hem_append(p, HEAD, book, HEAD + ENTRY, temps, &nodes, &count, &used, &last, warm, HOUR, 3, 72, 0) == 16 && last == 1);
     expect("append accepted",
-           hem_append(p, HEAD, book, HEAD + ENTRY, temps, &nodes, &count, &used, &last, warm, HOUR, 2) == 0);
+           hem_append(p, HEAD, book, HEAD + ENTRY, temps, &nodes, &count, &used, &last, warm, HOUR, 2, NAN, NAN) == 0);
     expect("append: one entry", count == 1 && used == HEAD + ENTRY && last == 2 && temps[2] == 21 && book[HEAD + 3] == ENTRY - 4);
     expect("append of version 1 after 2 refused: 18 at entry 1",
-           hem_append(p, HEAD, book, HEAD + ENTRY, temps, &nodes, &count, &used, &last, warm, HOUR, 1) == 18 + 256);
+           hem_append(p, HEAD, book, HEAD + ENTRY, temps, &nodes, &count, &used, &last, warm, HOUR, 1, NAN, NAN) == 18 + 256);
     expect("append refused: 16",
-           hem_append(p, HEAD, book, HEAD + ENTRY, temps, &nodes, &count, &used, &last, warm, HOUR, 2) == 16);
+           hem_append(p, HEAD, book, HEAD + ENTRY, temps, &nodes, &count, &used, &last, warm, HOUR, 2, NAN, NAN) == 16);
     expect("append refused: nothing written", count == 1 && used == HEAD + ENTRY && last == 2 && temps[2] == 21);
 
     uint8_t *cut = lent(HEAD + ENTRY - 1);
@@ -139,10 +151,35 @@ static void test_book(const uint8_t *p, const uint8_t *warm) {
     expect("take-up: no entry", count == 0 && used == HEAD && last == 1 && temps[2] == 20);
     expect("take-up at 396 bytes", hem_take_up(book, HEAD + ENTRY, temps, &nodes, &count, &used, &last) == 0);
     expect("take-up: one entry", count == 1 && used == HEAD + ENTRY && last == 2 && temps[2] == 21);
-    book[HEAD + 4] = 3;
+    book[HEAD + 4] = 4;
     uint32_t answer = hem_take_up(book, HEAD + ENTRY, temps, &nodes, &count, &used, &last);
     expect("take-up refused: 18 at entry 0", HEM_NUMBER(answer) == 18 && HEM_INDEX(answer) == 0 && count == 1 && last == 2);
     free(cut);
+    free(book);
+    free(temps);
+}
+
+/* An hour of version 2, then one of version 3 with limits, in a buffer that ends with it. */
+static void test_limits(const uint8_t *p, const uint8_t *warm) {
+    const size_t room = HEAD + ENTRY + ENTRY_3;
+    double *temps = lent(HEM_TEMPS * sizeof *temps);
+    uint64_t nodes = 0, count = 0, used = 0, last = 0;
+    uint8_t *book = lent(room);
+    hem_begin(p, HEAD, book, room, temps, &nodes, &count, &used, &last);
+    hem_append(p, HEAD, book, room, temps, &nodes, &count, &used, &last, warm, HOUR, 2, NAN, NAN);
+    expect("append of version 3 refused: 16, one byte short",
+           hem_append(p, HEAD, book, room - 1, temps, &nodes, &count, &used, &last, warm, HOUR, 3, 5, 0) == 16 && last == 2);
+    expect("append of version 3 accepted",
+           hem_append(p, HEAD, book, room, temps, &nodes, &count, &used, &last, warm, HOUR, 3, 5, 0) == 0);
+    expect("append: two entries", count == 2 && used == room && last == 3 && book[HEAD + ENTRY + 3] == ENTRY_3 - 4);
+    expect("append of version 2 after 3 refused: 18 at entry 2",
+           hem_append(p, HEAD, book, room, temps, &nodes, &count, &used, &last, warm, HOUR, 2, 5, 0) == 18 + 2 * 256);
+    expect("take-up of both", hem_take_up(book, room, temps, &nodes, &count, &used, &last) == 0 && count == 2 && last == 3);
+    expect("take-up one byte short",
+           hem_take_up(book, room - 1, temps, &nodes, &count, &used, &last) == 0 && count == 1 && used == HEAD + ENTRY && last == 2);
+    book[HEAD + 4] = 3; /* the bytes of version 2 are too few for it */
+    expect("take-up of a version 3 that is not whole",
+           hem_take_up(book, HEAD + ENTRY, temps, &nodes, &count, &used, &last) == 0 && count == 0 && used == HEAD && last == 1);
     free(book);
     free(temps);
 }
@@ -170,7 +207,7 @@ static void write_year(const char *dir, const uint8_t *p, const uint8_t *warm) {
     memcpy(year + HOUR, warm, HOUR);
     hem_begin(p, HEAD, book, HEAD + 2 * ENTRY, temps, &nodes, &count, &used, &last);
     for (int i = 0; i < 2; i++)
-        hem_append(p, HEAD, book, HEAD + 2 * ENTRY, temps, &nodes, &count, &used, &last, warm, HOUR, VERSION);
+        hem_append(p, HEAD, book, HEAD + 2 * ENTRY, temps, &nodes, &count, &used, &last, warm, HOUR, VERSION, 0, 0);
     expect("a book of two hours", count == 2 && used == HEAD + 2 * ENTRY);
     write_file(dir, "house.head", p, HEAD);
     write_file(dir, "house.year", year, 2 * HOUR);
@@ -189,6 +226,7 @@ int main(int argc, char **argv) {
     test_hour_step(p, warm);
     test_operative(p);
     test_book(p, warm);
+    test_limits(p, warm);
     test_sizes();
     test_places();
     test_stack();

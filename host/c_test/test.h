@@ -19,10 +19,18 @@ uint8_t *put_double(uint8_t *at, double value);
 uint8_t *put_doubles(uint8_t *at, const double *values, size_t count);
 double get_double(const uint8_t *at);
 
+/* A house of walls, then one window with treatments where one is asked for, and an hour of it. */
+typedef struct {
+    size_t walls, treatments, head_len, hour_len;
+    uint8_t *head, *hour;
+} House;
+
+House house(size_t walls, int window, size_t treatments);
+void give_back(House h);
+
 /* The sizes and places of hem_zone.h, as the engine has them; the stack that it says is enough. */
 void test_sizes(void);
 void test_places(void);
 void test_stack(void);
-void test_stack_of(uint8_t *head, size_t head_len, uint8_t *hour, size_t hour_len);
 
 #endif

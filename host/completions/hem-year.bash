@@ -20,7 +20,7 @@ _hem_year() {
     case $command in
         house) options+=' --force' ;;
         hours) options+=' --head --force' ;;
-        check | run) options+=' --entry-version' ;;
+        check | run) options+=' --entry-version --heating-limit --cooling-limit' ;;
         report) options+=' --csv --svg --balance --nodes --head --name --force' ;;
         show) options+=' --hour --hours --head' ;;
         cut) options+=' --head --force' ;;
@@ -28,12 +28,12 @@ _hem_year() {
     esac
 
     COMPREPLY=()
-    if [[ $before == --hour || $before == --name ]]; then
+    if [[ $before == --hour || $before == --name || $before == --heating-limit || $before == --cooling-limit ]]; then
         return
-    elif [[ $word == --hour=* || $word == --name=* || $word == --entry-version=* ]]; then
+    elif [[ $word == --hour=* || $word == --name=* || $word == --entry-version=* || $word == --*-limit=* ]]; then
         return # where = ends no word, there is nothing to offer
     elif [[ $before == --entry-version ]]; then
-        mapfile -t COMPREPLY < <(compgen -W '1 2' -- "$word")
+        mapfile -t COMPREPLY < <(compgen -W '1 2 3' -- "$word")
     elif [[ $word == -* && $before != --csv && $before != --svg && $before != --head ]]; then
         mapfile -t COMPREPLY < <(compgen -W "$options" -- "$word")
     elif [[ -z $command ]]; then

@@ -3,14 +3,17 @@
 //!     cargo run --release --offline --example replay CASES ANSWERS
 //!
 //! A case is: a byte that names the call (1 demand, 2 update, 3 start-up, 4 hour step of entry version 1,
-//! 5 start-up with its passes, 6 hour step of entry version 2), a 4-byte length and the head, a 2-byte
-//! count and the node temperatures, a 4-byte length and the conditions, and for 2 gains, fraction and
-//! rate; all big-endian. Its answer is a line: floats as 16 hexadecimal digits, or the original's error.
-//! The original shares all power by the heating fraction, as version 1 does; its answer to 6 is the one
-//! that it gives where a cooled hour has the cooling fraction in the place of the heating fraction. An
-//! answer of the original that the engine refuses with 12 or 13 is no difference: the original tests for
-//! less. Signs of zeros are counted for themselves.
-use hem_zone::{Demand, HeatBalance, Refusal, State, Zone, ENTRY_VERSION_1, ENTRY_VERSION_2};
+//! 5 start-up with its passes, 6 hour step of entry version 2, 7 of entry version 3), a 4-byte length and
+//! the head, a 2-byte count and the node temperatures, a 4-byte length and the conditions, for 2 gains,
+//! fraction and rate, and for 7 greatest heating and cooling; all big-endian. Its answer is a line: floats
+//! as 16 hexadecimal digits, or the original's error. The original shares all power by the heating
+//! fraction, as version 1 does; its answer to 6 is the one that it gives where a cooled hour has the
+//! cooling fraction in the place of the heating fraction, and its answer to 7 that with the limit in the
+//! place of a power beyond it. An answer of the original that the engine refuses with 12 or 13 is no
+//! difference: the original tests for less. Signs of zeros are counted for themselves.
+use hem_zone::{
+    Demand, HeatBalance, Limits, Refusal, Rule, State, Zone, ENTRY_VERSION_1, ENTRY_VERSION_2,
+};
 use std::process::ExitCode;
 
 struct Case<'a> {
@@ -47,8 +50,21 @@ impl<'a> Case<'a> {
         let state = State::new(&floats(bytes, nodes)?);
         let conditions_len = number(bytes, 4)?;
         let conditions = take(bytes, conditions_len)?;
-        let own = floats(bytes, if call == 2 { 3 } else { 0 })?;
+        let own = match call {
+            2 => floats(bytes, 3)?,
+            7 => floats(bytes, 2)?,
+            _ => vec![],
+        };
         Some(Self { call, head, state, conditions, own })
+    }
+
+    /// The rule of an hour step.
+    fn rule(&self) -> Rule {
+        match (self.call, &self.own[..]) {
+            (4, _) => ENTRY_VERSION_1.into(),
+            (7, &[heating, cooling]) => Limits { heating, cooling }.into(),
+            _ => ENTRY_VERSION_2.into(),
+        }
     }
 
     /// The engine's values, in the order of the answers; a trigger that is absent is a NaN.
@@ -62,10 +78,9 @@ impl<'a> Case<'a> {
                     zone.update_temperatures(&self.state, self.conditions, gains, fraction, rate)?;
                 Ok(updated(&after.0, &after.1))
             }
-            4 | 6 => {
-                let version = if self.call == 4 { ENTRY_VERSION_1 } else { ENTRY_VERSION_2 };
+            4 | 6 | 7 => {
                 let (state, met, balance) =
-                    zone.hour_step(&self.state, self.conditions, version)?;
+                    zone.hour_step(&self.state, self.conditions, self.rule())?;
                 Ok([demand(&met), updated(&state, &balance)].concat())
             }
             _ => Ok(zone.start_up()?.temps().to_vec()),

@@ -1,13 +1,13 @@
 //! A year book: a head and the entry of each hour.
-use crate::bytes::{f64_at, f64s_at, length_at};
-use crate::conditions::Conditions;
+use crate::entry::Entry;
 use crate::explain::{Given, NamedVersion};
+use crate::false_entry::false_entry;
 use crate::ffi;
 use crate::float;
-use crate::layout::{ENTRY_CONDITIONS, ENTRY_VERSION_AT, RESULTS};
 use crate::lent::{AsConditions, AsHead};
 use crate::refusal::{Reason, Refusal};
-use crate::zone::{judge, Demand, State, Zone};
+use crate::versions::Rule;
+use crate::zone::{judge, State, Zone};
 
 /// The most entries that a book holds: the hours of a leap year.
 pub const MOST_ENTRIES: usize = ffi::ENTRIES;
@@ -17,6 +17,8 @@ pub const MOST_ENTRIES: usize = ffi::ENTRIES;
 pub struct Book {
     zone: Zone,
     bytes: Vec<u8>,
+    /// Where each entry ends: versions have their own lengths.
+    ends: Vec<usize>,
     state: State,
     count: u64,
     last_version: u64,
@@ -46,12 +48,12 @@ impl Book {
             )
         };
         judge(answer, &Given { head: zone.head(), ..Given::default() })?;
-        Ok(Self { zone, bytes, state, count, last_version })
+        Ok(Self { zone, bytes, ends: vec![], state, count, last_version })
     }
 
     /// The book of these bytes, after each whole entry was calculated again, by the rule of its own
-    /// version, and found to be the same. A rest that is shorter than an entry is left out:
-    /// [`Book::bytes`] ends before it.
+    /// version, and found to be the same. A rest that is shorter than its version byte calls for, or has
+    /// none, is left out: [`Book::bytes`] ends before it.
     pub fn take_up(bytes: &[u8]) -> Result<Self, Refusal> {
         float::must_be_standard()?;
         let mut state = State::empty();
@@ -73,23 +75,30 @@ impl Book {
         }
         judge(answer, &Given { head: bytes, ..Given::default() })?;
         let zone = Zone::from_head(bytes)?;
-        Ok(Self { zone, bytes: bytes[..used as usize].to_vec(), state, count, last_version })
+        let bytes = bytes[..used as usize].to_vec();
+        let ends = zone.layout().entries(&bytes).map(|entry| entry.end).collect();
+        Ok(Self { zone, bytes, ends, state, count, last_version })
     }
 
-    /// Adds an hour, given as [`Conditions`] or in bytes, and gives the bytes of its entry. The entry has
-    /// this version, as [`ENTRY_VERSION_2`](crate::ENTRY_VERSION_2); one that no hour has, or that is below
-    /// the last entry's, is refused with 18. A refusal leaves the book as it was.
+    /// Adds an hour, given as [`Conditions`](crate::Conditions) or in bytes, and gives the bytes of its entry.
+    /// The hour has this [`Rule`]: an entry version, as [`ENTRY_VERSION_2`](crate::ENTRY_VERSION_2), or the
+    /// [`Limits`](crate::Limits) of a plant. A version that no hour has, or that is below the last entry's, is
+    /// refused with 18, a limit out of range with 19. A refusal leaves the book as it was.
     pub fn append(
         &mut self,
         conditions: &(impl AsConditions + ?Sized),
-        version: u64,
+        rule: impl Into<Rule>,
     ) -> Result<&[u8], Refusal> {
         float::must_be_standard()?;
+        let rule = rule.into();
+        let (version, limits) = (rule.version(), rule.handed());
         let conditions = &*conditions.conditions_bytes();
         let held = self.bytes.len();
         let before = (self.count > 0).then_some(self.last_version);
         let mut used = held as u64;
-        self.bytes.resize(held + self.zone.layout().entry_len(), 0);
+        // A version without a length is refused before any room is asked for.
+        let length = self.zone.layout().entry_len(version).unwrap_or(0);
+        self.bytes.resize(held + length, 0);
         // SAFETY: byte strings are valid for their lengths; the buffer is the book's own and apart
         // from the zone's head; the state's array has 121 floats.
         let answer = unsafe {
@@ -106,6 +115,8 @@ impl Book {
                 conditions.as_ptr(),
                 conditions.len(),
                 version,
+                limits.heating,
+                limits.cooling,
             )
         };
         self.bytes.truncate(used as usize);
@@ -115,9 +126,11 @@ impl Book {
             nodes: self.state.nodes as usize,
             conditions,
             version: Some(NamedVersion { version, before }),
+            limits: Some(limits),
             ..Given::default()
         };
         judge(answer, &given)?;
+        self.ends.push(self.bytes.len());
         Ok(&self.bytes[held..])
     }
 
@@ -146,132 +159,20 @@ impl Book {
         self.last_version
     }
 
+    /// The rule of the last entry, if there is one.
+    pub fn last_rule(&self) -> Option<Rule> {
+        self.entry(self.hours().checked_sub(1)?).map(|entry| entry.rule())
+    }
+
     /// The entry of an hour, from 0, if it is held.
     pub fn entry(&self, hour: usize) -> Option<Entry<'_>> {
-        (hour < self.hours()).then(|| Entry::at(&self.zone, &self.bytes, hour))
+        let end = *self.ends.get(hour)?;
+        let start = hour.checked_sub(1).map_or(self.zone.layout().head_len(), |b| self.ends[b]);
+        Some(Entry::new(&self.zone, &self.bytes[start..end]))
     }
 
     /// All entries, in order.
     pub fn entries(&self) -> impl Iterator<Item = Entry<'_>> {
-        (0..self.hours()).map(|hour| Entry::at(&self.zone, &self.bytes, hour))
+        (0..self.hours()).filter_map(|hour| self.entry(hour))
     }
-}
-
-/// One hour of a book: a view of its bytes.
-#[derive(Clone, Copy, Debug)]
-pub struct Entry<'a> {
-    zone: &'a Zone,
-    bytes: &'a [u8],
-}
-
-impl<'a> Entry<'a> {
-    /// The entry that stands at a place in bytes that are known to hold it.
-    fn at(zone: &'a Zone, book: &'a [u8], place: usize) -> Self {
-        let size = zone.layout().entry_len();
-        let at = zone.layout().head_len() + place * size;
-        Self { zone, bytes: &book[at..at + size] }
-    }
-
-    /// Where the results begin: after length, version and conditions.
-    fn results_at(&self) -> usize {
-        ENTRY_CONDITIONS + self.zone.layout().conditions_len()
-    }
-
-    /// Where the temperatures begin: after three floats, the trigger byte and the trigger rate.
-    fn temps_at(&self) -> usize {
-        self.results_at() + RESULTS
-    }
-
-    /// All bytes of the entry, its length included.
-    pub fn bytes(&self) -> &'a [u8] {
-        self.bytes
-    }
-
-    /// The version of the entry, by whose rule its hour was calculated.
-    pub fn version(&self) -> u64 {
-        self.bytes[ENTRY_VERSION_AT].into()
-    }
-
-    /// The bytes of the conditions.
-    pub fn conditions_bytes(&self) -> &'a [u8] {
-        &self.bytes[ENTRY_CONDITIONS..self.results_at()]
-    }
-
-    /// The conditions by name.
-    pub fn conditions(&self) -> Conditions {
-        Conditions::of_accepted(self.conditions_bytes())
-    }
-
-    /// The demand of the hour.
-    pub fn demand(&self) -> Demand {
-        let at = self.results_at();
-        let trigger = f64_at(self.bytes, at + 25);
-        Demand {
-            space_heat_demand: f64_at(self.bytes, at),
-            space_cool_demand: f64_at(self.bytes, at + 8),
-            ach_cooling: f64_at(self.bytes, at + 16),
-            ach_to_trigger_heating: (self.bytes[at + 24] == 1).then_some(trigger),
-        }
-    }
-
-    /// The node temperatures after the hour.
-    pub fn state(&self) -> State {
-        State::new(&f64s_at(self.bytes, self.temps_at(), self.zone.layout().nodes()))
-    }
-
-    /// The operative temperature after the hour, °C. It is a NaN only where the calling thread has
-    /// changed its floating-point environment since the book was taken up.
-    pub fn temp_operative(&self) -> f64 {
-        self.zone.temp_operative(&self.state()).unwrap_or(f64::NAN)
-    }
-}
-
-/// What is wrong with the first false entry of these bytes.
-fn false_entry(bytes: &[u8], place: usize) -> String {
-    let fault = find_fault(bytes, place).unwrap_or_else(|| "it is not what its hour gives".into());
-    format!("entry {place}: {fault}")
-}
-
-fn find_fault(bytes: &[u8], place: usize) -> Option<String> {
-    let zone = Zone::from_head(bytes).ok()?;
-    let entry = Entry::at(&zone, bytes, place);
-    let before = place.checked_sub(1).map(|before| Entry::at(&zone, bytes, before));
-    let (length, version) = (length_at(entry.bytes, 0), entry.version());
-    if length + 4 != entry.bytes.len() {
-        return Some(format!("its length is {length}, not {}", entry.bytes.len() - 4));
-    }
-    let named = NamedVersion { version, before: before.map(|before| before.version()) };
-    if let Some(fault) = named.fault() {
-        return Some(format!("its {fault}"));
-    }
-    let state = match before {
-        None => zone.start_up().ok()?,
-        Some(before) => before.state(),
-    };
-    match zone.hour_step(&state, entry.conditions_bytes(), version) {
-        Err(refusal) => Some(format!("its conditions are refused: {}", refusal.sentence())),
-        Ok((after, demand, _)) => differing(&entry, &demand, &after),
-    }
-}
-
-/// The first stored result that is not the calculated one.
-fn differing(entry: &Entry, demand: &Demand, after: &State) -> Option<String> {
-    let stored = entry.demand();
-    let name = if differ(stored.space_heat_demand, demand.space_heat_demand) {
-        "heating"
-    } else if differ(stored.space_cool_demand, demand.space_cool_demand) {
-        "cooling"
-    } else if differ(stored.ach_cooling, demand.ach_cooling) {
-        "air change rate"
-    } else if entry.state() != *after {
-        "temperatures"
-    } else {
-        "trigger rate"
-    };
-    let verb = if name == "temperatures" { "are" } else { "is" };
-    Some(format!("its stored {name} {verb} not what the hour gives"))
-}
-
-fn differ(a: f64, b: f64) -> bool {
-    a.to_bits() != b.to_bits()
 }

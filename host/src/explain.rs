@@ -3,10 +3,11 @@
 use crate::bytes::{f64_at, length_at};
 use crate::conditions::{ElementHour, COMMON_SIZE, RATE_CODE};
 use crate::layout::{element_size, Layout, HEAD_COMMON};
-use crate::ranges::{plain, FRACTION, GAINS, OPEN, RATE};
+use crate::limits::Limits;
+use crate::ranges::{plain, FRACTION, GAINS, OPEN, POWER_LIMIT, RATE};
 use crate::refusal::Reason;
 use crate::values::{conditions_values, head_values, treatments_text, Value};
-use crate::versions::{entry_versions_to, ENTRY_VERSION_1, NEWEST_ENTRY_VERSION};
+use crate::versions::{entry_versions_to, is_known, NEWEST_ENTRY_VERSION};
 
 /// What a call was given, as far as its refusal may speak of it.
 #[derive(Clone, Copy, Default)]
@@ -20,6 +21,8 @@ pub(crate) struct Given<'a> {
     pub(crate) own: Option<[f64; 3]>,
     /// The entry version of an hour step or an append.
     pub(crate) version: Option<NamedVersion>,
+    /// The limits of an hour step or an append.
+    pub(crate) limits: Option<Limits>,
 }
 
 /// An entry version that a call names or an entry has, and that of the entry before it, if there is one.
@@ -48,6 +51,7 @@ pub(crate) fn sentence(reason: Reason, index: u32, given: &Given) -> String {
             setpoints("ventilation", given.conditions, HOUR_SETPOINTS, 2)
         }
         Reason::NotSettled => passes(given.head),
+        Reason::LimitValue => limits(given),
         Reason::FalseEntry => return named_version(given).unwrap_or_else(|| reason.to_string()),
         _ => None,
     };
@@ -132,7 +136,7 @@ impl NamedVersion {
     pub(crate) fn fault(&self) -> Option<String> {
         let version = self.version;
         match self.before {
-            _ if !(ENTRY_VERSION_1..=NEWEST_ENTRY_VERSION).contains(&version) => {
+            _ if !is_known(version) => {
                 let known = entry_versions_to(NEWEST_ENTRY_VERSION, "or");
                 Some(format!("version is {version}, not {known}"))
             }
@@ -197,6 +201,14 @@ fn conditions_fault(given: &Given, index: u32) -> Option<String> {
         range,
     }));
     first_fault(&values, index)
+}
+
+fn limits(given: &Given) -> Option<String> {
+    let Limits { heating, cooling } = given.limits?;
+    let both = [("heating_limit", heating), ("cooling_limit", cooling)];
+    let values =
+        both.map(|(name, value)| Value { index: 0, name: name.into(), value, range: POWER_LIMIT });
+    first_fault(&values, 0)
 }
 
 /// Where the heating setpoint stands in the conditions of an hour; cooling and ventilation follow it.

@@ -13,7 +13,7 @@ pub const BALANCE: usize = 25;
 /// The most entries that a book holds (`HEM_ENTRIES`).
 pub const ENTRIES: usize = 8784;
 /// The newest version of entries (`HEM_NEWEST_ENTRY_VERSION`).
-pub const NEWEST_ENTRY_VERSION: u64 = 2;
+pub const NEWEST_ENTRY_VERSION: u64 = 3;
 
 #[allow(missing_docs)]
 unsafe extern "C" {
@@ -52,6 +52,8 @@ unsafe extern "C" {
         cond: *const u8,
         cond_len: usize,
         version: u64,
+        heating_limit: f64,
+        cooling_limit: f64,
         out: *mut f64,
         balance: *mut f64,
     ) -> u32;
@@ -89,6 +91,8 @@ unsafe extern "C" {
         cond: *const u8,
         cond_len: usize,
         version: u64,
+        heating_limit: f64,
+        cooling_limit: f64,
     ) -> u32;
 
     pub fn hem_take_up(

@@ -9,8 +9,9 @@
 //! - [`State`] holds the node temperatures, handed back by each call.
 //! - [`Book`] is a year: a head and the entry of each hour, which can be written to a file as it
 //!   grows and taken up again after a power cut.
-//! - An hour step and an entry have a version, by whose rule heating and cooling are shared between air
-//!   and surfaces: [`ENTRY_VERSION_1`], [`ENTRY_VERSION_2`].
+//! - An hour step and an entry have a version, by whose [`Rule`] heating and cooling are shared between air
+//!   and surfaces ([`ENTRY_VERSION_1`], [`ENTRY_VERSION_2`]) and may have the [`Limits`] of a plant
+//!   ([`ENTRY_VERSION_3`]).
 //! - `text` (feature `text`) reads and writes heads as TOML and hours as CSV.
 //! - [`Refusal`] says why a call was turned away: its [`Reason`], number and index, and one sentence.
 //!
@@ -31,13 +32,16 @@
 mod book;
 mod bytes;
 mod conditions;
+mod entry;
 mod explain;
+mod false_entry;
 pub mod ffi;
 mod float;
 mod head;
 mod heat_balance;
 mod layout;
 mod lent;
+mod limits;
 mod names;
 mod ranges;
 mod refusal;
@@ -48,14 +52,19 @@ mod values;
 mod versions;
 mod zone;
 
-pub use book::{Book, Entry, MOST_ENTRIES};
+pub use book::{Book, MOST_ENTRIES};
 pub use conditions::{AirChangesPerHour, Conditions, ElementHour, NO_CONTROL};
+pub use entry::Entry;
 pub use head::{Basis, BuildingElement, Head, Kind, Layers, Pane};
 pub use heat_balance::{
     HeatBalance, HeatBalanceAirNode, HeatBalanceExternalBoundary, HeatBalanceInternalBoundary,
 };
 pub use layout::Layout;
 pub use lent::{AsConditions, AsHead};
+pub use limits::{HeldLimit, Limits};
 pub use refusal::{Reason, Refusal};
-pub use versions::{entry_versions_to, ENTRY_VERSION_1, ENTRY_VERSION_2, NEWEST_ENTRY_VERSION};
+pub use versions::{
+    entry_versions_to, Rule, ENTRY_VERSION_1, ENTRY_VERSION_2, ENTRY_VERSION_3,
+    NEWEST_ENTRY_VERSION,
+};
 pub use zone::{Demand, State, Zone};

@@ -1,5 +1,6 @@
 //! The ranges of docs/FORMATS.md, for the sentence of a refusal. The engine alone decides what is
 //! accepted; here it is only found out which value it meant.
+use crate::limits::Limits;
 use std::fmt;
 
 /// The numbers from `low` to `high`, both included, or without `low` itself.
@@ -34,6 +35,8 @@ pub(crate) const HEATING_SETPOINT: Range = from(-273.15, 100.0);
 pub(crate) const OTHER_SETPOINT: Range = from(-273.15, 1.4e32);
 pub(crate) const HOUR_LENGTH: Range = from(0.001, 8_760.0);
 pub(crate) const LIMIT: Range = from(1.0, 10_000.0);
+/// The limit of a plant, W.
+pub(crate) const POWER_LIMIT: Range = from(0.0, Limits::GREATEST);
 /// The open byte of an element with 0 to 4 treatments.
 pub(crate) const OPEN: [Range; 5] =
     [from(0.0, 0.0), from(0.0, 1.0), from(0.0, 3.0), from(0.0, 7.0), from(0.0, 15.0)];

@@ -71,6 +71,8 @@ reasons! {
     /// An entry is not what the hour step gives; or the entry version that a call names is one that no
     /// hour has, or is below that of the book's last entry.
     FalseEntry = 18, "an entry is not what its hour gives, or its version is unknown or too low";
+    /// A limit of heating or cooling is out of range.
+    LimitValue = 19, "a limit of heating or cooling is out of range";
     /// A number that this crate does not know.
     Unknown = 255, "the engine refused the call";
 }
@@ -102,7 +104,7 @@ impl Refusal {
         Reason::of_number(self.number)
     }
 
-    /// The engine's number, 1 to 18; 0 where the engine was not called ([`Reason::FloatEnvironment`]).
+    /// The engine's number, 1 to 19; 0 where the engine was not called ([`Reason::FloatEnvironment`]).
     pub fn number(&self) -> u32 {
         self.number
     }
@@ -143,10 +145,10 @@ mod tests {
 
     #[test]
     fn each_number_has_its_own_reason() {
-        for number in 0..=18 {
+        for number in 0..=19 {
             assert_eq!(Reason::of_number(number) as u32, number);
             assert_eq!(Refusal::new(number, |_, _| String::new()).reason() as u32, number);
         }
-        assert_eq!(Reason::of_number(19), Reason::Unknown);
+        assert_eq!(Reason::of_number(20), Reason::Unknown);
     }
 }

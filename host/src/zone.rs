@@ -7,6 +7,7 @@ use crate::heat_balance::HeatBalance;
 use crate::layout::Layout;
 use crate::lent::{AsConditions, AsHead};
 use crate::refusal::{Reason, Refusal};
+use crate::versions::Rule;
 use std::fmt;
 
 /// The node temperatures of a zone, °C: element by element from the outer to the inner surface, then
@@ -73,6 +74,12 @@ pub struct Demand {
 }
 
 impl Demand {
+    /// The power that would meet the demand in an hour of this length, W, below 0 where it cools: what is
+    /// delivered where no limit holds.
+    pub fn power(&self, delta_t_h: f64) -> f64 {
+        (self.space_heat_demand + self.space_cool_demand) * 1000.0 / delta_t_h
+    }
+
     fn of_values(out: &[f64; ffi::OUT]) -> Self {
         Self {
             space_heat_demand: out[0],
@@ -222,15 +229,18 @@ impl Zone {
     }
 
     /// One hour: its demand, the state after the demand was met, and the heat balance. The demand is met
-    /// by the rule of an entry version, as [`ENTRY_VERSION_2`](crate::ENTRY_VERSION_2); one that no hour has is
-    /// refused with 18.
+    /// by a [`Rule`]: an entry version, as [`ENTRY_VERSION_2`](crate::ENTRY_VERSION_2), or the
+    /// [`Limits`](crate::Limits) of a plant, as far as these let it. A version that no hour has is refused
+    /// with 18, a limit out of range with 19.
     pub fn hour_step(
         &self,
         before: &State,
         conditions: &(impl AsConditions + ?Sized),
-        version: u64,
+        rule: impl Into<Rule>,
     ) -> Result<(State, Demand, HeatBalance), Refusal> {
         float::must_be_standard()?;
+        let rule = rule.into();
+        let (version, limits) = (rule.version(), rule.handed());
         let conditions = &*conditions.conditions_bytes();
         let mut after = before.clone();
         let mut out = [0.0; ffi::OUT];
@@ -246,12 +256,15 @@ impl Zone {
                 conditions.as_ptr(),
                 conditions.len(),
                 version,
+                limits.heating,
+                limits.cooling,
                 out.as_mut_ptr(),
                 balance.as_mut_ptr(),
             )
         };
         let version = Some(NamedVersion { version, before: None });
-        judge(answer, &Given { version, ..self.given(before, conditions) })?;
+        let limits = Some(limits);
+        judge(answer, &Given { version, limits, ..self.given(before, conditions) })?;
         Ok((after, Demand::of_values(&out), HeatBalance::of_values(&balance)))
     }
 

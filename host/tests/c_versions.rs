@@ -1,13 +1,13 @@
 //! Entry versions at the C interface: which are taken, where 18 stands among the refusals, and what becomes
-//! of `last_version`.
+//! of `last_version`. What version 3 adds is in c_limits.rs.
 #[path = "common/lent.rs"]
 mod lent;
 
 use hem_zone::samples::house_p;
 use lent::*;
 
-/// Numbers that no hour has, though the low byte of some is 1 or 2.
-const UNKNOWN: [u64; 7] = [0, 3, 4, 257, 258, 1 << 32 | 1, u64::MAX];
+/// Numbers that no hour has, though the low byte of some is 1, 2 or 3.
+const UNKNOWN: [u64; 8] = [0, 4, 5, 257, 258, 259, 1 << 32 | 1, u64::MAX];
 
 fn warm() -> Vec<u8> {
     hour(21.0, 24.0)
@@ -34,7 +34,7 @@ fn held(count: u64, last_version: u64) -> Lent {
 }
 
 #[test]
-fn an_hour_step_takes_1_and_2_and_no_other_number() {
+fn an_hour_step_takes_1_and_2_and_no_unknown_number() {
     for version in [1, 2] {
         let mut lent = Lent::at_twenty(0);
         assert_eq!(hour_step(&p(), &warm(), version, &mut lent), 0);
@@ -65,7 +65,7 @@ fn at_an_hour_step_18_stands_behind_the_zone_and_before_the_state() {
 }
 
 #[test]
-fn an_append_names_1_or_2_and_nothing_below_the_last() {
+fn an_append_names_no_unknown_version_and_nothing_below_the_last() {
     for (last, version) in [(1, 1), (1, 2), (2, 2), (0, 1)] {
         let mut lent = held(5, last);
         assert_eq!(append(&p(), &warm(), version, &mut lent), 0);
@@ -166,14 +166,17 @@ fn a_book_whose_versions_fall_is_refused_at_the_later_entry() {
 }
 
 #[test]
-fn an_unknown_version_byte_makes_a_whole_entry_false() {
-    for byte in (0..=255).filter(|byte| !(1..=2).contains(byte)) {
+fn an_unknown_version_byte_makes_any_rest_a_false_entry() {
+    for byte in (0..=255).filter(|byte| !(1..=3).contains(byte)) {
         let mut bytes = book(&[1, 1]).buf;
-        bytes[180 + 216 + 4] = byte;
-        refused(Lent::new(0), false_entry(1), |lent| take_up(&bytes, lent));
-        // Not written to its end, it is dropped.
+        let second = 180 + 216;
+        bytes[second + 4] = byte;
+        // Any rest that reaches its version byte is one, whatever its length.
+        for rest in [5, 6, 215, 216] {
+            refused(Lent::new(0), false_entry(1), |lent| take_up(&bytes[..second + rest], lent));
+        }
         let mut lent = Lent::new(0);
-        assert_eq!(take_up(&bytes[..180 + 2 * 216 - 1], &mut lent), 0);
-        assert_eq!((lent.count, lent.last_version), (1, 1));
+        assert_eq!(take_up(&bytes[..second + 4], &mut lent), 0);
+        assert_eq!((lent.count, lent.used, lent.last_version), (1, 396, 1));
     }
 }

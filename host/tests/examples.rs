@@ -1,4 +1,8 @@
 //! examples/ and the README: the drawing and the lines that are shown there are those of the program.
+#[allow(dead_code)] // Its main is not called.
+#[path = "../examples/plant.rs"]
+mod plant;
+
 use std::fs;
 use std::path::{Path, PathBuf};
 use std::process::Command;
@@ -7,8 +11,8 @@ fn top() -> PathBuf {
     Path::new(env!("CARGO_MANIFEST_DIR")).join("..")
 }
 
-fn folder() -> PathBuf {
-    let folder = Path::new(env!("CARGO_TARGET_TMPDIR")).join("examples");
+fn folder(name: &str) -> PathBuf {
+    let folder = Path::new(env!("CARGO_TARGET_TMPDIR")).join(name);
     let _ = fs::remove_dir_all(&folder);
     fs::create_dir_all(&folder).unwrap();
     folder
@@ -25,7 +29,7 @@ fn hem_year(words: &[&str]) -> String {
     String::from_utf8(done.stdout).unwrap()
 }
 
-/// The lines of the README that are said to be of the report.
+/// The lines of a README that are said to be of the report.
 fn shown(readme: &str) -> Vec<String> {
     let after = readme.split("the report says, among other things:").nth(1).expect("the sentence");
     let block = after.lines().skip(1).skip_while(|line| line.is_empty());
@@ -33,9 +37,21 @@ fn shown(readme: &str) -> Vec<String> {
     block.map(|line| line.trim().to_string()).filter(|line| !line.is_empty()).collect()
 }
 
+/// Every line that a README shows is one of the report, and there are at least so many.
+fn must_show(readme: &str, report: &str, least: usize) {
+    let lines = shown(&fs::read_to_string(top().join(readme)).unwrap());
+    assert!(lines.len() >= least, "{readme} shows {lines:?}");
+    for line in lines {
+        assert!(
+            report.lines().any(|l| l.trim() == line),
+            "{readme} shows {line:?}, the report says\n{report}"
+        );
+    }
+}
+
 #[test]
 fn the_drawing_and_the_lines_of_the_readme_are_those_of_the_sample() {
-    let folder = folder();
+    let folder = folder("examples");
     let (book, svg) = (folder.join("terrace.book"), folder.join("terrace.svg"));
     let (book, svg) = (book.to_str().unwrap(), svg.to_str().unwrap());
     let house = "examples/terrace.toml";
@@ -48,13 +64,44 @@ fn the_drawing_and_the_lines_of_the_readme_are_those_of_the_sample() {
         drawn == kept,
         "examples/terrace.svg is not what ./run draws (target/sample/terrace.svg)"
     );
+    must_show("README.md", &report, 4);
+}
 
-    let lines = shown(&fs::read_to_string(top().join("README.md")).unwrap());
-    assert!(lines.len() >= 4, "the README shows {lines:?}");
-    for line in lines {
-        assert!(
-            report.lines().any(|l| l.trim() == line),
-            "README.md shows {line:?}, the report says\n{report}"
-        );
-    }
+#[test]
+fn the_plants_of_the_readme_are_those_of_the_sample() {
+    let folder = folder("plants");
+    let house = "examples/terrace.toml";
+    let report = |limit: &str| {
+        let book = folder.join(format!("{limit}.book"));
+        let book = book.to_str().unwrap();
+        hem_year(&["run", house, "examples/terrace.csv", book, "--heating-limit", limit]);
+        hem_year(&["report", book, "--head", house])
+    };
+    let pump = report("3200");
+    must_show("host/README.md", &pump, 9);
+    // Six kilowatts are more than any hour asks for, so the year is the one that the first README shows.
+    let six = report("6000");
+    assert!(
+        six.contains("\nHeating    at most 6,000 W: 2673.5 kWh delivered, 0.0 kWh unmet\n"),
+        "{six}"
+    );
+    must_show("README.md", &six, 4);
+}
+
+#[test]
+fn the_example_says_how_often_a_plant_is_too_small() {
+    let folder = folder("plant");
+    hem_year(&["sample", folder.to_str().unwrap()]);
+    let file = |name: &str| folder.join(name).to_str().unwrap().to_string();
+    let ask = |sizes: &[&str]| {
+        let sizes = sizes.iter().map(|size| size.to_string());
+        let files = [file("terrace.head"), file("terrace.year")];
+        plant::answers(&files.into_iter().chain(sizes).collect::<Vec<_>>())
+    };
+    let expected = "6000 W: always enough\n\
+                    3200 W: too small in 125 hours, by 113.2 kWh; down to 18.5 °C then\n";
+    assert_eq!(ask(&["6000", "3200"]).unwrap(), expected);
+    let refused = ask(&["-1"]).unwrap_err().to_string();
+    assert_eq!(refused, "heating_limit is -1, out of its range 0 to 10,000,000 (refusal 19)");
+    assert_eq!(plant::answers(&[]).unwrap_err().to_string(), "usage: plant HEAD YEAR WATTS ...");
 }

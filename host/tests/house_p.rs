@@ -14,7 +14,8 @@ fn twenty() -> State {
 fn sizes() {
     assert_eq!(house_p().to_bytes().len(), 180);
     assert_eq!(zone().head().len(), 180);
-    assert_eq!(zone().layout().entry_len(), 216);
+    let lengths = [0, 1, 2, 3, 4].map(|version| zone().layout().entry_len(version));
+    assert_eq!(lengths, [None, Some(216), Some(216), Some(232), None]);
     assert_eq!((zone().layout().nodes(), zone().layout().elements()), (3, 1));
 }
 

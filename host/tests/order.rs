@@ -71,8 +71,9 @@ fn hours() {
         let mut bytes = hour().to_bytes();
         change(&mut bytes);
         let demand = numbers(zone.space_heat_cool_demand(state, &bytes));
-        for version in [ENTRY_VERSION_1, ENTRY_VERSION_2] {
-            assert_eq!(demand, numbers(zone.hour_step(state, &bytes, version)));
+        let limits = Limits { heating: 0.0, cooling: 0.0 };
+        for rule in [ENTRY_VERSION_1.into(), ENTRY_VERSION_2.into(), Rule::from(limits)] {
+            assert_eq!(demand, numbers(zone.hour_step(state, &bytes, rule)));
         }
         demand
     };
@@ -116,6 +117,36 @@ fn hours() {
         }),
         (9, 2)
     );
+}
+
+#[test]
+fn limits_stand_between_the_values_of_an_hour_and_its_setpoints() {
+    let zone = Zone::new(&house()).unwrap();
+    let good = State::new(&[20.0; 5]);
+    let bad = Limits { heating: f64::NAN, cooling: -1.0 };
+    let crossed = Conditions { temp_setpnt_cool: 10.0, temp_setpnt_cool_vent: 10.0, ..hour() };
+    let ask = |state: &State, change: fn(&mut Vec<u8>)| {
+        let mut bytes = crossed.to_bytes();
+        change(&mut bytes);
+        let both =
+            [bad, Limits::of_heating(0.0)].map(|l| numbers(zone.hour_step(state, &bytes, l)));
+        let mut book = Book::begin(&house()).unwrap();
+        assert_eq!(numbers(book.append(&bytes, bad)).0, both[0].0.max(7));
+        both
+    };
+    assert_eq!(ask(&State::new(&[20.0; 4]), |b| b.truncate(10)), [(6, 0); 2]);
+    assert_eq!(ask(&good, |b| b.truncate(10)), [(7, 0); 2]);
+    assert_eq!(ask(&good, |b| b[96] = 9), [(8, 0); 2]);
+    assert_eq!(ask(&good, |b| spoil(b, 113 + 41)), [(9, 2); 2]);
+    assert_eq!(ask(&good, |_| ()), [(19, 0), (10, 0)]);
+    let vent = |b: &mut Vec<u8>| b[56..64].copy_from_slice(&30f64.to_be_bytes());
+    assert_eq!(ask(&good, vent), [(19, 0), (11, 0)]);
+    // A version that no hour has, or that a book cannot go back to, comes before all of them.
+    let unknown = zone.hour_step(&State::new(&[]), &[], Rule::new(4, bad));
+    assert_eq!(numbers(unknown), (18, 0));
+    let mut book = Book::begin(&house()).unwrap();
+    book.append(&hour(), Limits::of_heating(0.0)).unwrap();
+    assert_eq!(numbers(book.append(&[], Rule::new(ENTRY_VERSION_2, bad))), (18, 1));
 }
 
 #[test]

@@ -130,7 +130,8 @@ fn options(text: &str) -> Vec<String> {
 #[test]
 fn the_options_of_a_help_are_taken_and_no_others() {
     let folder = Folder::new("options");
-    let valued = ["csv", "entry-version", "head", "hour", "name", "svg"];
+    let valued =
+        ["cooling-limit", "csv", "entry-version", "head", "heating-limit", "hour", "name", "svg"];
     let all = [&valued[..], &["balance", "force", "hours", "nodes"]].concat();
     for command in COMMANDS {
         let help = folder.call(&["help", command]).done();
@@ -218,5 +219,10 @@ fn the_completion_offers_commands_options_and_files() {
             assert_eq!(completed(&folder, &words), versions, "{words:?}");
         }
         assert!(completed(&folder, &[command, "p.head", "--entry-version="]).is_empty());
+        for limit in ["--heating-limit", "--cooling-limit"] {
+            assert!(completed(&folder, &[command, "p.head", limit, ""]).is_empty());
+            assert!(completed(&folder, &[command, "p.head", limit, "=", ""]).is_empty());
+            assert!(completed(&folder, &[command, "p.head", &format!("{limit}=")]).is_empty());
+        }
     }
 }

@@ -1,8 +1,8 @@
 //! Entry versions: by which fraction what is delivered is shared, and books that pass from 1 to 2.
 use hem_zone::samples::{hour_p, house_p};
 use hem_zone::{
-    Basis, Book, Conditions, Demand, Head, HeatBalance, Refusal, State, Zone, ENTRY_VERSION_1,
-    ENTRY_VERSION_2, NEWEST_ENTRY_VERSION,
+    Basis, Book, Conditions, Demand, Head, HeatBalance, Limits, Refusal, Rule, State, Zone,
+    ENTRY_VERSION_1, ENTRY_VERSION_2, NEWEST_ENTRY_VERSION,
 };
 
 /// A house with chilled ceilings: its heating gives 0.3 of its heat to the air, its cooling 0.7. The
@@ -128,7 +128,7 @@ fn a_book_passes_from_1_to_2_and_is_judged_hour_by_hour() {
         state = step.0;
     }
     // Cooled hours tell the versions apart: the other version's byte makes a false entry.
-    let size = book.zone().layout().entry_len();
+    let size = book.zone().layout().entry_len(ENTRY_VERSION_2).unwrap();
     let head = book.zone().layout().head_len();
     for (place, other) in [(1, 2), (2, 1)] {
         let mut bytes = book.bytes().to_vec();
@@ -142,7 +142,7 @@ fn a_book_passes_from_1_to_2_and_is_judged_hour_by_hour() {
 fn a_refused_version_leaves_the_book() {
     let mut book = book(&[1, 2]);
     let before = book.clone();
-    for version in [0, 1, 3, 257, u64::MAX] {
+    for version in [0, 1, 4, 257, u64::MAX] {
         let refusal = book.append(&hour(15.0, 18.0, 0.0), version).unwrap_err();
         assert_eq!((refusal.number(), refusal.index()), (18, 2));
         assert_eq!((book.bytes(), book.state()), (before.bytes(), before.state()));
@@ -157,7 +157,8 @@ fn a_refused_version_leaves_the_book() {
 #[test]
 fn a_book_that_is_cut_back_to_version_1_takes_it_again() {
     let book = book(&[1, 2, 2]);
-    let (head, size) = (book.zone().layout().head_len(), book.zone().layout().entry_len());
+    let layout = book.zone().layout();
+    let (head, size) = (layout.head_len(), layout.entry_len(ENTRY_VERSION_2).unwrap());
     for (kept, last) in [(0, 1), (1, 1), (2, 2), (3, 2)] {
         let mut cut = Book::take_up(&book.bytes()[..head + kept * size]).unwrap();
         assert_eq!((cut.hours(), cut.last_version()), (kept, last));
@@ -187,7 +188,9 @@ fn two_books_of_the_same_hours_and_other_versions_are_two_books() {
 #[test]
 fn the_newest_version_is_the_last_that_the_engine_takes() {
     let zone = Zone::new(&house(Basis::Air)).unwrap();
-    let step = |version| zone.hour_step(&twenty(), &hour(15.0, 18.0, 0.0), version);
+    let limits = Limits::of_heating(1000.0);
+    let step =
+        |version| zone.hour_step(&twenty(), &hour(15.0, 18.0, 0.0), Rule::new(version, limits));
     for version in ENTRY_VERSION_1..=NEWEST_ENTRY_VERSION {
         assert!(step(version).is_ok());
     }
@@ -203,15 +206,18 @@ fn a_refused_version_is_told() {
     // Neither an append nor an hour step has an entry to name.
     let below = "the entry version is 1, below that of the entry before it, 2 (refusal 18)";
     assert_eq!(append(&mut book, 1), Err(below.into()));
-    let unknown = String::from("the entry version is 257, not 1 or 2 (refusal 18)");
+    let unknown = String::from("the entry version is 257, not 1, 2 or 3 (refusal 18)");
     assert_eq!(append(&mut book, 257), Err(unknown.clone()));
     assert_eq!(append(&mut self::book(&[]), 257), Err(unknown.clone()));
     let step = book.zone().hour_step(&twenty(), &hour, 257).map_err(printed);
     assert_eq!(step, Err(unknown));
     let mut bytes = book.bytes().to_vec();
     let layout = book.zone().layout();
-    for (version, fault) in [(1, "1, below that of the entry before it, 2"), (0, "0, not 1 or 2")] {
-        bytes[layout.head_len() + 2 * layout.entry_len() + 4] = version;
+    let third = layout.entries(book.bytes()).nth(2).unwrap();
+    for (version, fault) in
+        [(1, "1, below that of the entry before it, 2"), (0, "0, not 1, 2 or 3")]
+    {
+        bytes[third.start + 4] = version;
         let sentence = format!("entry 2: its version is {fault} (refusal 18, entry 2)");
         assert_eq!(Book::take_up(&bytes).map(|_| ()).map_err(printed), Err(sentence));
     }

@@ -5,10 +5,10 @@ use mathlib.Core.List.{List, _++_}
 use Prim.Native.Nat.{ℕ, _+_, _-_, _≤_, _<_}
 use native.Mathlib.Nat.{zero-add}
 use native.Mathlib.Omega.{arith}
-use lib.ListN.{length, take, drop}
+use lib.ListN.{length, take, drop, length-append}
 use lib.Seq.{length-take-le}
-use lib.Dec.{leb, ltb}
-use lib.Ieee.{Float}
+use lib.Dec.{T, leb, ltb}
+use lib.Ieee.{Float, binary64, fits}
 use borrow.Author.Tests.{leb-true, leb-false, le-leb, lt-ltb, lt-leb, le-ltb}
 use Rattle.zone.specs.Promise.{Result, ok, refused, bind, require}
 use Rattle.zone.specs.Inner.Lent.{zoneIn}
@@ -37,13 +37,17 @@ use Rattle.book.specs.Model.Calls as Book
 use Rattle.book.specs.Model.Session.{CallSpec}
 use Rattle.book.specs.Inner.Replace.{replaceAt}
 use Rattle.zone.specs.Format.Layout.{conditionsLength}
-use Rattle.book.specs.Layout.{wholeLength}
+use Rattle.zone.specs.Format.Limits.{limitsIn}
+use Rattle.zone.specs.declared.format.limits.Limits.{Limits}
+use Rattle.zone.specs.Calls.Hour.{hasLimits}
+use Rattle.book.specs.Layout.{limitsLength, wholeLength}
 use Rattle.book.specs.Entry.{entryOf}
-use Rattle.book.specs.Year.{hour, Carried, carried, noEntryVersion, mayFollow, startUp, hourEntry, yearInterface}
+use Rattle.book.specs.Year.{hour, limitsPart, hourItem, Carried, carried, noEntryVersion, mayFollow, startUp, hourEntry, yearInterface}
 use Rattle.book.specs.Answers.{givenOf, replyIn, rustTypes}
 use Rattle.book.specs.declared.book.BookState.{BookState}
 use Rattle.book.specs.declared.book.Reply.{Reply}
-use Rattle.book.proofs.Laws.Accepted.{hour-conditions}
+use Rattle.book.proofs.Laws.Accepted.{hour-body}
+use Rattle.book.proofs.Laws.Body.{part-length, part-back}
 use Rattle.book.proofs.Laws.Heads.{head-inside, head-stops, head-goes-on, starts, starts-not}
 use Rattle.book.proofs.Laws.Interface.{step-hour, step-length}
 use Rattle.book.proofs.Laws.NextHour.{step-given, step-refused, step-not-next}
@@ -69,19 +73,24 @@ module _ (z : ZoneFront) (codes : List ℕ) (values : List Float) where
   abbrev zone : Zone
   zone = zoneIn z codes values
 
-  pub step-size : (k : ℕ) (s : Carried) (version : ℕ) (i : List ℕ) (e : Written Carried) → hourEntry zone k s (hour version i) ≡ ok e → length i ≡ conditionsLength (z .count)
-  step-size k s version i e p = let a = step-hour zone k s version i e p in hour-conditions zone version (s .state) i (a .result) (a .stepped)
+  -- the conditions i of an hour that is accepted, before the bytes j of its limits
+  pub step-size : (k : ℕ) (s : Carried) (version : ℕ) (i j : List ℕ) → length j ≡ limitsLength version → (e : Written Carried) → hourEntry zone k s (hour version (i ++ j)) ≡ ok e
+      → length i ≡ conditionsLength (z .count)
+  step-size k s version i j l e p =
+      let a = step-hour zone k s version (i ++ j) e p in
+      omega (arith, l, length-append i j, hour-body zone version (s .state) (i ++ j) (a .result) (a .stepped))
 
-  module _ (tested : zoneTest zone ≡ ok tt) (s : Carried) (version : ℕ) (follows : mayFollow (s .lastVersion) version ≡ true) (i : List ℕ) (x : DemandReply)
-      (e : x ≡ nextHourReply (s .state) (nextHour standardCoefficients zone version (s .state) i)) (d : Demand) (f : x .answer ≡ DemandAnswer.Accepted d) where
+  module _ (tested : zoneTest zone ≡ ok tt) (s : Carried) (version : ℕ) (follows : mayFollow (s .lastVersion) version ≡ true)
+      (i j : List ℕ) (long : length j ≡ limitsLength version) (l : Limits) (holds : hasLimits version ≡ true → limitsIn j ≡ l) (x : DemandReply)
+      (e : x ≡ nextHourReply (s .state) (nextHour standardCoefficients zone version l (s .state) i)) (d : Demand) (f : x .answer ≡ DemandAnswer.Accepted d) where
     pub hour-size : length i ≡ conditionsLength (z .count)
-    hour-size = step-size 0 s version i _ (step-given zone tested s version follows i x e d f 0)
+    hour-size = step-size 0 s version i j long _ (step-given zone tested s version follows i j long l holds x e d f 0)
 
-    pub hour-written : length (entryOf zone version i d (x .state)) ≡ wholeLength zone
-    hour-written = step-length zone 0 s (hour version i) _ (step-given zone tested s version follows i x e d f 0)
+    pub hour-written : length (entryOf zone version (i ++ j) d (x .state)) ≡ wholeLength zone version
+    hour-written = step-length zone 0 s version (i ++ j) _ (step-given zone tested s version follows i j long l holds x e d f 0)
 
-  pub append-room : (used m room : ℕ) (t : Bool) → m ≡ wholeLength zone → t ≡ leb (used + m) room → t ≡ true → used + wholeLength zone ≤ room
-  append-room used m room t l e f = let w = leb-true (used + m) room (sym e ∙ f) in omega arith
+  pub append-room : (version used m room : ℕ) (t : Bool) → m ≡ wholeLength zone version → t ≡ leb (used + m) room → t ≡ true → used + wholeLength zone version ≤ room
+  append-room version used m room t l e f = let w = leb-true (used + m) room (sym e ∙ f) in omega arith
 
 pub zone-passed : (z : Zone) (v : Verdict) → v ≡ verdictOf (zoneTest z) → v ≡ Accepted → zoneTest z ≡ ok tt
 zone-passed z v e f = verdict-accepted (zoneTest z) (sym e ∙ f)
@@ -143,11 +152,15 @@ pub ruleset begin-cases = (begin-head, begin-start, begin-short, begin-good)
 
 -- ---- append
 
-module _ (z : Zone) (g : BookState) (version : ℕ) (i : List ℕ) (buf : List ℕ) where
-  abbrev AppendCallSpec : Reply → List ℕ → Type 0
-  AppendCallSpec r out = CallSpec yearInterface rustTypes r out (Book.append yearInterface z (givenOf g) (hour version i) buf)
+module _ (z : Zone) (g : BookState) (version : ℕ) (i : List ℕ) (l : Limits) (buf : List ℕ) where
+  -- what the hour holds
+  abbrev body : List ℕ
+  body = i ++ limitsPart version l
 
-  append-refused : (r : Reply) (n j : ℕ) → r ≡ replyIn (Book.refusedWith n j (givenOf g)) → Book.appendRes yearInterface z (givenOf g) (hour version i) buf ≡ refused n j → AppendCallSpec r buf
+  abbrev AppendCallSpec : Reply → List ℕ → Type 0
+  AppendCallSpec r out = CallSpec yearInterface rustTypes r out (Book.append yearInterface z (givenOf g) (hourItem version i l) buf)
+
+  append-refused : (r : Reply) (n j : ℕ) → r ≡ replyIn (Book.refusedWith n j (givenOf g)) → Book.appendRes yearInterface z (givenOf g) (hourItem version i l) buf ≡ refused n j → AppendCallSpec r buf
   unfolding Book.append
   append-refused r n j q w = record { reply = rw w q; bytes = rw w }
 
@@ -166,21 +179,29 @@ module _ (z : Zone) (g : BookState) (version : ℕ) (i : List ℕ) (buf : List �
 
       pub append-version : (r : Reply) → r ≡ replyIn (Book.refusedWith falseEntry (g .count) (givenOf g)) → (t : Bool) → t ≡ mayFollow (g .«last_version») version → t ≡ false → AppendCallSpec r buf
       unfolding Book.appendRes
-      append-version r q t e f = append-refused r falseEntry (g .count) q (rw (tested, room, step-not-next z (givenOf g .state) version (sym e ∙ f) i (g .count)))
+      append-version r q t e f = append-refused r falseEntry (g .count) q (rw (tested, room, step-not-next z (givenOf g .state) version (sym e ∙ f) body (g .count)))
 
-      pub append-hour : mayFollow (g .«last_version») version ≡ true → (r : Reply) (n j : ℕ) → r ≡ replyIn (Book.refusedWith n j (givenOf g))
-          → (x : DemandReply) → x ≡ nextHourReply (g .state) (nextHour standardCoefficients z version (g .state) i) → x .answer ≡ DemandAnswer.Refused n j → AppendCallSpec r buf
-      unfolding Book.appendRes
-      append-hour follows r n j q x e f = append-refused r n j q (rw (tested, room, step-refused z tested (givenOf g .state) version follows i x e n j f (g .count)))
+      -- the limits are read back from the bytes that they have
+      module _ (follows : mayFollow (g .«last_version») version ≡ true) (heating : T (fits binary64 (l .heating))) (cooling : T (fits binary64 (l .cooling)))
+          (x : DemandReply) (e : x ≡ nextHourReply (g .state) (nextHour standardCoefficients z version l (g .state) i)) where
+        pub append-hour : (r : Reply) (n j : ℕ) → r ≡ replyIn (Book.refusedWith n j (givenOf g)) → x .answer ≡ DemandAnswer.Refused n j → AppendCallSpec r buf
+        unfolding Book.appendRes
+        append-hour r n j q f =
+            append-refused r n j q
+            (rw (tested, room, step-refused z tested (givenOf g .state) version follows i (limitsPart version l) (part-length version l) l (part-back version l heating cooling) x e n j f (g .count)))
+
+        pub append-given : (d : Demand) → x .answer ≡ DemandAnswer.Accepted d
+            → hourEntry z (g .count) (givenOf g .state) (hourItem version i l) ≡ ok (record { bytes = entryOf z version body d (x .state); after = carried (x .state) version })
+        append-given d f = step-given z tested (givenOf g .state) version follows i (limitsPart version l) (part-length version l) l (part-back version l heating cooling) x e d f (g .count)
 
       module _ (d : Demand) (after : State)
-          (gives : hourEntry z (g .count) (givenOf g .state) (hour version i) ≡ ok (record { bytes = entryOf z version i d after; after = carried after version }))
-          (m : ℕ) (l : m ≡ wholeLength z) (t : Bool) (k : t ≡ leb (g .used + m) (length buf)) where
+          (gives : hourEntry z (g .count) (givenOf g .state) (hourItem version i l) ≡ ok (record { bytes = entryOf z version body d after; after = carried after version }))
+          (m : ℕ) (m-is : m ≡ wholeLength z version) (t : Bool) (k : t ≡ leb (g .used + m) (length buf)) where
         abbrev bytes : List ℕ
-        bytes = entryOf z version i d after
+        bytes = entryOf z version body d after
 
         long : length bytes ≡ m
-        long = step-length z (g .count) (givenOf g .state) (hour version i) _ gives ∙ sym l
+        long = step-length z (g .count) (givenOf g .state) version body _ gives ∙ sym m-is
 
         test : leb (g .used + length bytes) (length buf) ≡ t
         test = ap (λ (y : ℕ). leb (g .used + y) (length buf)) long ∙ sym k

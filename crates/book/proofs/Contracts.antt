@@ -12,7 +12,7 @@ use Rattle.zone.specs.declared.record.zone_record.Verdict.the-variants.{Accepte
 use Rattle.book.specs.Model.Calls as Book
 use Rattle.book.specs.Model.Session.{CallSpec}
 use Rattle.book.specs.Model.Claims.{HandedOn}
-use Rattle.book.specs.Year.{hour, yearInterface}
+use Rattle.book.specs.Year.{hourItem, yearInterface}
 use Rattle.book.specs.Answers.{givenOf, replyIn, answerBy, rustTypes}
 use Rattle.book.specs.declared.book.Reply.{Reply}
 use Rattle.book.proofs.book.begin.Kinds as begin-kinds
@@ -31,11 +31,11 @@ begin-ensures κs a r e p = p
 pub begin-asks : (κs : Lfts 2) (a : Dens κs begin-kinds.ps) → begin-reads.Pre κs a
 begin-asks κs a = search needs
 
--- fn append(z, codes, values, given, conditions, version, buf)
+-- fn append(z, codes, values, given, conditions, version, limits, buf)
 pub append-ensures : (κs : Lfts 4) (a : Dens κs append-kinds.ps) (r : Reply) (e : AtExit (endedOf 4 append-kinds.ps append-kinds.r) κs)
     → append-reads.Post κs a r e
-    → CallSpec yearInterface rustTypes r (now (e .1 .1 .1 .1 .1 .1 .0))
-    (Book.append yearInterface (zoneIn (a .0) (now (a .1 .0)) (now (a .1 .1 .0))) (givenOf (a .1 .1 .1 .0)) (hour (a .1 .1 .1 .1 .1 .0) (now (a .1 .1 .1 .1 .0))) (now (a .1 .1 .1 .1 .1 .1 .0)))
+    → CallSpec yearInterface rustTypes r (now (e .1 .1 .1 .1 .1 .1 .1 .0))
+    (Book.append yearInterface (zoneIn (a .0) (now (a .1 .0)) (now (a .1 .1 .0))) (givenOf (a .1 .1 .1 .0)) (hourItem (a .1 .1 .1 .1 .1 .0) (now (a .1 .1 .1 .1 .0)) (a .1 .1 .1 .1 .1 .1 .0)) (now (a .1 .1 .1 .1 .1 .1 .1 .0)))
 append-ensures κs a r e p = p
 
 pub append-asks : (κs : Lfts 4) (a : Dens κs append-kinds.ps) → append-reads.Pre κs a

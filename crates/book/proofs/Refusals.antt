@@ -7,7 +7,7 @@ use lib.Dec.{leb}
 use Rattle.zone.specs.Promise.{RefusesOnly, accepts}
 use Rattle.zone.proofs.Promise.{and-true, because, bind-refuses, refuses-also}
 use Rattle.zone.specs.Calls.Hour.{hourVersion}
-use Rattle.zone.specs.Claims.Refusals.{DemandRefusal, StartUpRefusal}
+use Rattle.zone.specs.Claims.Refusals.{KnownHourRefusal, StartUpRefusal}
 use Rattle.zone.specs.Record.BuildingElement.{standardCoefficients}
 use Rattle.zone.specs.declared.record.zone_record.Zone.{Zone}
 use Rattle.zone.proofs.Claims.HeadRefusals.{head-refusals, zone-refusals}
@@ -15,7 +15,7 @@ use Rattle.zone.proofs.Claims.Refusals.{known-step-refusals, start-up-refusals}
 use Rattle.book.specs.Numbers.{falseEntry}
 use Rattle.book.specs.Model.Calls.{BookState, beginRes, appendRes, takeUpRes}
 use Rattle.book.proofs.Model.Laws.Refusals.{begin-refuses-by, append-refuses-by, take-up-refuses-by}
-use Rattle.book.specs.Year.{Item, hour, Carried, mayFollow, startUp, hourEntry, yearInterface}
+use Rattle.book.specs.Year.{Item, hour, bodyConditions, bodyLimits, Carried, mayFollow, startUp, hourEntry, yearInterface}
 use Rattle.book.specs.VersionOrder.{versionOf}
 use Rattle.book.specs.Refusals.{
   BeginRefusal,
@@ -46,14 +46,14 @@ begin-refusals head buf =
     (start-refuses λ n i p. beginStartUp p)
     beginBufferShort head buf
 
--- the entry of an hour: 18 for its version, or the demand's
+-- the entry of an hour: 18 for its version, or the hour step's
 pub hour-refuses-by : {P : ℕ → ℕ → Type 0} (z : Zone) (k : ℕ) (s : Carried) (i : Item) → (mayFollow (s .lastVersion) (versionOf i) ≡ false → P falseEntry k)
-    → ((n i : ℕ) → DemandRefusal n i → P n i) → RefusesOnly P (hourEntry z k s i)
+    → ((n i : ℕ) → KnownHourRefusal n i → P n i) → RefusesOnly P (hourEntry z k s i)
 unfolding hourEntry
 hour-refuses-by z k s (hour version body) false-entry also =
     because (mayFollow (s .lastVersion) version) falseEntry k _ false-entry λ follows.
     let known = and-true (hourVersion version) (leb (s .lastVersion) version) follows .0 in
-    bind-refuses _ (refuses-also also (known-step-refusals standardCoefficients z (s .state) body version known)) λ r _.
+    bind-refuses _ (refuses-also also (known-step-refusals standardCoefficients z (s .state) (bodyConditions version body) version (bodyLimits version body) known)) λ r _.
     accepts _
 
 pub append-refusals : (z : Zone) (given : BookState Carried) (i : Item) (buf : List ℕ) → RefusesOnly (AppendRefusal (given .count)) (appendRes yearInterface z given i buf)

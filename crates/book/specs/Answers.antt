@@ -1,4 +1,4 @@
--- What the functions answer, for what the definitions say: document 01's number and index of a refusal, and the values handed back.
+-- What the functions answer, for what the definitions say: the papers' number and index of a refusal, and the values handed back.
 use Rattle.zone.specs.declared.record.zone_record.Verdict.{Verdict}
 use Rattle.zone.specs.declared.record.zone_record.Verdict.the-variants.{Accepted, Refused}
 use Rattle.book.specs.Model.Calls as Book

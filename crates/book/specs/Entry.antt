@@ -1,4 +1,4 @@
--- The bytes of an entry (document 01, "Bytes of head and entry").
+-- The bytes of an entry (document 01, "Bytes of head and entry", and document 02 (b)).
 use Prim.Native.Nat.{ℕ}
 use mathlib.Core.List.{List, [], _∷_, _++_}
 use lib.ListN.{take}
@@ -15,7 +15,7 @@ use Rattle.book.specs.Layout.{versionSize, followingLength}
 
 -- "4-byte length of what follows, then version byte": that of the hour's version
 abbrev pub frontBytes : Zone → (version : ℕ) → List ℕ
-frontBytes z version = bytesOf lengthSize (followingLength z) ++ bytesOf versionSize version
+frontBytes z version = bytesOf lengthSize (followingLength z version) ++ bytesOf versionSize version
 
 -- "trigger byte 0 or 1, trigger rate (zero bits if 0)"
 abbrev pub triggerBytes : AchToTriggerHeating → List ℕ
@@ -32,6 +32,7 @@ demandBytes d =
 abbrev pub temperatureBytes : Zone → State → List ℕ
 temperatureBytes z s = rowBytes (take (nodeCount z) (s .temps))
 
--- "Entry: conditions, heating, cooling, rate, trigger byte, trigger rate, N node temperatures." The conditions' bytes stand as they were given.
-unfoldable pub entryOf : Zone → (version : ℕ) → (conditions : List ℕ) → Demand → State → List ℕ
-entryOf z version conditions d s = frontBytes z version ++ (conditions ++ (demandBytes d ++ temperatureBytes z s))
+-- "Entry: conditions, heating, cooling, rate, trigger byte, trigger rate, N node temperatures." `body` is the conditions' bytes as they were given, and
+-- from version 3 on those of the "two floats after the conditions".
+unfoldable pub entryOf : Zone → (version : ℕ) → (body : List ℕ) → Demand → State → List ℕ
+entryOf z version body d s = frontBytes z version ++ (body ++ (demandBytes d ++ temperatureBytes z s))

@@ -2,3 +2,4 @@
 pub mod Replace
 pub mod Checked
 pub mod Sizes
+pub mod Record

@@ -8,5 +8,7 @@ pub mod Year
 pub mod Answers
 pub mod Refusals
 pub mod VersionOrder
+pub mod Rests
+pub mod PlantLimits
 pub mod HouseP
 pub mod Inner

@@ -4,7 +4,7 @@ use mathlib.Core.List.{List}
 use Rattle.zone.specs.Promise.{RefusesOnly}
 use Rattle.zone.specs.declared.record.zone_record.Zone.{Zone}
 use Rattle.zone.specs.Claims.HeadRefusals.{HeadRefusal, ZoneRefusal}
-use Rattle.zone.specs.Claims.Refusals.{DemandRefusal, StartUpRefusal}
+use Rattle.zone.specs.Claims.Refusals.{KnownHourRefusal, StartUpRefusal}
 use Rattle.book.specs.Model.Calls.{BookState, beginRes, appendRes, takeUpRes}
 use Rattle.book.specs.Year.{Item, Carried, yearInterface}
 use Rattle.book.specs.Numbers.{bufferShort, bookFull, falseEntry}
@@ -16,12 +16,13 @@ pub data BeginRefusal : (number index : ℕ) → Type 0 where
   beginStartUp : {number index : ℕ} → StartUpRefusal number index → BeginRefusal number index
   beginBufferShort : BeginRefusal bufferShort 0
 
--- "Append: 8,784 entries held, 17; the hour step's; buffer, 16." The zone is tested first; 18 comes "after 17, its index the count held".
+-- "Append: 8,784 entries held, 17; the hour step's; buffer, 16." The zone is tested first; 18 comes "after 17, its index the count held"; the hour
+-- step's have 19, "a limit out of range, after 9".
 pub data AppendRefusal (count : ℕ) : (number index : ℕ) → Type 0 where
   appendZone : {number index : ℕ} → ZoneRefusal number index → AppendRefusal count number index
   appendBookFull : AppendRefusal count bookFull 0
   appendFalseEntry : count < mostEntries → AppendRefusal count falseEntry count
-  appendHour : {number index : ℕ} → DemandRefusal number index → AppendRefusal count number index
+  appendHour : {number index : ℕ} → KnownHourRefusal number index → AppendRefusal count number index
   appendBufferShort : AppendRefusal count bufferShort 0
 
 -- "Take up: head; start-up; then per whole entry, a 8,785th 17, a false one 18", with the entry's index from 0

@@ -1,4 +1,5 @@
--- Document 02 (a), "a book may pass from 1 to 2 but never back": the versions of the hours that a book holds, and when 18 is answered for a version.
+-- Document 02 (a), "a book may pass from 1 to 2 but never back", and (b), version 3 "may follow versions 1 and 2, never the reverse": the versions of the
+-- hours that a book holds, and when 18 is answered for a version.
 use Prim.Native.Nat.{ℕ, _≤_, _<_}
 use mathlib.Core.Path.{_≡_}
 use mathlib.Core.Logic.{_↔_, _≢_, _⊎_}
@@ -19,10 +20,10 @@ use Rattle.book.specs.Year.{Item, hour, Carried, noEntryVersion, yearInt
 abbrev pub versionOf : Item → ℕ
 versionOf (hour version body) = version
 
--- each hour has version 1 or 2, and not one below that of the hour before it; before the first stands `last`
+-- each hour has version 1, 2 or 3, and not one below that of the hour before it; before the first stands `last`
 unfoldable pub NeverFall : (last : ℕ) → List Item → Type 0
 NeverFall last [] = Unit {0}
-NeverFall last (i ∷ is) = (1 ≤ versionOf i) × (versionOf i ≤ 2) × (last ≤ versionOf i) × NeverFall (versionOf i) is
+NeverFall last (i ∷ is) = (1 ≤ versionOf i) × (versionOf i ≤ 3) × (last ≤ versionOf i) × NeverFall (versionOf i) is
 
 -- the version of the last hour, `last` where there is none
 unfoldable pub lastVersionOf : (last : ℕ) → List Item → ℕ
@@ -31,7 +32,7 @@ lastVersionOf last (i ∷ is) = lastVersionOf (versionOf i) is
 
 -- "a version that no hour has", or one that passes back
 abbrev pub MayNotFollow : (last version : ℕ) → Type 0
-MayNotFollow last version = ((version ≢ 1) × (version ≢ 2)) ⊎ (version < last)
+MayNotFollow last version = ((version ≢ 1) × (version ≢ 2) × (version ≢ 3)) ⊎ (version < last)
 
 pub record InOrder (head : List ℕ) (is : List Item) : Type 0 where
   pub never-fall : NeverFall noEntryVersion is
@@ -47,7 +48,8 @@ pub record VersionClaims : Type 0 where
   pub append-refused : (z : Zone) (given : BookState Carried) (version : ℕ) (body buf : List ℕ) (index : ℕ)
       → (appendRes yearInterface z given (hour version body) buf ≡ refused falseEntry index)
       ↔ ((zoneTest z ≡ ok tt) × (given .count < mostEntries) × MayNotFollow (given .state .lastVersion) version × (index ≡ given .count))
-  -- A take-up has 18 at the later entry: the bytes of a book, then a whole entry whose version may not follow, and any bytes behind it.
+  -- A take-up has 18 at the later entry: the bytes of a book, then a whole entry of a version that passes back, and any bytes behind it.
   pub take-up-refused : (head : List ℕ) (is : List Item) (S : WellFormed yearInterface head is) → length is < mostEntries
-      → (entry rest : List ℕ) → length entry ≡ wholeLength (S .contents .zone) → MayNotFollow (lastVersionOf noEntryVersion is) (versionIn entry)
+      → (entry rest : List ℕ) → (versionIn entry ≡ 1) ⊎ (versionIn entry ≡ 2) → versionIn entry < lastVersionOf noEntryVersion is
+      → length entry ≡ wholeLength (S .contents .zone) (versionIn entry)
       → takeUpRes yearInterface (usedBytes yearInterface head (S .contents) ++ (entry ++ rest)) ≡ refused falseEntry (length is)

@@ -1,7 +1,7 @@
 -- The layers of the year book: the head's reader, start-up and the hour step of the crates below, and the bytes of an entry.
 use mathlib.Core.Bool.{Bool, cond, _&&_}
-use Prim.Native.Nat.{ℕ}
-use mathlib.Core.List.{List}
+use Prim.Native.Nat.{ℕ, _-_}
+use mathlib.Core.List.{List, [], _++_}
 use mathlib.Core.Option.{Option, none, some}
 use lib.ListN.{length, take, drop}
 use lib.Dec.{leb}
@@ -10,18 +10,35 @@ use Rattle.zone.specs.Record.BuildingElement.{standardCoefficients}
 use Rattle.zone.specs.Format.Head.{headOf}
 use Rattle.zone.specs.Check.ZoneTest.{zoneTest}
 use Rattle.zone.specs.declared.record.zone_record.Zone.{Zone}
-use Rattle.zone.specs.Calls.Hour.{hourVersion, hourStep}
+use Rattle.zone.specs.Calls.Hour.{hourVersion, hasLimits, hourStep}
 use Rattle.zone.specs.Calls.StartUp.{initNodeTemps}
 use Rattle.zone.specs.declared.calls.state.State.{State}
 use Rattle.book.specs.Model.Interface.{Interface, Written}
-use Rattle.zone.specs.Format.Layout.{versionIn, conditionsLength}
+use Rattle.zone.specs.Format.Layout.{versionIn}
+use Rattle.zone.specs.Format.Limits.{limitsBytes, limitsIn}
+use Rattle.zone.specs.declared.format.limits.Limits.{Limits}
 use Rattle.book.specs.Numbers.{falseEntry}
-use Rattle.book.specs.Layout.{mostEntries, frontSize, wholeLength}
+use Rattle.book.specs.Layout.{mostEntries, frontSize, limitsLength, wholeLength, bodyLength}
 use Rattle.book.specs.Entry.{entryOf}
 
--- "the plain book holds each hour's with its conditions": the version that an append names, and `body`, the conditions' bytes
+-- "the plain book holds each hour's with its conditions": the version that an append names, and `body`, the conditions' bytes; behind them, from version 3
+-- on, those of the limits: "the plain book holds them with the conditions", "bit for bit"
 pub data Item : Type 0 where
   hour : (version : ℕ) (body : List ℕ) → Item
+
+-- the hour of a call: its conditions, and its limits where the version has them
+abbrev pub limitsPart : (version : ℕ) → Limits → List ℕ
+limitsPart version l = cond (hasLimits version) (limitsBytes l) []
+
+abbrev pub hourItem : (version : ℕ) (conditions : List ℕ) → Limits → Item
+hourItem version conditions l = hour version (conditions ++ limitsPart version l)
+
+-- the two parts of a body: the limits are its last bytes
+abbrev pub bodyConditions : (version : ℕ) (body : List ℕ) → List ℕ
+bodyConditions version body = take (length body - limitsLength version) body
+
+abbrev pub bodyLimits : (version : ℕ) (body : List ℕ) → Limits
+bodyLimits version body = limitsIn (drop (length body - limitsLength version) body)
 
 -- what is carried from entry to entry and handed back, `State` of specs/Model: the node temperatures, and "the version of the last entry"
 pub record Carried : Type 0 where
@@ -40,7 +57,7 @@ startUp z =
     bind (initNodeTemps standardCoefficients z) λ s.
     ok (carried s noEntryVersion)
 
--- "a book may pass from 1 to 2 but never back, else 18, as for a version that no hour has"
+-- "a book may pass from 1 to 2 but never back, else 18, as for a version that no hour has"; version 3 "may follow versions 1 and 2, never the reverse"
 abbrev pub mayFollow : (lastVersion version : ℕ) → Bool
 mayFollow lastVersion version = hourVersion version && leb lastVersion version
 
@@ -48,19 +65,25 @@ mayFollow lastVersion version = hourVersion version && leb lastVersion version
 unfoldable pub hourEntry : Zone → (count : ℕ) → Carried → Item → Result (Written Carried)
 hourEntry z k s (hour version body) =
     bind (requireAt (mayFollow (s .lastVersion) version) falseEntry k) λ _.
-    bind (hourStep standardCoefficients z version (s .state) body) λ r.
+    bind (hourStep standardCoefficients z version (bodyLimits version body) (s .state) (bodyConditions version body)) λ r.
     ok (record { bytes = entryOf z version body (r .demand) (r .state); after = carried (r .state) version })
 
--- "a rest of the book begins with a whole entry if it has at least 4 bytes more than that": of either version, since both have one length
+-- "What is dropped at the end is a rest under 5 bytes, or shorter than its version byte calls for; an unknown version byte makes any rest of 5 bytes or more
+-- count as a whole entry, a false one."
 unfoldable pub entryLength : Zone → (rest : List ℕ) → Option ℕ
-entryLength z rest = cond (leb (wholeLength z) (length rest)) (some (wholeLength z)) none
+entryLength z rest =
+    cond (leb frontSize (length rest))
+    (cond (hourVersion (versionIn rest))
+    (cond (leb (wholeLength z (versionIn rest)) (length rest)) (some (wholeLength z (versionIn rest))) none)
+    (some (length rest)))
+    none
 
--- the version stands behind the length, as in a head, and the conditions behind both
-abbrev pub conditionsIn : Zone → (entry : List ℕ) → List ℕ
-conditionsIn z e = take (conditionsLength (z .count)) (drop frontSize e)
+-- the version stands behind the length, as in a head, and the body behind both
+abbrev pub bodyIn : Zone → (version : ℕ) → (entry : List ℕ) → List ℕ
+bodyIn z version e = take (bodyLength z version) (drop frontSize e)
 
 unfoldable pub itemIn : Zone → (entry : List ℕ) → Item
-itemIn z e = hour (versionIn e) (conditionsIn z e)
+itemIn z e = hour (versionIn e) (bodyIn z (versionIn e) e)
 
 abbrev pub yearInterface : Interface
 yearInterface =

@@ -1,7 +1,7 @@
 // Begin and append.
 use crate::bytes::copy;
-use crate::entry::entry_length;
-use crate::entry::put_entry;
+use crate::entry::put_hour;
+use crate::entry::whole_length;
 use crate::layout::MOST_ENTRIES;
 use crate::numbers::BOOK_FULL;
 use crate::numbers::BUFFER_SHORT;
@@ -10,6 +10,7 @@ use crate::versions::NO_ENTRY_VERSION;
 use crate::versions::may_follow;
 use zone::Demand;
 use zone::DemandAnswer;
+use zone::Limits;
 use zone::State;
 use zone::Verdict;
 use zone::ZoneFront;
@@ -18,6 +19,7 @@ use zone::read_head;
 use zone::zone_test;
 ghost use mathlib.Core.Path.{_≡_};
 ghost use mathlib.Core.Bool.{true};
+ghost use mathlib.Core.List.{_++_};
 ghost use Prim.Native.Nat.{_+_, _<_};
 ghost use lib.ListN.{length};
 ghost use lib.Dec.{leb};
@@ -28,7 +30,7 @@ ghost use Rattle.book.specs.Model.Calls as Book;
 ghost use Rattle.book.specs.Model.Session.{CallSpec};
 ghost use Rattle.book.specs.Layout.{mostEntries};
 ghost use Rattle.book.specs.Entry.{entryOf};
-ghost use Rattle.book.specs.Year.{hour, carried, mayFollow, yearInterface, hourEntry};
+ghost use Rattle.book.specs.Year.{carried, mayFollow, limitsPart, hourItem, yearInterface, hourEntry};
 ghost use Rattle.book.specs.Answers.{givenOf, replyIn, rustTypes};
 
 // What a call is given and hands back: the node temperatures, the count of entries, the used length and the version of the last entry, 1 where there is
@@ -115,24 +117,26 @@ fn append_entry(
     given: BookState,
     conditions: &[u8],
     version: u64,
+    limits: Limits,
     demand: Demand,
     after: State,
     buf: &mut [u8],
 ) -> Reply
-    requires { ⌜ (zoneTest (zoneIn z (now codes) (now values)) ≡ ok tt) × (given .count < mostEntries) × (hourEntry (zoneIn z (now codes) (now values)) (given .count) (givenOf given .state) (hour version (now conditions)) ≡ ok (record { bytes = entryOf (zoneIn z (now codes) (now values)) version (now conditions) demand after; after = carried after version })) ⌝ }
-    ensures { λ r. ⌜ CallSpec yearInterface rustTypes r (now (buf .exit)) (Book.append yearInterface (zoneIn z (now (codes .entry)) (now (values .entry))) (givenOf given) (hour version (now (conditions .entry))) (now (buf .entry))) ⌝ }
+    requires { ⌜ (zoneTest (zoneIn z (now codes) (now values)) ≡ ok tt) × (given .count < mostEntries) × (hourEntry (zoneIn z (now codes) (now values)) (given .count) (givenOf given .state) (hourItem version (now conditions) limits) ≡ ok (record { bytes = entryOf (zoneIn z (now codes) (now values)) version (now conditions ++ limitsPart version limits) demand after; after = carried after version })) ⌝ }
+    ensures { λ r. ⌜ CallSpec yearInterface rustTypes r (now (buf .exit)) (Book.append yearInterface (zoneIn z (now (codes .entry)) (now (values .entry))) (givenOf given) (hourItem version (now (conditions .entry)) limits) (now (buf .entry))) ⌝ }
 {
     let count = given.count;
     let used = given.used;
-    let length = entry_length(z, codes, values);
+    let length = whole_length(z, codes, values, version);
     if has_room(used, length, buf.len()) {
         let end = used + length;
-        put_entry(
+        put_hour(
             z,
             codes,
             values,
             version,
             conditions,
+            limits,
             demand,
             after,
             buf,
@@ -152,13 +156,14 @@ fn append_hour(
     given: BookState,
     conditions: &[u8],
     version: u64,
+    limits: Limits,
     buf: &mut [u8],
 ) -> Reply
     requires { ⌜ (zoneTest (zoneIn z (now codes) (now values)) ≡ ok tt) × (given .count < mostEntries) × (mayFollow (given .«last_version») version ≡ true) ⌝ }
-    ensures { λ r. ⌜ CallSpec yearInterface rustTypes r (now (buf .exit)) (Book.append yearInterface (zoneIn z (now (codes .entry)) (now (values .entry))) (givenOf given) (hour version (now (conditions .entry))) (now (buf .entry))) ⌝ }
+    ensures { λ r. ⌜ CallSpec yearInterface rustTypes r (now (buf .exit)) (Book.append yearInterface (zoneIn z (now (codes .entry)) (now (values .entry))) (givenOf given) (hourItem version (now (conditions .entry)) limits) (now (buf .entry))) ⌝ }
 {
     let state = given.state;
-    let x = state.next_hour(z, codes, values, conditions, version);
+    let x = state.next_hour(z, codes, values, conditions, version, limits);
     let a = x.answer;
     match a {
         DemandAnswer::Refused { number, index } => refuse(given, number, index),
@@ -169,6 +174,7 @@ fn append_hour(
             given,
             conditions,
             version,
+            limits,
             demand,
             x.state,
             buf,
@@ -184,21 +190,22 @@ fn append_tested(
     given: BookState,
     conditions: &[u8],
     version: u64,
+    limits: Limits,
     buf: &mut [u8],
 ) -> Reply
     requires { ⌜ zoneTest (zoneIn z (now codes) (now values)) ≡ ok tt ⌝ }
-    ensures { λ r. ⌜ CallSpec yearInterface rustTypes r (now (buf .exit)) (Book.append yearInterface (zoneIn z (now (codes .entry)) (now (values .entry))) (givenOf given) (hour version (now (conditions .entry))) (now (buf .entry))) ⌝ }
+    ensures { λ r. ⌜ CallSpec yearInterface rustTypes r (now (buf .exit)) (Book.append yearInterface (zoneIn z (now (codes .entry)) (now (values .entry))) (givenOf given) (hourItem version (now (conditions .entry)) limits) (now (buf .entry))) ⌝ }
 {
     if MOST_ENTRIES <= given.count {
         return refuse(given, BOOK_FULL, 0);
     }
     if may_follow(given.last_version, version) {
-        return append_hour(z, codes, values, given, conditions, version, buf);
+        return append_hour(z, codes, values, given, conditions, version, limits, buf);
     }
     refuse(given, FALSE_ENTRY, given.count)
 }
 
-// An hour's entry behind the used bytes, of the version that is named.
+// An hour's entry behind the used bytes, of the version that is named; the limits stand in it where the version has them.
 pub fn append(
     z: ZoneFront,
     codes: &[u8; 72],
@@ -206,13 +213,23 @@ pub fn append(
     given: BookState,
     conditions: &[u8],
     version: u64,
+    limits: Limits,
     buf: &mut [u8],
 ) -> Reply
-    ensures { λ r. ⌜ CallSpec yearInterface rustTypes r (now (buf .exit)) (Book.append yearInterface (zoneIn z (now (codes .entry)) (now (values .entry))) (givenOf given) (hour version (now (conditions .entry))) (now (buf .entry))) ⌝ }
+    ensures { λ r. ⌜ CallSpec yearInterface rustTypes r (now (buf .exit)) (Book.append yearInterface (zoneIn z (now (codes .entry)) (now (values .entry))) (givenOf given) (hourItem version (now (conditions .entry)) limits) (now (buf .entry))) ⌝ }
 {
     let v = zone_test(z, codes, values);
     match v {
         Verdict::Refused { number, index } => refuse(given, number, index),
-        Verdict::Accepted => append_tested(z, codes, values, given, conditions, version, buf),
+        Verdict::Accepted => append_tested(
+            z,
+            codes,
+            values,
+            given,
+            conditions,
+            version,
+            limits,
+            buf,
+        ),
     }
 }

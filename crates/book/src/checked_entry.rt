@@ -1,6 +1,7 @@
 // One entry of a book against the hour that it holds.
 use crate::entry::conditions_length;
 use crate::entry::is_entry;
+use crate::entry::limits_length;
 use crate::layout::FRONT_SIZE;
 use crate::layout::LENGTH_SIZE;
 use crate::numbers::FALSE_ENTRY;
@@ -9,8 +10,10 @@ use zone::DemandAnswer;
 use zone::State;
 use zone::Verdict;
 use zone::ZoneFront;
+use zone::read_limits;
 ghost use mathlib.Core.Path.{_≡_};
 ghost use mathlib.Core.Bool.{true};
+ghost use mathlib.Core.Option.{some};
 ghost use lib.ListN.{length};
 ghost use Rattle.zone.specs.Promise.{ok};
 ghost use Rattle.zone.specs.Inner.Lent.{zoneIn};
@@ -19,7 +22,7 @@ ghost use Rattle.zone.specs.Inner.Kept.{arrays, held, Kept};
 ghost use Rattle.book.specs.Model.Calls as Book;
 ghost use Rattle.book.specs.Numbers.{falseEntry};
 ghost use Rattle.book.specs.Layout.{wholeLength};
-ghost use Rattle.book.specs.Year.{hour, carried, mayFollow, yearInterface, hourEntry, conditionsIn, itemIn};
+ghost use Rattle.book.specs.Year.{hour, carried, mayFollow, yearInterface, hourEntry, entryLength, bodyIn, itemIn};
 ghost use Rattle.book.specs.Inner.Checked.{checkedEntry};
 
 // One whole entry against the hour step: the state after it and its version, or 18 and those before it.
@@ -42,7 +45,8 @@ fn false_entry(s: State, last_version: u64, index: usize) -> CheckedEntry
     }
 }
 
-// The hour step on the conditions that the entry holds, by the rule of a version that may follow, and its result, written anew, against the entry.
+// The hour step on the conditions and the limits that the entry holds, by the rule of a version that may follow, and its result, written anew, against the
+// entry.
 fn check_hour(
     z: ZoneFront,
     codes: &[u8; 72],
@@ -63,18 +67,21 @@ fn check_hour(
     interchanges: &mut [usize; 25],
     column: &mut [f64; 25],
 ) -> CheckedEntry
-    requires { ⌜ (zoneTest (zoneIn z (now codes) (now values)) ≡ ok tt) × (length (now entry) ≡ wholeLength (zoneIn z (now codes) (now values)))
+    requires { ⌜ (zoneTest (zoneIn z (now codes) (now values)) ≡ ok tt) × (length (now entry) ≡ wholeLength (zoneIn z (now codes) (now values)) version)
         × Kept (zoneIn z (now codes) (now values)) (held (now flags) (now numbers) (now key) (arrays (now «two_nodes») (now diag) (now next) (now prev) (now dense) (now interchanges)) (now column)) × (mayFollow «last_version» version ≡ true) ⌝ }
-    ensures { λ r. ⌜ (r ≡ checkedEntry (carried s «last_version») (Book.checkEntry yearInterface index (now (entry .entry)) (hourEntry (zoneIn z (now (codes .entry)) (now (values .entry))) index (carried s «last_version») (hour version (conditionsIn (zoneIn z (now (codes .entry)) (now (values .entry))) (now (entry .entry)))))))
+    ensures { λ r. ⌜ (r ≡ checkedEntry (carried s «last_version») (Book.checkEntry yearInterface index (now (entry .entry)) (hourEntry (zoneIn z (now (codes .entry)) (now (values .entry))) index (carried s «last_version») (hour version (bodyIn (zoneIn z (now (codes .entry)) (now (values .entry))) version (now (entry .entry)))))))
         × Kept (zoneIn z (now (codes .entry)) (now (values .entry))) (held (now (flags .exit)) (now (numbers .exit)) (now (key .exit)) (arrays (now («two_nodes» .exit)) (now (diag .exit)) (now (next .exit)) (now (prev .exit)) (now (dense .exit)) (now (interchanges .exit))) (now (column .exit))) ⌝ }
 {
-    let end = FRONT_SIZE + conditions_length(z);
+    let limits_at = FRONT_SIZE + conditions_length(z);
+    let end = limits_at + limits_length(version);
+    let limits = read_limits(&entry[limits_at..end]);
     let x = s.next_hour_kept(
         z,
         codes,
         values,
-        &entry[FRONT_SIZE..end],
+        &entry[FRONT_SIZE..limits_at],
         version,
+        limits,
         flags,
         numbers,
         key,
@@ -99,7 +106,8 @@ fn check_hour(
                 codes,
                 values,
                 version,
-                &entry[FRONT_SIZE..end],
+                &entry[FRONT_SIZE..limits_at],
+                &entry[limits_at..end],
                 demand,
                 after,
                 entry,
@@ -136,7 +144,7 @@ pub fn check_entry(
     interchanges: &mut [usize; 25],
     column: &mut [f64; 25],
 ) -> CheckedEntry
-    requires { ⌜ (zoneTest (zoneIn z (now codes) (now values)) ≡ ok tt) × (length (now entry) ≡ wholeLength (zoneIn z (now codes) (now values)))
+    requires { ⌜ (zoneTest (zoneIn z (now codes) (now values)) ≡ ok tt) × (entryLength (zoneIn z (now codes) (now values)) (now entry) ≡ some (length (now entry)))
         × Kept (zoneIn z (now codes) (now values)) (held (now flags) (now numbers) (now key) (arrays (now «two_nodes») (now diag) (now next) (now prev) (now dense) (now interchanges)) (now column)) ⌝ }
     ensures { λ r. ⌜ (r ≡ checkedEntry (carried s «last_version») (Book.checkEntry yearInterface index (now (entry .entry)) (hourEntry (zoneIn z (now (codes .entry)) (now (values .entry))) index (carried s «last_version») (itemIn (zoneIn z (now (codes .entry)) (now (values .entry))) (now (entry .entry))))))
         × Kept (zoneIn z (now (codes .entry)) (now (values .entry))) (held (now (flags .exit)) (now (numbers .exit)) (now (key .exit)) (arrays (now («two_nodes» .exit)) (now (diag .exit)) (now (next .exit)) (now (prev .exit)) (now (dense .exit)) (now (interchanges .exit))) (now (column .exit))) ⌝ }

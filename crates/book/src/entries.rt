@@ -4,9 +4,10 @@ use crate::book::Reply;
 use crate::book::accept;
 use crate::book::refuse;
 use crate::checked_entry::check_entry;
-use crate::entry::entry_length;
 use crate::layout::MOST_ENTRIES;
 use crate::numbers::BOOK_FULL;
+use crate::record::Record;
+use crate::record::record_in;
 use crate::versions::NO_ENTRY_VERSION;
 use zone::State;
 use zone::Verdict;
@@ -24,7 +25,7 @@ ghost use Rattle.book.specs.Model.Calls as Book;
 ghost use Rattle.book.specs.Year.{carried, noEntryVersion, yearInterface};
 ghost use Rattle.book.specs.Answers.{givenOf, replyIn};
 
-// The whole entries behind the head's n bytes, in order; a shorter rest is dropped. The factored matrix is kept from entry to entry.
+// The whole entries behind the head's n bytes, in order, as `record_in` finds them; a rest that it drops ends the book. The factored matrix is kept from entry to entry.
 fn check_entries(
     z: ZoneFront,
     codes: &[u8; 72],
@@ -48,48 +49,54 @@ fn check_entries(
         × Kept (zoneIn z (now codes) (now values)) (held (now flags) (now numbers) (now key) (arrays (now «two_nodes») (now diag) (now next) (now prev) (now dense) (now interchanges)) (now column)) ⌝ }
     ensures { λ r. ⌜ r ≡ replyIn (Book.answerFrom (givenOf given) (Book.checkEntries yearInterface (zoneIn z (now (codes .entry)) (now (values .entry))) 0 (carried s noEntryVersion) n (Book.wholeEntries yearInterface (zoneIn z (now (codes .entry)) (now (values .entry))) (drop n (now (bytes .entry)))))) ⌝ }
 {
-    let length = entry_length(z, codes, values);
     let mut state = s;
     let mut last_version = NO_ENTRY_VERSION;
     let mut count: usize = 0;
     let mut at = n;
-    while length <= bytes.len() - at {
-        if MOST_ENTRIES <= count {
-            return refuse(given, BOOK_FULL, 0);
-        }
-        let x = check_entry(
-            z,
-            codes,
-            values,
-            count,
-            state,
-            last_version,
-            &bytes[at..at + length],
-            flags,
-            numbers,
-            key,
-            two_nodes,
-            diag,
-            next,
-            prev,
-            dense,
-            interchanges,
-            column,
-        );
-        let v = x.verdict;
-        match v {
-            Verdict::Refused { number, index } => {
-                return refuse(given, number, index);
+    loop {
+        let record = record_in(z, codes, values, &bytes[at..bytes.len()]);
+        match record {
+            Record::Dropped => {
+                return accept(state, last_version, count, at);
             }
-            Verdict::Accepted => {
-                state = x.state;
-                last_version = x.last_version;
+            Record::Whole(length) => {
+                if MOST_ENTRIES <= count {
+                    return refuse(given, BOOK_FULL, 0);
+                }
+                let x = check_entry(
+                    z,
+                    codes,
+                    values,
+                    count,
+                    state,
+                    last_version,
+                    &bytes[at..at + length],
+                    flags,
+                    numbers,
+                    key,
+                    two_nodes,
+                    diag,
+                    next,
+                    prev,
+                    dense,
+                    interchanges,
+                    column,
+                );
+                let v = x.verdict;
+                match v {
+                    Verdict::Refused { number, index } => {
+                        return refuse(given, number, index);
+                    }
+                    Verdict::Accepted => {
+                        state = x.state;
+                        last_version = x.last_version;
+                    }
+                }
+                count += 1;
+                at += length;
             }
         }
-        count += 1;
-        at += length;
     }
-    accept(state, last_version, count, at)
 }
 
 // A book in bytes: its head, and whole entries that are what the hour step gives.

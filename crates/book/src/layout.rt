@@ -22,10 +22,16 @@ pub const RATES_SIZE: usize = 3 * FLOAT_SIZE;
 // Those, the trigger byte and the trigger rate.
 pub const DEMAND_SIZE: usize = RATES_SIZE + 1 + FLOAT_SIZE;
 
-// What follows the length: version, conditions, demand and a float for each node.
+// Greatest heating and greatest cooling, of an hour that has limits.
+pub const LIMITS_SIZE: usize = 2 * FLOAT_SIZE;
+
+// What follows the length: version, conditions, demand and a float for each node; the limits besides.
 pub const FIXED_LENGTH: usize = VERSION_SIZE + CONDITIONS_SIZE + DEMAND_SIZE;
 
-// 24 elements of five nodes, and the air.
-pub const LONGEST_FOLLOWING: usize = FIXED_LENGTH + 24 * CONDITIONS_ELEMENT + 121 * FLOAT_SIZE;
+// 24 elements of five nodes, the air, and the limits.
+pub const LONGEST_FOLLOWING: usize = FIXED_LENGTH
+    + 24 * CONDITIONS_ELEMENT
+    + 121 * FLOAT_SIZE
+    + LIMITS_SIZE;
 
 pub const LONGEST_ENTRY: usize = LENGTH_SIZE + LONGEST_FOLLOWING;

@@ -6,6 +6,7 @@ mod entries;
 mod entry;
 mod layout;
 mod numbers;
+mod record;
 mod versions;
 
 pub use book::BookState;

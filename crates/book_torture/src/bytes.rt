@@ -70,20 +70,20 @@ fn read_u16_be(s: &[u8], at: usize) -> usize {
     high << 8 | low
 }
 
-fn read_u32_be(s: &[u8], at: usize) -> usize {
+pub fn read_u32_be(s: &[u8], at: usize) -> usize {
     let high = read_u16_be(s, at);
     let low = read_u16_be(s, wrapping_add_usize(at, 2));
     high << 16 | low
 }
 
-fn read_u64_be(s: &[u8], at: usize) -> u64 {
+pub fn read_u64_be(s: &[u8], at: usize) -> u64 {
     let high = read_u32_be(s, at);
     let low = read_u32_be(s, wrapping_add_usize(at, 4));
     (high << 32 | low) as u64
 }
 
 // The float of a pattern; of a NaN's, 0 / 0.
-fn float_of(bits: u64) -> f64 {
+pub fn float_of(bits: u64) -> f64 {
     let abs = bits % 9223372036854775808;
     if abs <= 9218868437227405312 {
         f64::from_bits(bits)

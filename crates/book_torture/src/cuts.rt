@@ -2,38 +2,49 @@
 use crate::bytes::copy;
 use crate::bytes::part;
 use crate::bytes::same_bytes;
-use crate::house::ENTRY;
-use crate::house::HEAD;
 use crate::house::conditions;
-use crate::house::place_of;
+use crate::house::limits_at;
+use crate::layout::ENTRY;
+use crate::layout::HEAD;
+use crate::layout::LIMITS;
+use crate::layout::LONG_ENTRY;
+use crate::plan::Plan;
+use crate::plan::entries_of;
+use crate::plan::last_version_of;
+use crate::plan::place_of;
+use crate::plan::version_at;
+use crate::tally::Tally;
 use crate::year::append_hours;
 use crate::year::is_accepted;
-use crate::year::last_version_of;
 use crate::year::nothing;
 use crate::year::refused_with;
 use crate::year::same_book_states;
-use crate::year::version_at;
 use book::BookState;
 use book::Reply;
 use std::num::wrapping_add_u64;
 use std::num::wrapping_add_usize;
-use std::num::wrapping_sub_usize;
 use zone::ZoneFront;
 
-// Hours and bytes of the small book.
+// Hours of the small book, and the first of version 2 and of version 3.
 pub const HOURS: usize = 40;
 
-pub const SMALL: usize = HEAD + ENTRY * HOURS;
+pub const TWO: usize = 14;
 
-// The first of them with version 2.
-pub const CHANGE: usize = 20;
+pub const THREE: usize = 27;
 
-// The last three entries of a book, and the bytes at which they are cut: the last cut takes nothing away.
-pub const LAST_ENTRIES: usize = 3 * ENTRY;
+// The small book's bytes, and room for as many hours that all have version 3.
+pub const SMALL: usize = HEAD + ENTRY * HOURS + LIMITS * (HOURS - THREE);
 
-pub const LAST_CUTS: usize = LAST_ENTRIES + 1;
+pub const ROOM: usize = HEAD + LONG_ENTRY * HOURS;
 
-// What stands behind a cut.
+pub fn small_plan() -> Plan {
+    Plan {
+        two: TWO,
+        three: THREE,
+    }
+}
+
+// What stands behind a cut, and behind a book.
 pub const CUT_OFF: u8 = 170;
 
 // `count` places, `step` bytes apart.
@@ -43,7 +54,7 @@ pub struct Places {
     pub count: usize,
 }
 
-// Cuts that are spread over a book.
+// Tally that are spread over a book.
 const SPREAD: usize = 2000;
 
 // At every byte of a part.
@@ -64,18 +75,8 @@ pub fn spread(bytes: usize) -> Places {
     }
 }
 
-pub struct Cuts {
-    pub cuts: u64,
-    pub right: u64,
-}
-
-// The whole entries of a book cut at a byte behind the head.
-fn entries_of(cut: usize) -> usize {
-    wrapping_sub_usize(cut, HEAD) / ENTRY
-}
-
 // Within the head nothing is taken up: the bytes end early.
-fn cut_in_head(whole: &[u8; SMALL], cut: usize) -> bool {
+fn cut_in_head(whole: &[u8; ROOM], cut: usize) -> bool {
     let r = book::take_up(nothing(), part(whole, 0, cut));
     refused_with(r, nothing(), 1, 0)
 }
@@ -83,38 +84,40 @@ fn cut_in_head(whole: &[u8; SMALL], cut: usize) -> bool {
 // Taken up from the small book with so many entries.
 fn taken_right(r: Reply, count: usize) -> bool {
     let taken = r.values;
-    let version = last_version_of(count, CHANGE);
-    let counted = taken.count == count && taken.used == place_of(count);
-    is_accepted(r) && counted && taken.last_version == version
+    let plan = small_plan();
+    let counted = taken.count == count && taken.used == place_of(plan, count);
+    is_accepted(r) && counted && taken.last_version == last_version_of(plan, count)
 }
 
-// An entry of version 2 is left: version 1 is refused with 18 and the count, and nothing is changed.
+// An entry of a newer version is left: this one is refused with 18 and the count, and nothing is changed.
 fn refused_behind(
     z: ZoneFront,
     codes: &[u8; 72],
     values: &[f64; 600],
     taken: BookState,
-    b: &mut [u8; SMALL],
+    version: u64,
+    b: &mut [u8; ROOM],
 ) -> bool {
     let count = taken.count;
     let c = conditions(count);
+    let limits = limits_at(count);
     let before = *b;
-    let r = book::append(z, codes, values, taken, &c, 1, b);
+    let r = book::append(z, codes, values, taken, &c, version, limits, b);
     same_bytes(b, &before) && refused_with(r, taken, 18, count)
 }
 
-// Filled to the end, with version 2 from `change` on: the wanted book, which ends so.
+// Filled to the end by a plan: the wanted book, which ends so, and nothing behind it.
 fn filled_to_end(
     z: ZoneFront,
     codes: &[u8; 72],
     values: &[f64; 600],
-    wanted: &[u8; SMALL],
+    wanted: &[u8; ROOM],
     end: BookState,
-    change: usize,
+    plan: Plan,
     taken: BookState,
-    b: &mut [u8; SMALL],
+    b: &mut [u8; ROOM],
 ) -> bool {
-    let filled = append_hours(z, codes, values, taken, taken.count, HOURS, change, b);
+    let filled = append_hours(z, codes, values, taken, taken.count, HOURS, plan, b);
     let same = same_bytes(b, wanted);
     let ended = same_book_states(filled.values, end);
     filled.wrong == 0 && same && ended
@@ -124,65 +127,66 @@ fn continued(
     z: ZoneFront,
     codes: &[u8; 72],
     values: &[f64; 600],
-    wanted: &[u8; SMALL],
+    wanted: &[u8; ROOM],
     end: BookState,
-    change: usize,
+    plan: Plan,
     cut: usize,
-    b: &mut [u8; SMALL],
+    b: &mut [u8; ROOM],
 ) -> bool {
     let r = book::take_up(nothing(), part(b, 0, cut));
-    let count = entries_of(cut);
+    let count = entries_of(small_plan(), cut);
     if !taken_right(r, count) {
         return false;
     }
     let taken = r.values;
-    if version_at(count, change) < taken.last_version {
-        return refused_behind(z, codes, values, taken, b);
+    let version = version_at(plan, count);
+    if version < taken.last_version {
+        return refused_behind(z, codes, values, taken, version, b);
     }
-    filled_to_end(z, codes, values, wanted, end, change, taken, b)
+    filled_to_end(z, codes, values, wanted, end, plan, taken, b)
 }
 
 fn cut_at(
     z: ZoneFront,
     codes: &[u8; 72],
     values: &[f64; 600],
-    whole: &[u8; SMALL],
-    wanted: &[u8; SMALL],
+    whole: &[u8; ROOM],
+    wanted: &[u8; ROOM],
     end: BookState,
-    change: usize,
+    plan: Plan,
     cut: usize,
 ) -> bool {
     if cut < HEAD {
         return cut_in_head(whole, cut);
     }
-    let mut b = [CUT_OFF; SMALL];
+    let mut b = [CUT_OFF; ROOM];
     copy(whole, &mut b, cut);
-    continued(z, codes, values, wanted, end, change, cut, &mut b)
+    continued(z, codes, values, wanted, end, plan, cut, &mut b)
 }
 
-// The small book `whole`, cut at each of the places and continued with version 2 from `change` on. It becomes `wanted`,
-// whose last append handed back `end`; but an hour that would pass back to version 1 is refused.
+// The small book `whole`, cut at each of the places and continued by a plan. It becomes `wanted`, whose last append handed back
+// `end`; but an hour that would pass back to an older version is refused.
 pub fn check_cuts(
+    places: Places,
     z: ZoneFront,
     codes: &[u8; 72],
     values: &[f64; 600],
-    whole: &[u8; SMALL],
-    wanted: &[u8; SMALL],
+    whole: &[u8; ROOM],
+    wanted: &[u8; ROOM],
     end: BookState,
-    change: usize,
-    places: Places,
-) -> Cuts {
+    plan: Plan,
+) -> Tally {
     let count = places.count;
     let mut right: u64 = 0;
     let mut cut = places.from;
     for _ in 0..count {
-        if cut_at(z, codes, values, whole, wanted, end, change, cut) {
+        if cut_at(z, codes, values, whole, wanted, end, plan, cut) {
             right = wrapping_add_u64(right, 1);
         }
         cut = wrapping_add_usize(cut, places.step);
     }
-    Cuts {
-        cuts: count as u64,
+    Tally {
+        all: count as u64,
         right,
     }
 }

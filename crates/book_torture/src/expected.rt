@@ -1,193 +1,122 @@
-// What take-up must answer of a small book with one byte changed, worked out from the head's reading, start-up and hour step, by
-// the place of the byte; a version byte by the plan of versions and by whether the hour was cooled.
-use crate::bytes::byte_at;
-use crate::bytes::part;
-use crate::bytes::put_byte;
+// What take-up must answer of a small book that was changed. Of a changed byte it is worked out by reading the book entry by entry;
+// of a version byte alone by the plan of versions and by whether the hour was cooled; of a rest by its length and version byte.
 use crate::bytes::read_f64_be;
-use crate::bytes::same_bytes;
-use crate::bytes::u64_of;
-use crate::bytes::write_f64_be;
-use crate::bytes::write_f64s_be;
-use crate::cuts::CHANGE;
 use crate::cuts::HOURS;
-use crate::house::CONDITIONS;
-use crate::house::CONDITIONS_PLACE;
-use crate::house::COOLING_PLACE;
-use crate::house::ENTRY;
-use crate::house::HEAD;
-use crate::house::HEATING_PLACE;
-use crate::house::VERSION_PLACE;
-use crate::house::place_of;
-use crate::year::last_version_of;
-use crate::year::version_at;
+use crate::cuts::small_plan;
+use crate::layout::COOLING;
+use crate::layout::FRONT;
+use crate::layout::HEAD;
+use crate::layout::entry_length;
+use crate::layout::results_place;
+use crate::plan::Plan;
+use crate::plan::entries_of;
+use crate::plan::last_version_of;
+use crate::plan::place_of;
+use crate::plan::version_at;
+use crate::walk::Walk;
+use crate::walk::walk_on;
+use crate::year::nothing;
 use std::num::wrapping_add_usize;
 use std::num::wrapping_sub_usize;
-use zone::AchToTriggerHeating;
-use zone::Demand;
-use zone::HourAnswer;
 use zone::State;
 use zone::Verdict;
 use zone::ZoneFront;
 
-const NODES: usize = 8;
-// Of an entry's results: behind heating, cooling and rate the trigger, its rate, and the temperatures.
-const TRIGGER: usize = 3 * 8;
-
-const TRIGGER_RATE: usize = TRIGGER + 1;
-
-const TEMPERATURES: usize = TRIGGER_RATE + 8;
-
-const RESULTS: usize = TEMPERATURES + 8 * NODES;
-
-// 0 and the last version, or number and index.
+// Number and index; of an acceptance 0, and the values that are handed back.
 pub struct Expected {
     pub number: u64,
     pub index: usize,
+    pub count: usize,
+    pub used: usize,
     pub last_version: u64,
-}
-
-fn put_trigger(b: &mut [u8; RESULTS], trigger: AchToTriggerHeating) {
-    match trigger {
-        AchToTriggerHeating::Absent => {}
-        AchToTriggerHeating::At(rate) => {
-            put_byte(b, TRIGGER, 1);
-            write_f64_be(b, TRIGGER_RATE, rate);
-        }
-    }
-}
-
-fn put_results(b: &mut [u8; RESULTS], d: Demand, s: State) {
-    let row = [d.space_heat_demand, d.space_cool_demand, d.ach_cooling];
-    let trigger = d.ach_to_trigger_heating;
-    let temps = s.temps;
-    write_f64s_be(b, 0, &row, 3);
-    put_trigger(b, trigger);
-    write_f64s_be(b, TEMPERATURES, &temps, NODES);
-}
-
-// The results of an hour as an entry holds them.
-fn results_of(d: Demand, s: State) -> [u8; RESULTS] {
-    let mut b = [0u8; RESULTS];
-    put_results(&mut b, d, s);
-    b
-}
-
-// Whether they stand in the entry.
-fn results_in(results: &[u8; RESULTS], entry: &[u8]) -> bool {
-    same_bytes(results, part(entry, HEATING_PLACE, RESULTS))
-}
-
-fn set_float(xs: &mut [f64; 121], at: usize, x: f64) {
-    if at < 121 {
-        xs[at] = x;
-    }
-}
-
-// The state after an entry, from its bytes.
-fn state_in(entry: &[u8]) -> State {
-    let mut temps = [0.0; 121];
-    let mut p = ENTRY - 8 * NODES;
-    for i in 0..NODES {
-        set_float(&mut temps, i, read_f64_be(entry, p));
-        p = wrapping_add_usize(p, 8);
-    }
-    State {
-        nodes: NODES,
-        temps,
-    }
-}
-
-// The state before an entry: start-up's before the first, else that of the entry before.
-fn state_before(
-    z: ZoneFront,
-    codes: &[u8; 72],
-    values: &[f64; 600],
-    b: &[u8],
-    entry: usize,
-) -> State {
-    if entry == 0 {
-        let s = zone::init_node_temps(z, codes, values);
-        return s.state;
-    }
-    state_in(part(b, place_of(wrapping_sub_usize(entry, 1)), ENTRY))
-}
-
-// Whether the hour step on the entry's conditions, in the entry's version, gives the results that stand in it.
-fn results_stand(
-    z: ZoneFront,
-    codes: &[u8; 72],
-    values: &[f64; 600],
-    before: State,
-    entry: &[u8],
-) -> bool {
-    let conditions = part(entry, CONDITIONS_PLACE, CONDITIONS);
-    let version = u64_of(byte_at(entry, VERSION_PLACE));
-    let x = before.hour_step(z, codes, values, conditions, version);
-    let answer = x.answer;
-    match answer {
-        HourAnswer::Refused {
-            number: _,
-            index: _,
-        } => false,
-        HourAnswer::Accepted(d, _) => {
-            let results = results_of(d, x.state);
-            results_in(&results, entry)
-        }
-    }
 }
 
 fn refused(number: u64, index: usize) -> Expected {
     Expected {
         number,
         index,
+        count: 0,
+        used: 0,
         last_version: 0,
     }
 }
 
-fn accepted(last_version: u64) -> Expected {
+pub fn accepted(count: usize, used: usize, last_version: u64) -> Expected {
     Expected {
         number: 0,
         index: 0,
+        count,
+        used,
         last_version,
     }
 }
 
-fn false_at(entry: usize) -> Expected {
+pub fn false_at(entry: usize) -> Expected {
     refused(18, entry)
 }
 
-// Every entry held, the last one in its own version.
-fn all_held() -> Expected {
-    accepted(version_at(HOURS - 1, CHANGE))
+// So many entries of a plan are held.
+pub fn held(plan: Plan, count: usize) -> Expected {
+    accepted(count, place_of(plan, count), last_version_of(plan, count))
 }
 
-// The versions share the power of a cooled hour differently; any other hour is the same under both.
-fn is_cooled(b: &[u8], entry: usize) -> bool {
-    read_f64_be(b, wrapping_add_usize(place_of(entry), COOLING_PLACE)) < 0.0
+// Versions 1 and 2 share the power of a cooled hour differently; any other hour is the same under both.
+fn is_cooled(b: &[u8], place: usize, version: u64) -> bool {
+    let cooling = wrapping_add_usize(results_place(version), COOLING);
+    read_f64_be(b, wrapping_add_usize(place, cooling)) < 0.0
 }
 
 // The entry is true in its new version: what the next one, in its own, makes of the book.
-fn expected_behind(change: usize, entry: usize, version: u64) -> Expected {
+fn expected_behind(plan: Plan, entry: usize, version: u64) -> Expected {
     let next = wrapping_add_usize(entry, 1);
     if HOURS <= next {
-        return accepted(version);
+        return accepted(HOURS, place_of(plan, HOURS), version);
     }
-    if version_at(next, change) < version {
+    if version_at(plan, next) < version {
         return false_at(next);
     }
-    accepted(version_at(HOURS - 1, change))
+    held(plan, HOURS)
 }
 
-// Of a small book whose hours have version 2 from `change` on, the version byte of an entry changed to this one.
-pub fn expected_with_version(b: &[u8], change: usize, entry: usize, version: u64) -> Expected {
-    let known = version == 1 || version == 2;
-    if !known || version < last_version_of(entry, change) || is_cooled(b, entry) {
+// In a version of the same length, which is not below the last and under which the hour is the same.
+fn may_be_true(b: &[u8], plan: Plan, entry: usize, version: u64) -> bool {
+    let own = version_at(plan, entry);
+    let cooled = is_cooled(b, place_of(plan, entry), own);
+    let same_length = entry_length(version) == entry_length(own);
+    same_length && last_version_of(plan, entry) <= version && !cooled
+}
+
+// Of a small book in the versions of a plan, the version byte of an entry changed to this one. Of a longer version than its own the
+// entry reaches into the next one, or past the end, and is dropped; of a shorter one it ends early. Its length is false in both.
+pub fn expected_with_version(b: &[u8], plan: Plan, entry: usize, version: u64) -> Expected {
+    let length = entry_length(version);
+    let rest = wrapping_sub_usize(place_of(plan, HOURS), place_of(plan, entry));
+    if length == 0 {
         return false_at(entry);
     }
-    expected_behind(change, entry, version)
+    if rest < length {
+        return held(plan, entry);
+    }
+    if may_be_true(b, plan, entry, version) {
+        return expected_behind(plan, entry, version);
+    }
+    false_at(entry)
 }
 
-// A byte of an entry changed: only its version or one of the conditions may leave the entry true.
+// Of so many bytes with this version byte behind a small book of so many hours. Whole or not, they are no entry.
+pub fn expected_of_rest(plan: Plan, count: usize, rest: usize, version: u64) -> Expected {
+    let length = entry_length(version);
+    let unknown = length == 0;
+    if rest < FRONT {
+        return held(plan, count);
+    }
+    if unknown || length <= rest {
+        return false_at(count);
+    }
+    held(plan, count)
+}
+
+// A byte of an entry changed: the entries before it are true, and the walk begins at its own.
 fn expected_in_entry(
     z: ZoneFront,
     codes: &[u8; 72],
@@ -195,41 +124,30 @@ fn expected_in_entry(
     b: &[u8],
     place: usize,
 ) -> Expected {
-    let behind = wrapping_sub_usize(place, HEAD);
-    let entry = behind / ENTRY;
-    let within = behind % ENTRY;
-    if within == VERSION_PLACE {
-        return expected_with_version(b, CHANGE, entry, u64_of(byte_at(b, place)));
-    }
-    if within < CONDITIONS_PLACE || HEATING_PLACE <= within {
-        return false_at(entry);
-    }
-    let before = state_before(z, codes, values, b, entry);
-    if results_stand(z, codes, values, before, part(b, place_of(entry), ENTRY)) {
-        all_held()
-    } else {
-        false_at(entry)
-    }
+    let plan = small_plan();
+    let entry = entries_of(plan, place);
+    let start = state_before(z, codes, values, entry);
+    walk_on(z, codes, values, start, b, walk_from(plan, entry))
 }
 
-// The first entry that another zone's hour step does not give.
-fn first_false(
-    z: ZoneFront,
-    codes: &[u8; 72],
-    values: &[f64; 600],
-    b: &[u8],
-    start: State,
-) -> Expected {
-    let mut found = all_held();
-    let mut before = start;
-    for entry in 0..HOURS {
-        let bytes = part(b, place_of(entry), ENTRY);
-        if found.number == 0 && !results_stand(z, codes, values, before, bytes) {
-            found = false_at(entry);
-        }
-        before = state_in(bytes);
+// Start-up's state, where an entry has none before it to read it from.
+fn state_before(z: ZoneFront, codes: &[u8; 72], values: &[f64; 600], entry: usize) -> State {
+    if entry == 0 {
+        let s = zone::init_node_temps(z, codes, values);
+        return s.state;
     }
-    found
+    nothing().state
+}
+
+// So many entries of a plan are true.
+fn walk_from(plan: Plan, entry: usize) -> Walk {
+    Walk {
+        at: place_of(plan, entry),
+        count: entry,
+        last_version: last_version_of(plan, entry),
+        ended: false,
+        is_false: false,
+    }
 }
 
 fn expected_with_zone(z: ZoneFront, codes: &[u8; 72], values: &[f64; 600], b: &[u8]) -> Expected {
@@ -237,7 +155,7 @@ fn expected_with_zone(z: ZoneFront, codes: &[u8; 72], values: &[f64; 600], b: &[
     let verdict = s.verdict;
     match verdict {
         Verdict::Refused { number, index } => refused(number as u64, index),
-        Verdict::Accepted => first_false(z, codes, values, b, s.state),
+        Verdict::Accepted => walk_on(z, codes, values, s.state, b, walk_from(small_plan(), 0)),
     }
 }
 

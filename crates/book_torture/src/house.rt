@@ -1,40 +1,14 @@
 // A house of two elements, a wall and a window with two treatments, and its hours.
 use crate::bytes::put_byte;
 use crate::bytes::write_f64s_be;
+use crate::layout::CONDITIONS;
+use crate::layout::HEAD;
 use std::num::nearest_u64_to_f64;
 use std::num::wrapping_add_usize;
-
-// Bytes of its head, of an hour's conditions and of an entry.
-pub const HEAD: usize = 367;
-
-pub const CONDITIONS: usize = 195;
-
-pub const ENTRY: usize = 297;
-// Where the parts of an entry begin: behind its length, version and conditions stand heating, cooling and rate.
-pub const VERSION_PLACE: usize = 4;
-
-pub const CONDITIONS_PLACE: usize = VERSION_PLACE + 1;
-
-pub const HEATING_PLACE: usize = CONDITIONS_PLACE + CONDITIONS;
-
-pub const COOLING_PLACE: usize = HEATING_PLACE + 8;
-
-pub const RATE_PLACE: usize = COOLING_PLACE + 8;
-
-// More entries than a book holds.
-const MANY: usize = 10000;
+use zone::Limits;
 
 // The hour of a year with which a book begins: a whole number of days.
 const FIRST_HOUR: usize = 3120;
-
-// Where an entry begins, which is also the used length of as many entries.
-pub fn place_of(entry: usize) -> usize {
-    if entry < MANY {
-        HEAD + ENTRY * entry
-    } else {
-        0
-    }
-}
 
 fn put_wall(b: &mut [u8; HEAD]) {
     let values = [20.0, 90.0, 20.0, 4.14, 5.13, 0.6, 15.0];
@@ -101,13 +75,26 @@ fn sun(hour: usize) -> f64 {
     if 0.0 < high { 800.0 * high } else { 0.0 }
 }
 
+// The second of every three days has windows that no setpoint opens.
+fn is_closed(hour: usize) -> bool {
+    hour / 24 % 3 == 1
+}
+
+// Low in the night; on a day with closed windows high in the morning, so that summer has heated hours too.
 fn set_back(hour: usize) -> f64 {
-    if hour % 24 < 7 { 16.0 } else { 20.5 }
+    let of_day = hour % 24;
+    if of_day < 7 {
+        16.0
+    } else if of_day < 10 && is_closed(hour) {
+        23.5
+    } else {
+        20.5
+    }
 }
 
 // None, or 22, day by day.
 fn ventilation(hour: usize) -> f64 {
-    if hour / 24 % 3 == 0 { 1.4e32 } else { 22.0 }
+    if is_closed(hour) { 1.4e32 } else { 22.0 }
 }
 
 fn put_rate(b: &mut [u8; CONDITIONS], hour: usize) {
@@ -164,4 +151,26 @@ pub fn conditions(hour: usize) -> [u8; CONDITIONS] {
     put_rate(&mut b, hour);
     put_parts(&mut b, outside, light, open_at(hour));
     b
+}
+
+// The plant of an hour: mostly one that is small, in some hours none, of either zero, or more than any hour asks for.
+pub fn limits_at(hour: usize) -> Limits {
+    match hour % 7 {
+        2 => Limits {
+            heating: 0.0,
+            cooling: -0.0,
+        },
+        4 => Limits {
+            heating: 1.0e7,
+            cooling: 1.0e7,
+        },
+        6 => Limits {
+            heating: -0.0,
+            cooling: 0.0,
+        },
+        _ => Limits {
+            heating: 200.0,
+            cooling: 350.0,
+        },
+    }
 }

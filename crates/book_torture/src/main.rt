@@ -1,15 +1,29 @@
-// Books cut and damaged. A small book and a whole year, which both pass from version 1 to version 2, are cut at every byte of some
-// entries and at 2,000 places spread over them, taken up, continued and compared with the book that was never cut; single bytes are
-// changed, version bytes among them.
+// Books cut and damaged. A small book and a whole year, which both pass from version 1 to version 2 and on to version 3, are cut at
+// every byte of some entries and at 2,000 places spread over them, taken up, continued and compared with the book that was never
+// cut; single bytes are changed, versions and limits among them, and bytes stand behind the books.
+mod appends;
 mod bytes;
 mod cuts;
 mod damage;
 mod expected;
+mod follows;
 mod full;
+mod full_changes;
+mod full_hours;
+mod held;
 mod house;
+mod layout;
+mod passes;
+mod plan;
 mod print;
+mod rests;
+mod rooms;
 mod small;
+mod small_changes;
+mod stored_limits;
+mod tally;
 mod versions;
+mod walk;
 mod year;
 
 fn main() {

@@ -34,3 +34,10 @@ pub fn count(what: &[u8], n: u64) {
     decimal(n);
     text(b"\n");
 }
+
+// Numbers within a line.
+pub fn numbered(before: &[u8], n: usize, after: &[u8]) {
+    text(before);
+    decimal(n as u64);
+    text(after);
+}

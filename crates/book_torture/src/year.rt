@@ -1,16 +1,15 @@
 // A book begun and filled hour by hour.
 use crate::bytes::bits_of;
 use crate::house::conditions;
+use crate::house::limits_at;
+use crate::plan::Plan;
+use crate::plan::version_at;
 use book::BookState;
 use book::Reply;
 use std::num::wrapping_add_u64;
-use std::num::wrapping_sub_usize;
 use zone::State;
 use zone::Verdict;
 use zone::ZoneFront;
-
-// A change that is behind every hour of a year: all entries are of version 1.
-pub const NEVER: usize = 10000;
 
 // What no call on these books hands back, so that what was given can be told from what was found.
 const MADE_UP_VERSION: u64 = 77;
@@ -23,19 +22,6 @@ const MADE_UP_USED: usize = 79;
 pub struct Filled {
     pub values: BookState,
     pub wrong: u64,
-}
-
-// The entry version of an hour: the hours before `change` have version 1, the others version 2.
-pub fn version_at(hour: usize, change: usize) -> u64 {
-    if hour < change { 1 } else { 2 }
-}
-
-// The last version of so many entries.
-pub fn last_version_of(count: usize, change: usize) -> u64 {
-    if count == 0 {
-        return 1;
-    }
-    version_at(wrapping_sub_usize(count, 1), change)
 }
 
 pub fn nothing() -> BookState {
@@ -80,7 +66,8 @@ fn append_hour(
     buf: &mut [u8],
 ) -> Filled {
     let c = conditions(hour);
-    let r = book::append(z, codes, values, filled.values, &c, version, buf);
+    let limits = limits_at(hour);
+    let r = book::append(z, codes, values, filled.values, &c, version, limits, buf);
     let after = r.values;
     if is_accepted(r) && after.last_version == version {
         Filled {
@@ -95,7 +82,7 @@ fn append_hour(
     }
 }
 
-// The hours `from` to `to` - 1, of version 2 from `change` on.
+// The hours `from` to `to` - 1, in the versions of a plan.
 pub fn append_hours(
     z: ZoneFront,
     codes: &[u8; 72],
@@ -103,7 +90,7 @@ pub fn append_hours(
     given: BookState,
     from: usize,
     to: usize,
-    change: usize,
+    plan: Plan,
     buf: &mut [u8],
 ) -> Filled {
     let mut filled = Filled {
@@ -111,25 +98,25 @@ pub fn append_hours(
         wrong: 0,
     };
     for hour in from..to {
-        let version = version_at(hour, change);
+        let version = version_at(plan, hour);
         filled = append_hour(z, codes, values, filled, hour, version, buf);
     }
     filled
 }
 
-// A book begun, which must hand back version 1, and filled with so many hours, of version 2 from `change` on.
+// A book begun, which must hand back version 1, and filled with so many hours, in the versions of a plan.
 pub fn begin_and_append(
     z: ZoneFront,
     codes: &[u8; 72],
     values: &[f64; 600],
     h: &[u8],
     hours: usize,
-    change: usize,
+    plan: Plan,
     buf: &mut [u8],
 ) -> Filled {
     let r = book::begin(nothing(), h, buf);
     let begun = r.values;
-    let filled = append_hours(z, codes, values, begun, 0, hours, change, buf);
+    let filled = append_hours(z, codes, values, begun, 0, hours, plan, buf);
     if is_accepted(r) && begun.last_version == 1 {
         return filled;
     }
@@ -154,14 +141,17 @@ fn same_temps(a: &[f64; 121], b: &[f64; 121]) -> bool {
     same
 }
 
-pub fn same_book_states(a: BookState, b: BookState) -> bool {
-    let s = a.state;
-    let t = b.state;
-    let x = s.temps;
-    let y = t.temps;
+pub fn same_states(a: State, b: State) -> bool {
+    let x = a.temps;
+    let y = b.temps;
     let same = same_temps(&x, &y);
+    same && a.nodes == b.nodes
+}
+
+pub fn same_book_states(a: BookState, b: BookState) -> bool {
+    let same = same_states(a.state, b.state);
     let counted = a.count == b.count && a.used == b.used;
-    same && s.nodes == t.nodes && counted && a.last_version == b.last_version
+    same && counted && a.last_version == b.last_version
 }
 
 // Refused so, with the values that were given.

@@ -12,11 +12,12 @@ use Rattle.zone.specs.Check.ZoneTest.{zoneTest}
 use Rattle.zone.specs.Inner.Head.{structuredHead, headIn}
 use Rattle.book.specs.Model.Calls as Book
 use Rattle.book.specs.Model.Session.{CallSpec}
-use Rattle.book.specs.Year.{Item, hour, Carried, yearInterface}
+use Rattle.book.specs.Year.{Item, hourItem, Carried, yearInterface}
 use Rattle.book.specs.Answers.{givenOf, replyIn, rustTypes}
 use Rattle.book.specs.declared.book.BookState.{BookState}
 use Rattle.book.specs.declared.book.Reply.{Reply}
 use Rattle.hem_zone.specs.Code.{refusalCode, answered}
+use Rattle.hem_zone.specs.Arrays.{limitsOf}
 use Rattle.hem_zone.specs.Book.{CBookState, bookStateOf, cBookStateOf, bookOut, hemBegin, hemAppend, hemTakeUp}
 use Rattle.hem_zone.proofs.Cases.{zone-refused, zone-accepted}
 use Rattle.hem_zone.proofs.Laws.Code.{answered-refused, answered-ok}
@@ -67,19 +68,22 @@ append-judges : (z : Zone) (a b : ℕ) → zoneTest z ≡ refused a b → (given
 unfolding Book.appendRes
 append-judges z a b q given i buf = rw q
 
-module _ (head : List ℕ) (h : Head) (codes : List ℕ) (values : List Float) (e : headIn h codes values ≡ structuredHead head) (conditions buf : List ℕ) (version : ℕ) (held : CBookState) where
-  pub append-no-head : (n j c : ℕ) → h .verdict ≡ Refused n j → c ≡ refusalCode n j → (c, (buf, held)) ≡ hemAppend head buf held conditions version
+module _ (head : List ℕ) (h : Head) (codes : List ℕ) (values : List Float) (e : headIn h codes values ≡ structuredHead head) (conditions buf : List ℕ) (version : ℕ) («heating_limit» «cooling_limit» : Float) (held : CBookState) where
+  abbrev item : Item
+  item = hourItem version conditions (limitsOf «heating_limit» «cooling_limit»)
+
+  pub append-no-head : (n j c : ℕ) → h .verdict ≡ Refused n j → c ≡ refusalCode n j → (c, (buf, held)) ≡ hemAppend head buf held conditions version «heating_limit» «cooling_limit»
   unfolding hemAppend
   append-no-head =
-      zone-refused head h codes values e bookOut (buf, held) (λ z. Book.appendRes yearInterface z (bookStateOf held) (hour version conditions) buf)
-      (λ z a b q. append-judges z a b q (bookStateOf held) (hour version conditions) buf)
+      zone-refused head h codes values e bookOut (buf, held) (λ z. Book.appendRes yearInterface z (bookStateOf held) item buf)
+      (λ z a b q. append-judges z a b q (bookStateOf held) item buf)
 
   pub append-of-head : (x : ℕ × (List ℕ × CBookState)) → h .verdict ≡ Accepted
-      → x ≡ answered bookOut (buf, held) (Book.appendRes yearInterface (zoneIn (h .zone) codes values) (bookStateOf held) (hour version conditions) buf) → x ≡ hemAppend head buf held conditions version
+      → x ≡ answered bookOut (buf, held) (Book.appendRes yearInterface (zoneIn (h .zone) codes values) (bookStateOf held) item buf) → x ≡ hemAppend head buf held conditions version «heating_limit» «cooling_limit»
   unfolding hemAppend
   append-of-head =
-      zone-accepted head h codes values e bookOut (buf, held) (λ z. Book.appendRes yearInterface z (bookStateOf held) (hour version conditions) buf)
-      (λ z a b q. append-judges z a b q (bookStateOf held) (hour version conditions) buf)
+      zone-accepted head h codes values e bookOut (buf, held) (λ z. Book.appendRes yearInterface z (bookStateOf held) item buf)
+      (λ z a b q. append-judges z a b q (bookStateOf held) item buf)
 
 pub ruleset append-head-cases = (append-no-head, append-of-head)
 

@@ -14,6 +14,7 @@ use Rattle.zone.specs.Inner.Lent.{zoneIn}
 use Rattle.zone.specs.Check.ZoneTest.{zoneTest, verdictOf}
 use Rattle.zone.specs.Inner.Head.{structuredHead, headIn}
 use Rattle.zone.specs.declared.physics.balance.HeatBalance.{HeatBalance}
+use Rattle.zone.specs.declared.format.limits.Limits.{Limits}
 use Rattle.zone.specs.declared.calls.state.State.{State}
 use Rattle.zone.specs.declared.calls.state.Demand.{Demand}
 use Rattle.zone.specs.declared.calls.state.DemandAnswer.the-variants as DemandAnswer
@@ -30,7 +31,7 @@ use Rattle.zone.specs.Calls.Hour.{demand, updateTemperatures, hourStep}
 use Rattle.zone.specs.Calls.StartUp.{initNodeTemps}
 use Rattle.zone.specs.Calls.Answers.{operativeReply, demandReply, updateReply, hourStepReply, startUpReply}
 use Rattle.hem_zone.specs.Code.{refusalCode, answerCode, answered}
-use Rattle.hem_zone.specs.Arrays.{stateIn, demandOut, balanceOut}
+use Rattle.hem_zone.specs.Arrays.{stateIn, demandOut, balanceOut, limitsOf}
 use Rattle.hem_zone.specs.Zone.{withZone, startUpOut, updateOut, hourOut, hemHead, hemStartUp, hemOperative, hemDemand, hemUpdate, hemHourStep}
 use Rattle.hem_zone.proofs.Laws.Code.{answered-refused, answered-ok}
 use Rattle.zone.proofs.Promise.{head-judged, head-wrong, head-fails, head-passes, start-up-judges, operative-judges, demand-judges, update-judges, hour-judges, verdict-accepted, verdict-refused}
@@ -92,20 +93,23 @@ module _ (head : List ℕ) (h : Head) (codes : List ℕ) (values : List Float) (
         demand-of-head =
             zone-accepted demandOut out (λ z. demand standardCoefficients z given conditions) (λ z a b q. demand-judges z a b q standardCoefficients given conditions)
 
-        module _ (version : ℕ) (balance : List Float) where
+        module _ (version : ℕ) («heating_limit» «cooling_limit» : Float) (balance : List Float) where
+          abbrev limits : Limits
+          limits = limitsOf «heating_limit» «cooling_limit»
+
           pub hour-no-head : (n j code : ℕ) → h .verdict ≡ Refused n j → code ≡ refusalCode n j
-              → (code, (temps, out, balance)) ≡ hemHourStep head temps nodes conditions version out balance
+              → (code, (temps, out, balance)) ≡ hemHourStep head temps nodes conditions version «heating_limit» «cooling_limit» out balance
           unfolding hemHourStep
           hour-no-head =
-              zone-refused hourOut (temps, out, balance) (λ z. hourStep standardCoefficients z version given conditions)
-              (λ z a b q. hour-judges z a b q standardCoefficients given conditions version)
+              zone-refused hourOut (temps, out, balance) (λ z. hourStep standardCoefficients z version limits given conditions)
+              (λ z a b q. hour-judges z a b q standardCoefficients given conditions version limits)
 
           pub hour-of-head : (x : ℕ × (List Float × List Float × List Float)) → h .verdict ≡ Accepted
-              → x ≡ answered hourOut (temps, out, balance) (hourStep standardCoefficients zone version given conditions) → x ≡ hemHourStep head temps nodes conditions version out balance
+              → x ≡ answered hourOut (temps, out, balance) (hourStep standardCoefficients zone version limits given conditions) → x ≡ hemHourStep head temps nodes conditions version «heating_limit» «cooling_limit» out balance
           unfolding hemHourStep
           hour-of-head =
-              zone-accepted hourOut (temps, out, balance) (λ z. hourStep standardCoefficients z version given conditions)
-              (λ z a b q. hour-judges z a b q standardCoefficients given conditions version)
+              zone-accepted hourOut (temps, out, balance) (λ z. hourStep standardCoefficients z version limits given conditions)
+              (λ z a b q. hour-judges z a b q standardCoefficients given conditions version limits)
 
       module _ (gains fraction rate : Float) (balance : List Float) where
         pub update-no-head : (n j code : ℕ) → h .verdict ≡ Refused n j → code ≡ refusalCode n j
@@ -189,9 +193,9 @@ module _ (z : Zone) (s : State) (temps : List Float) (nodes : ℕ) (p : s ≡ st
     update-accepted b balance v q =
         rw (← p) (answered-ok updateOut before _ (x .state, b) (x .state .temps, balance) (update-yes s _ x e b v) (rw q))
 
-  module _ (version : ℕ) (before : List Float × List Float × List Float) (x : HourStepReply) (e : x ≡ hourStepReply s (hourStep standardCoefficients z version s conditions)) where
+  module _ (version : ℕ) (l : Limits) (before : List Float × List Float × List Float) (x : HourStepReply) (e : x ≡ hourStepReply s (hourStep standardCoefficients z version l s conditions)) where
     abbrev Steps : ℕ × (List Float × List Float × List Float) → Type 0
-    Steps y = y ≡ answered hourOut before (hourStep standardCoefficients z version (stateIn temps nodes) conditions)
+    Steps y = y ≡ answered hourOut before (hourStep standardCoefficients z version l (stateIn temps nodes) conditions)
 
     pub hour-refused : (n j code : ℕ) → x .answer ≡ HourAnswer.Refused n j → code ≡ refusalCode n j → Steps (code, before)
     hour-refused n j code v q = rw (← p) (answered-refused hourOut before _ n j code q (hour-no s _ x e n j v))

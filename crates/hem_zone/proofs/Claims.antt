@@ -1,4 +1,4 @@
--- The claims of specs/Claims.antt, proved: every refusal has a number from 1 to 18 and an index of at most 8,783, so nothing of it is cut off.
+-- The claims of specs/Claims.antt, proved: every refusal has a number from 1 to 19 and an index of at most 8,783, so nothing of it is cut off.
 use Prim.Native.Nat.{ℕ, _+_, _*_, _%_, _/_}
 use mathlib.Core.Path.{_≡_, refl, ap}
 use mathlib.Core.List.{List, []}
@@ -9,10 +9,10 @@ use Rattle.zone.specs.declared.record.zone_record.Zone.{Zone}
 use Rattle.zone.specs.Record.BuildingElement.{standardCoefficients}
 use Rattle.zone.proofs.Claims.HeadRefusals.{head-refusals}
 use Rattle.zone.proofs.Claims.Refusals.{operative-refusals, demand-refusals, update-refusals, hour-step-refusals, start-up-refusals}
-use Rattle.book.specs.Year.{hour}
+use Rattle.book.specs.Year.{hourItem}
 use Rattle.book.proofs.Refusals.{begin-refusals, append-refusals, take-up-refusals}
 use Rattle.hem_zone.specs.Code.{refusalCode, answerCode, lentAfter, answered}
-use Rattle.hem_zone.specs.Arrays.{stateIn}
+use Rattle.hem_zone.specs.Arrays.{stateIn, limitsOf}
 use Rattle.hem_zone.specs.Zone.{withZone, hemHead, hemStartUp, hemOperative, hemDemand, hemUpdate, hemHourStep}
 use Rattle.hem_zone.specs.Book.{bookStateOf, hemBegin, hemAppend, hemTakeUp}
 use Rattle.hem_zone.specs.Claims.{AfterHead, ofHead, ofCall, ReturnCodeSpec, Answered, Claims}
@@ -47,7 +47,7 @@ module _ {P : ℕ → ℕ → Type 0} (numbered : (number index : ℕ) → P num
           index = i;
           is-refused = refl;
           allowed = p;
-          in-answer = record { from-1 = q .from-1; to-18 = q .to-18; room = omega (arith, q .few) };
+          in-answer = record { from-1 = q .from-1; to-19 = q .to-19; room = omega (arith, q .few) };
           exact = e;
           «HEM_NUMBER» = code-number n i q;
           «HEM_INDEX» = code-index n i q;
@@ -85,12 +85,12 @@ claims =
       «hem_update» = λ head temps nodes conditions gains fraction rate balance.
           answers (after-head-numbered update-numbered) _ _
           (with-zone-refuses head _ λ z. update-refusals standardCoefficients z (stateIn temps nodes) conditions gains fraction rate);
-      «hem_hour_step» = λ head temps nodes conditions version out balance.
+      «hem_hour_step» = λ head temps nodes conditions version «heating_limit» «cooling_limit» out balance.
           answers (after-head-numbered hour-numbered) _ _
-          (with-zone-refuses head _ λ z. hour-step-refusals standardCoefficients z (stateIn temps nodes) conditions version);
+          (with-zone-refuses head _ λ z. hour-step-refusals standardCoefficients z (stateIn temps nodes) conditions version (limitsOf «heating_limit» «cooling_limit»));
       «hem_begin» = λ head buf held. answers begin-numbered _ _ (begin-refusals head buf);
-      «hem_append» = λ head buf held conditions version.
+      «hem_append» = λ head buf held conditions version «heating_limit» «cooling_limit».
           answers (after-head-numbered (append-numbered (held .count))) _ _
-          (with-zone-refuses head _ λ z. append-refusals z (bookStateOf held) (hour version conditions) buf);
+          (with-zone-refuses head _ λ z. append-refusals z (bookStateOf held) (hourItem version conditions (limitsOf «heating_limit» «cooling_limit»)) buf);
       «hem_take_up» = λ bytes held. answers take-up-numbered _ _ (take-up-refusals bytes);
     }

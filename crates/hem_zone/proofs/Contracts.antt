@@ -8,14 +8,16 @@ use contract.Lifetimes.{Lfts}
 use denote.Ref.{now}
 use denote.Triple.Clauses.{AtExit}
 use borrow.Fn.Kinds.{Dens, endedOf}
+use lib.Ieee.{Float}
 use Rattle.zone.specs.Promise.{Result, ok, refused, bind}
 use Rattle.zone.specs.Format.Head.{ReadHead, headOf}
 use Rattle.zone.proofs.Claims.Head.{head-then}
 use Rattle.zone.specs.declared.record.zone_record.Zone.{Zone}
 use Rattle.book.specs.Model.Calls as Book
 use Rattle.book.specs.Model.Session.{CallSpec}
-use Rattle.book.specs.Year.{hour, Carried, yearInterface}
+use Rattle.book.specs.Year.{hourItem, Carried, yearInterface}
 use Rattle.hem_zone.specs.Code.{answerCode, lentAfter, answered}
+use Rattle.hem_zone.specs.Arrays.{limitsOf}
 use Rattle.hem_zone.specs.Zone.{withZone}
 use Rattle.hem_zone.specs.Book.{CBookState, cBookState, bookStateOf, cBookStateOf, bookOut, hemBegin, hemAppend, hemTakeUp}
 use Rattle.hem_zone.specs.BookTypes.{replyIn, cTypes}
@@ -45,19 +47,19 @@ pub begin-meets : (head buf : List ℕ) (held : CBookState) (c : ℕ) (out : Lis
 unfolding hemBegin Book.begin
 begin-meets head buf held c out after e = answered-meets held buf (Book.beginRes yearInterface head buf) c out after e
 
-append-of : (head buf : List ℕ) (held : CBookState) (conditions : List ℕ) (version : ℕ) (h : ReadHead Zone) (c : ℕ) (out : List ℕ) (after : CBookState) → headOf head ≡ ok h
-    → (c, (out, after)) ≡ hemAppend head buf held conditions version
-    → CallSpec yearInterface cTypes (c, after) out (Book.append yearInterface (h .zone) (bookStateOf held) (hour version conditions) buf)
+append-of : (head buf : List ℕ) (held : CBookState) (conditions : List ℕ) (version : ℕ) («heating_limit» «cooling_limit» : Float) (h : ReadHead Zone) (c : ℕ) (out : List ℕ) (after : CBookState) → headOf head ≡ ok h
+    → (c, (out, after)) ≡ hemAppend head buf held conditions version «heating_limit» «cooling_limit»
+    → CallSpec yearInterface cTypes (c, after) out (Book.append yearInterface (h .zone) (bookStateOf held) (hourItem version conditions (limitsOf «heating_limit» «cooling_limit»)) buf)
 unfolding hemAppend withZone Book.append
-append-of head buf held conditions version h c out after k e =
-    answered-meets held buf (Book.appendRes yearInterface (h .zone) (bookStateOf held) (hour version conditions) buf) c out after
-    (e ∙ ap (λ t. answered bookOut (buf, held) (bind t λ x. Book.appendRes yearInterface (x .zone) (bookStateOf held) (hour version conditions) buf)) k)
+append-of head buf held conditions version «heating_limit» «cooling_limit» h c out after k e =
+    answered-meets held buf (Book.appendRes yearInterface (h .zone) (bookStateOf held) (hourItem version conditions (limitsOf «heating_limit» «cooling_limit»)) buf) c out after
+    (e ∙ ap (λ t. answered bookOut (buf, held) (bind t λ x. Book.appendRes yearInterface (x .zone) (bookStateOf held) (hourItem version conditions (limitsOf «heating_limit» «cooling_limit»)) buf)) k)
 
 -- the head handed in is the book's own, as it stands at the front of its used bytes, with any bytes behind it
-pub append-meets : (used behind buf : List ℕ) (h : ReadHead Zone) (held : CBookState) (conditions : List ℕ) (version c : ℕ) (out : List ℕ) (after : CBookState) → headOf used ≡ ok h
-    → (c, (out, after)) ≡ hemAppend (take (h .length) used ++ behind) buf held conditions version
-    → CallSpec yearInterface cTypes (c, after) out (Book.append yearInterface (h .zone) (bookStateOf held) (hour version conditions) buf)
-append-meets used behind buf h held conditions version c out after k e = append-of (take (h .length) used ++ behind) buf held conditions version h c out after (head-then used behind h k) e
+pub append-meets : (used behind buf : List ℕ) (h : ReadHead Zone) (held : CBookState) (conditions : List ℕ) (version : ℕ) («heating_limit» «cooling_limit» : Float) (c : ℕ) (out : List ℕ) (after : CBookState) → headOf used ≡ ok h
+    → (c, (out, after)) ≡ hemAppend (take (h .length) used ++ behind) buf held conditions version «heating_limit» «cooling_limit»
+    → CallSpec yearInterface cTypes (c, after) out (Book.append yearInterface (h .zone) (bookStateOf held) (hourItem version conditions (limitsOf «heating_limit» «cooling_limit»)) buf)
+append-meets used behind buf h held conditions version «heating_limit» «cooling_limit» c out after k e = append-of (take (h .length) used ++ behind) buf held conditions version «heating_limit» «cooling_limit» h c out after (head-then used behind h k) e
 
 pub take-up-is : (bytes : List ℕ) (held : CBookState) → hemTakeUp bytes held ≡ replyIn (Book.takeUp yearInterface (bookStateOf held) bytes)
 unfolding hemTakeUp Book.takeUp
@@ -78,7 +80,7 @@ module _ (κs : Lfts 7) (a : Dens κs begin-kinds.ps) (r : ℕ) (e : AtExit (end
       → CallSpec yearInterface cTypes (r, begin-left) (now (e .1 .0)) (Book.begin yearInterface (now (a .0)) (bookStateOf begin-given) (now (a .1 .0)))
   begin-ensures p = begin-meets _ _ _ _ _ _ p
 
--- fn hem_append(head, buf, temps, nodes, count, used, last_version, conditions, version). The head handed in is the book's own, as it stands at the front of its used bytes,
+-- fn hem_append(head, buf, temps, nodes, count, used, last_version, conditions, version, heating_limit, cooling_limit). The head handed in is the book's own, as it stands at the front of its used bytes,
 -- with any bytes behind it.
 module _ (κs : Lfts 8) (a : Dens κs append-kinds.ps) (r : ℕ) (e : AtExit (endedOf 8 append-kinds.ps append-kinds.r) κs) where
   abbrev append-given : CBookState
@@ -88,8 +90,8 @@ module _ (κs : Lfts 8) (a : Dens κs append-kinds.ps) (r : ℕ) (e : AtExit (en
   append-left = cBookState (now (e .1 .1 .0)) (now (e .1 .1 .1 .0)) (now (e .1 .1 .1 .1 .0)) (now (e .1 .1 .1 .1 .1 .0)) (now (e .1 .1 .1 .1 .1 .1 .0))
 
   pub append-ensures : (used behind : List ℕ) (h : ReadHead Zone) → headOf used ≡ ok h → now (a .0) ≡ take (h .length) used ++ behind → append-reads.Post κs a r e
-      → CallSpec yearInterface cTypes (r, append-left) (now (e .1 .0)) (Book.append yearInterface (h .zone) (bookStateOf append-given) (hour (a .1 .1 .1 .1 .1 .1 .1 .1 .0) (now (a .1 .1 .1 .1 .1 .1 .1 .0))) (now (a .1 .0)))
-  append-ensures used behind h k q p = append-of _ _ _ _ _ h _ _ _ (ap headOf q ∙ head-then used behind h k) p
+      → CallSpec yearInterface cTypes (r, append-left) (now (e .1 .0)) (Book.append yearInterface (h .zone) (bookStateOf append-given) (hourItem (a .1 .1 .1 .1 .1 .1 .1 .1 .0) (now (a .1 .1 .1 .1 .1 .1 .1 .0)) (limitsOf (a .1 .1 .1 .1 .1 .1 .1 .1 .1 .0) (a .1 .1 .1 .1 .1 .1 .1 .1 .1 .1 .0))) (now (a .1 .0)))
+  append-ensures used behind h k q p = append-of _ _ _ _ _ _ _ h _ _ _ (ap headOf q ∙ head-then used behind h k) p
 
 -- fn hem_take_up(bytes, temps, nodes, count, used, last_version)
 module _ (κs : Lfts 6) (a : Dens κs take-up-kinds.ps) (r : ℕ) (e : AtExit (endedOf 6 take-up-kinds.ps take-up-kinds.r) κs) where

@@ -11,7 +11,9 @@ use Rattle.zone.proofs.Claims.Versions as Hours
 use Rattle.zone.proofs.Claims.NodeOrder.{node-order}
 use Rattle.zone.proofs.Claims.HouseP.{house-p, claim}
 use Rattle.book.proofs.Demand3.{year-claims}
-use Rattle.book.proofs.HouseP.{begin-of-p, book-of-p, book-of-p-2}
+use Rattle.book.proofs.Rests.{rest-claims}
+use Rattle.book.proofs.PlantLimits.{plant-claims, limits-apart}
+use Rattle.book.proofs.HouseP.{begin-of-p, books-of-p}
 use Rattle.book.proofs.Refusals.{book-refusals}
 use Rattle.book.proofs.VersionOrder as Order
 use Rattle.hem_zone.specs.Demands.{Demands}
@@ -58,12 +60,14 @@ demands =
         from-any-book = C.session-from;
         refusals = book-refusals;
         versions = Order.version-claims;
+        rests = rest-claims;
+        limits = plant-claims;
+        limits-apart = limits-apart;
         books = year-claims;
       };
       node-order = node-order;
       house-p = house-p;
       rows = claim;
       begin-of-p = begin-of-p;
-      book-of-p = book-of-p;
-      book-of-p-2 = book-of-p-2;
+      books-of-p = books-of-p;
     }

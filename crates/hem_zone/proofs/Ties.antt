@@ -40,21 +40,21 @@ pub record Ties : Type 0 where
       (κs : Lfts 4) → Tied (update-reads.Pre κs) (update-reads.Post κs)
       (λ r e. (r, (now (e .1 .0), now (e .1 .1 .1 .1 .1 .1 .1 .0))))
       (λ a. hemUpdate (now (a .0)) (now (a .1 .0)) (a .1 .1 .0) (now (a .1 .1 .1 .0)) (a .1 .1 .1 .1 .0) (a .1 .1 .1 .1 .1 .0) (a .1 .1 .1 .1 .1 .1 .0) (now (a .1 .1 .1 .1 .1 .1 .1 .0)))
-  -- fn hem_hour_step(head, temps, nodes, conditions, version, out, balance)
+  -- fn hem_hour_step(head, temps, nodes, conditions, version, heating_limit, cooling_limit, out, balance)
   pub «hem_hour_step» :
       (κs : Lfts 5) → Tied (hour-step-reads.Pre κs) (hour-step-reads.Post κs)
-      (λ r e. (r, (now (e .1 .0), now (e .1 .1 .1 .1 .1 .0), now (e .1 .1 .1 .1 .1 .1 .0))))
-      (λ a. hemHourStep (now (a .0)) (now (a .1 .0)) (a .1 .1 .0) (now (a .1 .1 .1 .0)) (a .1 .1 .1 .1 .0) (now (a .1 .1 .1 .1 .1 .0)) (now (a .1 .1 .1 .1 .1 .1 .0)))
+      (λ r e. (r, (now (e .1 .0), now (e .1 .1 .1 .1 .1 .1 .1 .0), now (e .1 .1 .1 .1 .1 .1 .1 .1 .0))))
+      (λ a. hemHourStep (now (a .0)) (now (a .1 .0)) (a .1 .1 .0) (now (a .1 .1 .1 .0)) (a .1 .1 .1 .1 .0) (a .1 .1 .1 .1 .1 .0) (a .1 .1 .1 .1 .1 .1 .0) (now (a .1 .1 .1 .1 .1 .1 .1 .0)) (now (a .1 .1 .1 .1 .1 .1 .1 .1 .0)))
   -- fn hem_begin(head, buf, temps, nodes, count, used, last_version)
   pub «hem_begin» :
       (κs : Lfts 7) → Tied (begin-reads.Pre κs) (begin-reads.Post κs)
       (λ r e. (r, (now (e .1 .0), cBookState (now (e .1 .1 .0)) (now (e .1 .1 .1 .0)) (now (e .1 .1 .1 .1 .0)) (now (e .1 .1 .1 .1 .1 .0)) (now (e .1 .1 .1 .1 .1 .1 .0)))))
       (λ a. hemBegin (now (a .0)) (now (a .1 .0)) (cBookState (now (a .1 .1 .0)) (now (a .1 .1 .1 .0)) (now (a .1 .1 .1 .1 .0)) (now (a .1 .1 .1 .1 .1 .0)) (now (a .1 .1 .1 .1 .1 .1 .0))))
-  -- fn hem_append(head, buf, temps, nodes, count, used, last_version, conditions, version)
+  -- fn hem_append(head, buf, temps, nodes, count, used, last_version, conditions, version, heating_limit, cooling_limit)
   pub «hem_append» :
       (κs : Lfts 8) → Tied (append-reads.Pre κs) (append-reads.Post κs)
       (λ r e. (r, (now (e .1 .0), cBookState (now (e .1 .1 .0)) (now (e .1 .1 .1 .0)) (now (e .1 .1 .1 .1 .0)) (now (e .1 .1 .1 .1 .1 .0)) (now (e .1 .1 .1 .1 .1 .1 .0)))))
-      (λ a. hemAppend (now (a .0)) (now (a .1 .0)) (cBookState (now (a .1 .1 .0)) (now (a .1 .1 .1 .0)) (now (a .1 .1 .1 .1 .0)) (now (a .1 .1 .1 .1 .1 .0)) (now (a .1 .1 .1 .1 .1 .1 .0))) (now (a .1 .1 .1 .1 .1 .1 .1 .0)) (a .1 .1 .1 .1 .1 .1 .1 .1 .0))
+      (λ a. hemAppend (now (a .0)) (now (a .1 .0)) (cBookState (now (a .1 .1 .0)) (now (a .1 .1 .1 .0)) (now (a .1 .1 .1 .1 .0)) (now (a .1 .1 .1 .1 .1 .0)) (now (a .1 .1 .1 .1 .1 .1 .0))) (now (a .1 .1 .1 .1 .1 .1 .1 .0)) (a .1 .1 .1 .1 .1 .1 .1 .1 .0) (a .1 .1 .1 .1 .1 .1 .1 .1 .1 .0) (a .1 .1 .1 .1 .1 .1 .1 .1 .1 .1 .0))
   -- fn hem_take_up(bytes, temps, nodes, count, used, last_version)
   pub «hem_take_up» :
       (κs : Lfts 6) → Tied (take-up-reads.Pre κs) (take-up-reads.Post κs)

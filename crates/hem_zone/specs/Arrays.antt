@@ -1,4 +1,4 @@
--- States, demands and heat balances in the arrays of C.
+-- States, limits, demands and heat balances as C has them.
 use Prim.Native.Nat.{ℕ}
 use mathlib.Core.List.{List, [], _∷_, _++_}
 use lib.Ieee.{Float}
@@ -7,6 +7,7 @@ use Rattle.zone.specs.declared.physics.balance.HeatBalance.{HeatBalance}
 use Rattle.zone.specs.declared.physics.balance.HeatBalanceAirNode.{HeatBalanceAirNode}
 use Rattle.zone.specs.declared.physics.balance.HeatBalanceInternalBoundary.{HeatBalanceInternalBoundary}
 use Rattle.zone.specs.declared.physics.balance.HeatBalanceExternalBoundary.{HeatBalanceExternalBoundary}
+use Rattle.zone.specs.declared.format.limits.Limits.{Limits}
 use Rattle.zone.specs.declared.calls.state.State.{State}
 use Rattle.zone.specs.declared.calls.state.Demand.{Demand}
 use Rattle.zone.specs.declared.calls.state.AchToTriggerHeating.{AchToTriggerHeating}
@@ -15,6 +16,10 @@ use Rattle.zone.specs.declared.calls.state.AchToTriggerHeating.the-variants.{Ab
 -- `temps[121]`, of which `nodes` count
 abbrev pub stateIn : (temps : List Float) → (nodes : ℕ) → State
 stateIn temps nodes = record { nodes = nodes; temps = temps }
+
+-- the limits of a call, in watts
+abbrev pub limitsOf : («heating_limit» «cooling_limit» : Float) → Limits
+limitsOf «heating_limit» «cooling_limit» = record { heating = «heating_limit»; cooling = «cooling_limit» }
 
 -- trigger 0.0 or 1.0, trigger rate (0.0 if none)
 abbrev pub triggerOut : AchToTriggerHeating → List Float

@@ -4,9 +4,9 @@ use Prim.Native.Nat.{ℕ}
 use mathlib.Core.List.{List}
 use lib.Ieee.{Float}
 use Rattle.book.specs.Model.Calls as Book
-use Rattle.book.specs.Year.{hour, Carried, carried, yearInterface}
+use Rattle.book.specs.Year.{hourItem, Carried, carried, yearInterface}
 use Rattle.hem_zone.specs.Code.{answered}
-use Rattle.hem_zone.specs.Arrays.{stateIn}
+use Rattle.hem_zone.specs.Arrays.{stateIn, limitsOf}
 use Rattle.hem_zone.specs.Zone.{withZone}
 
 -- what a caller holds of a book, by the names of the C parameters
@@ -38,10 +38,11 @@ hemBegin head buf held =
     (Book.beginRes yearInterface head buf)
 
 -- the zone is that of the given head, the hour's version the one that the call names, 64 bits wide
-unfoldable pub hemAppend : (head buf : List ℕ) → CBookState → (conditions : List ℕ) → (version : ℕ) → ℕ × (List ℕ × CBookState)
-hemAppend head buf held conditions version =
+unfoldable pub hemAppend : (head buf : List ℕ) → CBookState → (conditions : List ℕ) → (version : ℕ) → («heating_limit» «cooling_limit» : Float)
+    → ℕ × (List ℕ × CBookState)
+hemAppend head buf held conditions version «heating_limit» «cooling_limit» =
     answered bookOut (buf, held)
-    (withZone head λ z. Book.appendRes yearInterface z (bookStateOf held) (hour version conditions) buf)
+    (withZone head λ z. Book.appendRes yearInterface z (bookStateOf held) (hourItem version conditions (limitsOf «heating_limit» «cooling_limit»)) buf)
 
 unfoldable pub hemTakeUp : (bytes : List ℕ) → CBookState → ℕ × CBookState
 hemTakeUp bytes held =

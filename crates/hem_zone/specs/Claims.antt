@@ -14,10 +14,10 @@ use Rattle.zone.specs.Calls.Hour.{demand, updateTemperatures, hourStep}
 use Rattle.zone.specs.Calls.StartUp.{initNodeTemps}
 use Rattle.zone.specs.Claims.Refusals.{OperativeRefusal, DemandRefusal, HourRefusal, UpdateRefusal, StartUpRefusal}
 use Rattle.book.specs.Model.Calls as Book
-use Rattle.book.specs.Year.{hour, yearInterface}
+use Rattle.book.specs.Year.{hourItem, yearInterface}
 use Rattle.book.specs.Refusals.{BeginRefusal, AppendRefusal, TakeUpRefusal}
 use Rattle.hem_zone.specs.Code.{refusalCode}
-use Rattle.hem_zone.specs.Arrays.{stateIn, demandOut}
+use Rattle.hem_zone.specs.Arrays.{stateIn, demandOut, limitsOf}
 use Rattle.hem_zone.specs.Zone.{withZone, hemHead, startUpOut, hemStartUp, hemOperative, hemDemand, updateOut, hemUpdate, hourOut, hemHourStep}
 use Rattle.hem_zone.specs.Book.{CBookState, bookStateOf, cBookStateOf, bookOut, hemBegin, hemAppend, hemTakeUp}
 
@@ -26,10 +26,10 @@ pub data AfterHead (P : (number index : ℕ) → Type 0) : (number index : ℕ) 
   ofHead : {number index : ℕ} → HeadRefusal number index → AfterHead P number index
   ofCall : {number index : ℕ} → P number index → AfterHead P number index
 
--- a number of document 01, and an index for which the 32 bits of an answer have room beside it
+-- a number of the papers, and an index for which the 32 bits of an answer have room beside it
 pub record InAnswer (number index : ℕ) : Type 0 where
   pub from-1 : 1 ≤ number
-  pub to-18 : number ≤ 18
+  pub to-19 : number ≤ 19
   pub room : index < 16777216
 
 -- Replies are told apart: no refusal is returned as acceptance is, and two that are returned as one number are one refusal
@@ -79,13 +79,15 @@ pub record Claims : Type 0 where
       (withZone head λ z. updateTemperatures standardCoefficients z (stateIn temps nodes) conditions gains fraction rate)
       (hemUpdate head temps nodes conditions gains fraction rate balance)
   pub «hem_hour_step» :
-      (head : List ℕ) (temps : List Float) (nodes : ℕ) (conditions : List ℕ) (version : ℕ) (out balance : List Float)
-      → Answered (AfterHead HourRefusal) hourOut (temps, out, balance) (withZone head λ z. hourStep standardCoefficients z version (stateIn temps nodes) conditions)
-      (hemHourStep head temps nodes conditions version out balance)
+      (head : List ℕ) (temps : List Float) (nodes : ℕ) (conditions : List ℕ) (version : ℕ) («heating_limit» «cooling_limit» : Float) (out balance : List Float)
+      → Answered (AfterHead HourRefusal) hourOut (temps, out, balance)
+      (withZone head λ z. hourStep standardCoefficients z version (limitsOf «heating_limit» «cooling_limit») (stateIn temps nodes) conditions)
+      (hemHourStep head temps nodes conditions version «heating_limit» «cooling_limit» out balance)
   pub «hem_begin» :
       (head buf : List ℕ) (held : CBookState) → Answered BeginRefusal bookOut (buf, held) (Book.beginRes yearInterface head buf) (hemBegin head buf held)
   pub «hem_append» :
-      (head buf : List ℕ) (held : CBookState) (conditions : List ℕ) (version : ℕ)
-      → Answered (AfterHead (AppendRefusal (held .count))) bookOut (buf, held) (withZone head λ z. Book.appendRes yearInterface z (bookStateOf held) (hour version conditions) buf)
-      (hemAppend head buf held conditions version)
+      (head buf : List ℕ) (held : CBookState) (conditions : List ℕ) (version : ℕ) («heating_limit» «cooling_limit» : Float)
+      → Answered (AfterHead (AppendRefusal (held .count))) bookOut (buf, held)
+      (withZone head λ z. Book.appendRes yearInterface z (bookStateOf held) (hourItem version conditions (limitsOf «heating_limit» «cooling_limit»)) buf)
+      (hemAppend head buf held conditions version «heating_limit» «cooling_limit»)
   pub «hem_take_up» : (bytes : List ℕ) (held : CBookState) → Answered TakeUpRefusal cBookStateOf held (Book.takeUpRes yearInterface bytes) (hemTakeUp bytes held)

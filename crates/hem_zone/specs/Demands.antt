@@ -6,6 +6,8 @@ use mathlib.Core.Bool.{Bool, true}
 use mathlib.Core.List.{List, _++_}
 use lib.ListN.{take}
 use Prim.Native.Nat.{ℕ}
+use lib.Ieee.{Float}
+use Rattle.zone.specs.declared.format.limits.Limits.{Limits}
 use Rattle.zone.specs.declared.record.zone_record.Zone.{Zone}
 use Rattle.zone.specs.Promise.{ok}
 use Rattle.zone.specs.declared.calls.state.State.{State}
@@ -24,10 +26,13 @@ use Rattle.book.specs.Model.Plain.{empty, book, WellFormed}
 use Rattle.book.specs.Model.Calls as Calls
 use Rattle.book.specs.Model.Session.{CallSpec}
 use Rattle.book.specs.Model.Claims as Book
-use Rattle.book.specs.HouseP.{BeginOfP, BookOfP}
+use Rattle.book.specs.HouseP.{BeginOfP, BooksOfP}
 use Rattle.book.specs.Refusals.{BookRefusals}
 use Rattle.book.specs.VersionOrder as Order
-use Rattle.book.specs.Year.{hour, yearInterface}
+use Rattle.book.specs.Rests.{RestClaims}
+use Rattle.book.specs.PlantLimits.{PlantClaims, LimitsApart}
+use Rattle.book.specs.Year.{Carried, hourItem, yearInterface}
+use Rattle.hem_zone.specs.Arrays.{limitsOf}
 use Rattle.hem_zone.specs.Claims.{Claims, ToldApart}
 use Rattle.hem_zone.specs.Book.{CBookState, bookStateOf, hemBegin, hemAppend, hemTakeUp}
 use Rattle.hem_zone.specs.BookTypes.{replyIn, cTypes}
@@ -65,7 +70,8 @@ pub record Demand2 (z : Zone) : Type 0 where
   pub is-not-settled : StartUpIsNotSettled standardCoefficients z
   pub settled : StartUpSettled standardCoefficients z
   pub is-settled : StartUpIsSettled standardCoefficients z
-  -- version 1's hour is document 01's, version 2's has the cooling fraction for power below 0, any other version is 18,
+  -- version 1's hour is document 01's, version 2's has the cooling fraction for power below 0, version 3's a limit on what is delivered or 19, any other
+  -- version is 18,
   pub versions : (s : State) (bytes : List ℕ) → Hours.VersionClaims standardCoefficients z s bytes
   -- and a state that is handed back is the given one where a call is refused, and is taken by the next call.
   pub kept : StateKept
@@ -80,18 +86,23 @@ pub record Demand3 : Type 1 where
   -- what the definitions of these three functions leave is what such a list has of their calls;
   pub begin-meets : (head buf : List ℕ) (held : CBookState) (c : ℕ) (out : List ℕ) (after : CBookState) → (c, (out, after)) ≡ hemBegin head buf held
       → CallSpec yearInterface cTypes (c, after) out (Calls.begin yearInterface head (bookStateOf held) buf)
-  pub append-meets : (used behind buf : List ℕ) (h : ReadHead Zone) (held : CBookState) (conditions : List ℕ) (version c : ℕ) (out : List ℕ) (after : CBookState) → headOf used ≡ ok h
-      → (c, (out, after)) ≡ hemAppend (take (h .length) used ++ behind) buf held conditions version
-      → CallSpec yearInterface cTypes (c, after) out (Calls.append yearInterface (h .zone) (bookStateOf held) (hour version conditions) buf)
+  pub append-meets : (used behind buf : List ℕ) (h : ReadHead Zone) (held : CBookState) (conditions : List ℕ) (version : ℕ) («heating_limit» «cooling_limit» : Float)
+      (c : ℕ) (out : List ℕ) (after : CBookState) → headOf used ≡ ok h
+      → (c, (out, after)) ≡ hemAppend (take (h .length) used ++ behind) buf held conditions version «heating_limit» «cooling_limit»
+      → CallSpec yearInterface cTypes (c, after) out (Calls.append yearInterface (h .zone) (bookStateOf held) (hourItem version conditions (limitsOf «heating_limit» «cooling_limit»)) buf)
   pub take-up-is : (bytes : List ℕ) (held : CBookState) → hemTakeUp bytes held ≡ replyIn (Calls.takeUp yearInterface (bookStateOf held) bytes)
   -- and what they leave in `temps`, `nodes`, `count`, `used` and `last_version` is what the next call on the book is given;
   pub handed-on : Book.HandedOn yearInterface cTypes (λ r. r .1)
   -- the lists that this speaks of are all those whose calls may be made, starting with no book or with any that is held;
   pub every-list : Book.SessionFrom yearInterface cTypes empty
   pub from-any-book : (head : List ℕ) (is : List (yearInterface .Item)) → WellFormed yearInterface head is → Book.SessionFrom yearInterface cTypes (book head is)
-  -- their refusals are the paper's; versions never fall, and where 18 comes for one; and what else is claimed of books.
+  -- their refusals are the paper's; versions never fall, and where 18 comes for one; which rest of the bytes a take-up drops; an append is the hour step with
+  -- the limits that it names, and ends as version 2's where its power is within them; books tell limits apart; and what else is claimed of books.
   pub refusals : BookRefusals
   pub versions : Order.VersionClaims
+  pub rests : (head : List ℕ) (is : List (yearInterface .Item)) (S : WellFormed yearInterface head is) → RestClaims head is S
+  pub limits : (z : Zone) (given : Calls.BookState Carried) (conditions buf : List ℕ) (l : Limits) → PlantClaims z given conditions buf l
+  pub limits-apart : LimitsApart
   pub books : Book.Claims yearInterface
 
 pub record Demands (Ties : Type 0) : Type 1 where
@@ -104,5 +115,4 @@ pub record Demands (Ties : Type 0) : Type 1 where
   pub house-p : HousePClaims
   pub rows : allHold table ≡ true
   pub begin-of-p : BeginOfP
-  pub book-of-p : BookOfP 1
-  pub book-of-p-2 : BookOfP 2
+  pub books-of-p : BooksOfP

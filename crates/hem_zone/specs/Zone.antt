@@ -13,7 +13,7 @@ use Rattle.zone.specs.Calls.State.{operative}
 use Rattle.zone.specs.Calls.Hour.{HourResult, demand, updateTemperatures, hourStep}
 use Rattle.zone.specs.Calls.StartUp.{initNodeTemps}
 use Rattle.hem_zone.specs.Code.{answerCode, answered}
-use Rattle.hem_zone.specs.Arrays.{stateIn, demandOut, balanceOut}
+use Rattle.hem_zone.specs.Arrays.{stateIn, limitsOf, demandOut, balanceOut}
 
 -- a call on the zone of a head
 unfoldable pub withZone : {A : Type 0} → (head : List ℕ) → (Zone → Result A) → Result A
@@ -59,8 +59,8 @@ hourOut r = (r .state .temps, demandOut (r .demand), balanceOut (r .balance))
 
 -- the entry version is the one that the call names, 64 bits wide
 unfoldable pub hemHourStep :
-    (head : List ℕ) → (temps : List Float) → (nodes : ℕ) → (conditions : List ℕ) → (version : ℕ) → (out balance : List Float)
+    (head : List ℕ) → (temps : List Float) → (nodes : ℕ) → (conditions : List ℕ) → (version : ℕ) → («heating_limit» «cooling_limit» : Float) → (out balance : List Float)
     → ℕ × (List Float × List Float × List Float)
-hemHourStep head temps nodes conditions version out balance =
+hemHourStep head temps nodes conditions version «heating_limit» «cooling_limit» out balance =
     answered hourOut (temps, out, balance)
-    (withZone head λ z. hourStep standardCoefficients z version (stateIn temps nodes) conditions)
+    (withZone head λ z. hourStep standardCoefficients z version (limitsOf «heating_limit» «cooling_limit») (stateIn temps nodes) conditions)

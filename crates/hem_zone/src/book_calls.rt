@@ -5,13 +5,14 @@ use book::BookState;
 use book::append;
 use book::begin;
 use book::take_up;
+use zone::Limits;
 use zone::Verdict;
 use zone::ZoneFront;
 use zone::read_head;
 ghost use mathlib.Core.Path.{_≡_};
 ghost use Rattle.zone.specs.Inner.Lent.{zoneIn};
 ghost use Rattle.book.specs.Model.Calls as Book;
-ghost use Rattle.book.specs.Year.{hour, yearInterface};
+ghost use Rattle.book.specs.Year.{hourItem, yearInterface};
 ghost use Rattle.book.specs.Answers.{givenOf};
 ghost use Rattle.hem_zone.specs.Code.{answered};
 ghost use Rattle.hem_zone.specs.Book.{cBookState, bookStateOf, cBookStateOf, bookOut, hemBegin, hemAppend, hemTakeUp};
@@ -94,13 +95,14 @@ fn append_to(
     last_version: &mut u64,
     conditions: &[u8],
     version: u64,
+    limits: Limits,
 ) -> u32
     ensures { λ r. ⌜ (r, (now (buf .exit), cBookState (now (temps .exit)) (now (nodes .exit)) (now (count .exit)) (now (used .exit)) (now («last_version» .exit))))
         ≡ answered bookOut (now (buf .entry), (cBookState (now (temps .entry)) (now (nodes .entry)) (now (count .entry)) (now (used .entry)) (now («last_version» .entry))))
-        (Book.appendRes yearInterface (zoneIn z (now (codes .entry)) (now (values .entry))) (bookStateOf (cBookState (now (temps .entry)) (now (nodes .entry)) (now (count .entry)) (now (used .entry)) (now («last_version» .entry)))) (hour version (now (conditions .entry))) (now (buf .entry))) ⌝ }
+        (Book.appendRes yearInterface (zoneIn z (now (codes .entry)) (now (values .entry))) (bookStateOf (cBookState (now (temps .entry)) (now (nodes .entry)) (now (count .entry)) (now (used .entry)) (now («last_version» .entry)))) (hourItem version (now (conditions .entry)) limits) (now (buf .entry))) ⌝ }
 {
     let given = book_state_in(temps, *nodes, *count, *used, *last_version);
-    let x = append(z, codes, values, given, conditions, version, buf);
+    let x = append(z, codes, values, given, conditions, version, limits, buf);
     let v = x.verdict;
     match v {
         Verdict::Refused { number, index } => refusal_code(number, index),
@@ -112,7 +114,8 @@ fn append_to(
     }
 }
 
-// Appends the entry of one hour, of the version that is named, behind the used bytes. The zone is that of the given head.
+// Appends the entry of one hour, of the version that is named, behind the used bytes. The zone is that of the given head; the limits count from version 3
+// on.
 #[no_mangle]
 pub extern "C" fn hem_append(
     head: &[u8],
@@ -124,9 +127,11 @@ pub extern "C" fn hem_append(
     last_version: &mut u64,
     conditions: &[u8],
     version: u64,
+    heating_limit: f64,
+    cooling_limit: f64,
 ) -> u32
     ensures { λ r. ⌜ (r, (now (buf .exit), cBookState (now (temps .exit)) (now (nodes .exit)) (now (count .exit)) (now (used .exit)) (now («last_version» .exit))))
-        ≡ hemAppend (now (head .entry)) (now (buf .entry)) (cBookState (now (temps .entry)) (now (nodes .entry)) (now (count .entry)) (now (used .entry)) (now («last_version» .entry))) (now (conditions .entry)) version ⌝ }
+        ≡ hemAppend (now (head .entry)) (now (buf .entry)) (cBookState (now (temps .entry)) (now (nodes .entry)) (now (count .entry)) (now (used .entry)) (now («last_version» .entry))) (now (conditions .entry)) version «heating_limit» «cooling_limit» ⌝ }
 {
     let mut codes = [0; 72];
     let mut values = [0.0; 600];
@@ -134,19 +139,26 @@ pub extern "C" fn hem_append(
     let v = h.verdict;
     match v {
         Verdict::Refused { number, index } => refusal_code(number, index),
-        Verdict::Accepted => append_to(
-            h.zone,
-            &codes,
-            &values,
-            buf,
-            temps,
-            nodes,
-            count,
-            used,
-            last_version,
-            conditions,
-            version,
-        ),
+        Verdict::Accepted => {
+            let limits = Limits {
+                heating: heating_limit,
+                cooling: cooling_limit,
+            };
+            append_to(
+                h.zone,
+                &codes,
+                &values,
+                buf,
+                temps,
+                nodes,
+                count,
+                used,
+                last_version,
+                conditions,
+                version,
+                limits,
+            )
+        }
     }
 }
 

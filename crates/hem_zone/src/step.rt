@@ -5,6 +5,7 @@ use crate::arrays::state_in;
 use crate::code::refusal_code;
 use zone::DemandAnswer;
 use zone::HourAnswer;
+use zone::Limits;
 use zone::OperativeReply;
 use zone::UpdateAnswer;
 use zone::Verdict;
@@ -216,13 +217,14 @@ fn hour_step_of(
     nodes: u64,
     conditions: &[u8],
     version: u64,
+    limits: Limits,
     out: &mut [f64; 5],
     balance: &mut [f64; 25],
 ) -> u32
-    ensures { λ r. ⌜ (r, (now (temps .exit), now (out .exit), now (balance .exit))) ≡ answered hourOut (now (temps .entry), now (out .entry), now (balance .entry)) (hourStep standardCoefficients (zoneIn z (now (codes .entry)) (now (values .entry))) version (stateIn (now (temps .entry)) nodes) (now (conditions .entry))) ⌝ }
+    ensures { λ r. ⌜ (r, (now (temps .exit), now (out .exit), now (balance .exit))) ≡ answered hourOut (now (temps .entry), now (out .entry), now (balance .entry)) (hourStep standardCoefficients (zoneIn z (now (codes .entry)) (now (values .entry))) version limits (stateIn (now (temps .entry)) nodes) (now (conditions .entry))) ⌝ }
 {
     let s = state_in(temps, nodes);
-    let x = s.hour_step(z, codes, values, conditions, version);
+    let x = s.hour_step(z, codes, values, conditions, version, limits);
     let a = x.answer;
     match a {
         HourAnswer::Refused { number, index } => refusal_code(number, index),
@@ -237,7 +239,7 @@ fn hour_step_of(
     }
 }
 
-// One hour by the rule of an entry version: its demand, and the temperatures and the heat balance once that is met.
+// One hour by the rule of an entry version: its demand, and the temperatures and the heat balance once that is met, from version 3 on within the limits.
 #[no_mangle]
 pub extern "C" fn hem_hour_step(
     head: &[u8],
@@ -245,10 +247,12 @@ pub extern "C" fn hem_hour_step(
     nodes: u64,
     conditions: &[u8],
     version: u64,
+    heating_limit: f64,
+    cooling_limit: f64,
     out: &mut [f64; 5],
     balance: &mut [f64; 25],
 ) -> u32
-    ensures { λ r. ⌜ (r, (now (temps .exit), now (out .exit), now (balance .exit))) ≡ hemHourStep (now (head .entry)) (now (temps .entry)) nodes (now (conditions .entry)) version (now (out .entry)) (now (balance .entry)) ⌝ }
+    ensures { λ r. ⌜ (r, (now (temps .exit), now (out .exit), now (balance .exit))) ≡ hemHourStep (now (head .entry)) (now (temps .entry)) nodes (now (conditions .entry)) version «heating_limit» «cooling_limit» (now (out .entry)) (now (balance .entry)) ⌝ }
 {
     let mut codes = [0; 72];
     let mut values = [0.0; 600];
@@ -256,16 +260,23 @@ pub extern "C" fn hem_hour_step(
     let v = h.verdict;
     match v {
         Verdict::Refused { number, index } => refusal_code(number, index),
-        Verdict::Accepted => hour_step_of(
-            h.zone,
-            &codes,
-            &values,
-            temps,
-            nodes,
-            conditions,
-            version,
-            out,
-            balance,
-        ),
+        Verdict::Accepted => {
+            let limits = Limits {
+                heating: heating_limit,
+                cooling: cooling_limit,
+            };
+            hour_step_of(
+                h.zone,
+                &codes,
+                &values,
+                temps,
+                nodes,
+                conditions,
+                version,
+                limits,
+                out,
+                balance,
+            )
+        }
     }
 }

@@ -1,5 +1,6 @@
 // What a call answered: acceptance with its values as 64-bit patterns, or number and index.
 use crate::bytes::bits_of;
+use crate::bytes::read_u32_be;
 use crate::bytes::read_u64_be;
 use crate::bytes::same_value;
 use std::num::wrapping_add_usize;
@@ -69,6 +70,17 @@ fn push_floats(a: Answer, xs: &[f64], count: usize) -> Answer {
     let mut out = a;
     for i in 0..count {
         out = push(out, bits_of(float_in(xs, i)));
+    }
+    out
+}
+
+// `count` times four bytes, from `at` on: in so few no sign of a zero is lost.
+pub fn push_words(a: Answer, s: &[u8], at: usize, count: usize) -> Answer {
+    let mut out = a;
+    let mut p = at;
+    for _ in 0..count {
+        out = push(out, read_u32_be(s, p) as u64);
+        p = wrapping_add_usize(p, 4);
     }
     out
 }

@@ -4,17 +4,18 @@ use crate::answer::Answer;
 use crate::answer::accepted;
 use crate::answer::push;
 use crate::answer::push_temps;
+use crate::answer::push_words;
 use crate::answer::refused_if;
 use crate::bytes::byte_at;
 use crate::bytes::part;
 use crate::bytes::same_state;
-use crate::bytes::u64_of;
 use crate::row::HEAD;
 use crate::row::Row;
 use book::BookState;
 use book::Reply;
 use std::num::wrapping_add_usize;
 use std::num::wrapping_sub_usize;
+use zone::Limits;
 use zone::State;
 use zone::Verdict;
 use zone::ZoneFront;
@@ -24,8 +25,8 @@ const ROOM: usize = 1024;
 // Every byte of a buffer before a call.
 const FILLED: u8 = 85;
 
-// Where an entry has its version byte.
-const VERSION_PLACE: usize = 4;
+// So many bytes of an entry are compared as one value.
+const WORD: usize = 4;
 
 fn same_book_states(a: BookState, b: BookState) -> bool {
     let kept = same_state(a.state, b.state);
@@ -77,6 +78,7 @@ fn append_in(
     given: BookState,
     conditions: &[u8],
     version: u64,
+    limits: Limits,
     buf: &mut [u8],
     from: usize,
 ) -> Reply {
@@ -88,10 +90,11 @@ fn append_in(
             given,
             conditions,
             version,
+            limits,
             &mut buf[from..],
         );
     }
-    book::append(z, codes, values, given, conditions, version, buf)
+    book::append(z, codes, values, given, conditions, version, limits, buf)
 }
 
 fn given_of(r: Row, s: State) -> BookState {
@@ -111,7 +114,7 @@ pub fn begin(r: Row, s: State, b: &[u8]) -> Answer {
     reply_answer(given, reply, all_are(&buf, FILLED))
 }
 
-// With the version byte that it writes; of a refused append no value is compared.
+// With the entry that it writes; of a refused append no value is compared.
 pub fn append(
     z: ZoneFront,
     codes: &[u8; 72],
@@ -119,10 +122,10 @@ pub fn append(
     r: Row,
     s: State,
     conditions: &[u8],
+    limits: Limits,
 ) -> Answer {
     let given = given_of(r, s);
     let from = wrapping_sub_usize(ROOM, r.room);
-    let written = wrapping_add_usize(wrapping_add_usize(from, r.used), VERSION_PLACE);
     let mut buf = [FILLED; ROOM];
     let reply = append_in(
         z,
@@ -131,11 +134,19 @@ pub fn append(
         given,
         conditions,
         r.version,
+        limits,
         &mut buf,
         from,
     );
     let answer = reply_answer(given, reply, all_are(&buf, FILLED));
-    push(answer, u64_of(byte_at(&buf, written)))
+    let after = reply.values;
+    let length = wrapping_sub_usize(after.used, r.used);
+    push_words(
+        answer,
+        &buf,
+        wrapping_add_usize(from, r.used),
+        length / WORD,
+    )
 }
 
 pub fn take_up(r: Row, s: State, b: &[u8]) -> Answer {

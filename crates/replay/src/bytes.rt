@@ -1,5 +1,6 @@
 // Bytes of a record: past its end every byte is 0. Places are summed with wrapping, so that each function is total.
 use std::num::wrapping_add_usize;
+use zone::Limits;
 use zone::State;
 
 pub fn byte_at(s: &[u8], at: usize) -> u8 {
@@ -48,6 +49,14 @@ pub fn float_of(bits: u64) -> f64 {
 
 pub fn read_f64_be(s: &[u8], at: usize) -> f64 {
     float_of(read_u64_be(s, at))
+}
+
+// Greatest heating, and behind it greatest cooling.
+pub fn limits_at(s: &[u8], at: usize) -> Limits {
+    Limits {
+        heating: read_f64_be(s, at),
+        cooling: read_f64_be(s, wrapping_add_usize(at, 8)),
+    }
 }
 
 // The pattern of a float; each NaN has one.

@@ -13,6 +13,7 @@ use std::num::wrapping_add_usize;
 use zone::DemandAnswer;
 use zone::Head;
 use zone::HourAnswer;
+use zone::Limits;
 use zone::State;
 use zone::UpdateAnswer;
 use zone::Verdict;
@@ -100,8 +101,9 @@ pub fn hour_step(
     s: State,
     conditions: &[u8],
     version: u64,
+    limits: Limits,
 ) -> Answer {
-    let x = s.hour_step(z, codes, values, conditions, version);
+    let x = s.hour_step(z, codes, values, conditions, version, limits);
     let after = x.state;
     let answer = x.answer;
     match answer {

@@ -2,6 +2,7 @@
 use crate::answer::Answer;
 use crate::answer::first_difference;
 use crate::answer::refused;
+use crate::bytes::limits_at;
 use crate::bytes::one_at;
 use crate::bytes::part;
 use crate::bytes::read_u16_be;
@@ -13,6 +14,7 @@ use crate::records::record;
 use crate::tally::CaseTally;
 use crate::tally::no_cases;
 use std::num::wrapping_add_usize;
+use zone::Limits;
 use zone::Verdict;
 use zone::ZoneFront;
 
@@ -32,6 +34,15 @@ struct Case {
 }
 
 const HEAD: usize = 5;
+
+// What an hour of an earlier version is given, where limits are neither tested nor used: out of range, and each power
+// would be beyond one of them.
+fn no_limits() -> Limits {
+    Limits {
+        heating: -1.0,
+        cooling: -1.0,
+    }
+}
 
 fn case_at(b: &[u8]) -> Case {
     let head_length = read_u16_be(b, 3);
@@ -66,8 +77,9 @@ fn run_zone(z: ZoneFront, codes: &[u8; 72], values: &[f64; 600], c: Case, b: &[u
         1 => calls::demand(z, codes, values, s, conditions),
         2 => calls::update(z, codes, values, s, conditions, b, c.own),
         3 => calls::start_up(z, codes, values),
-        4 => calls::hour_step(z, codes, values, s, conditions, 1),
-        _ => calls::hour_step(z, codes, values, s, conditions, 2),
+        4 => calls::hour_step(z, codes, values, s, conditions, 1, no_limits()),
+        5 => calls::hour_step(z, codes, values, s, conditions, 2, no_limits()),
+        _ => calls::hour_step(z, codes, values, s, conditions, 3, limits_at(b, c.own)),
     }
 }
 

@@ -4,6 +4,7 @@ use crate::answer::accepted;
 use crate::answer::first_difference;
 use crate::answer::refused;
 use crate::book_calls;
+use crate::bytes::limits_at;
 use crate::bytes::part;
 use crate::bytes::state_at;
 use crate::calls;
@@ -66,8 +67,16 @@ fn run_zone(z: ZoneFront, codes: &[u8; 72], values: &[f64; 600], r: Row, b: &[u8
         1 => calls::demand(z, codes, values, s, conditions),
         2 => calls::update(z, codes, values, s, conditions, b, r.own),
         3 => calls::start_up(z, codes, values),
-        4 => calls::hour_step(z, codes, values, s, conditions, r.version),
-        6 => book_calls::append(z, codes, values, r, s, conditions),
+        4 => calls::hour_step(
+            z,
+            codes,
+            values,
+            s,
+            conditions,
+            r.version,
+            limits_at(b, r.own),
+        ),
+        6 => book_calls::append(z, codes, values, r, s, conditions, limits_at(b, r.own)),
         8 => accepted(),
         _ => verdict_answer(zone::zone_test(z, codes, values)),
     }

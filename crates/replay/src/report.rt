@@ -17,7 +17,8 @@ fn print_op(op: usize) {
         1 => text(b"update               "),
         2 => text(b"start-up             "),
         3 => text(b"hour step, version 1 "),
-        _ => text(b"hour step, version 2 "),
+        4 => text(b"hour step, version 2 "),
+        _ => text(b"hour step, version 3 "),
     }
 }
 
@@ -74,7 +75,7 @@ fn print_number(numbers: [u64; COUNTS], number: usize) {
 }
 
 fn print_numbers(numbers: [u64; COUNTS]) {
-    for number in 1..19usize {
+    for number in 1..20usize {
         print_number(numbers, number);
     }
 }

@@ -2,8 +2,8 @@
 use std::num::wrapping_add_u64;
 use std::num::wrapping_add_usize;
 
-// Operations of a profile: the hour step counts twice, once for each version.
-pub const OPERATIONS: usize = 5;
+// Operations of a profile: the hour step counts three times, once for each version.
+pub const OPERATIONS: usize = 6;
 
 const PROFILES: usize = 4;
 

@@ -62,11 +62,32 @@ pub fn u64_of(x: u8) -> u64 {
     x as u64
 }
 
+fn read_u16_be(s: &[u8], at: usize) -> u64 {
+    u64_of(byte_at(s, at)) << 8 | u64_of(byte_at(s, wrapping_add_usize(at, 1)))
+}
+
+pub fn read_u32_be(s: &[u8], at: usize) -> u64 {
+    read_u16_be(s, at) << 16 | read_u16_be(s, wrapping_add_usize(at, 2))
+}
+
 // At how many places from `from` to `to` - 1 two strings of bytes differ.
 pub fn differing(a: &[u8], b: &[u8], from: usize, to: usize) -> u64 {
     let mut n = 0;
     for i in from..to {
         if byte_at(a, i) != byte_at(b, i) {
+            n = wrapping_add_u64(n, 1);
+        }
+    }
+    n
+}
+
+// How many of `count` bytes, from the place `at` of one string and `other` of the other on, differ.
+pub fn differing_at(a: &[u8], at: usize, b: &[u8], other: usize, count: usize) -> u64 {
+    let mut n = 0;
+    for i in 0..count {
+        let x = byte_at(a, wrapping_add_usize(at, i));
+        let y = byte_at(b, wrapping_add_usize(other, i));
+        if x != y {
             n = wrapping_add_u64(n, 1);
         }
     }

@@ -1,4 +1,6 @@
 // House P of document 01, executed row by row.
 pub mod book_rows;
 pub mod house;
+pub mod limited;
+pub mod met;
 pub mod rows;

@@ -2,20 +2,26 @@
 // is expected in words; a value with nothing to be laid beside by its bits, with decimals before them; a refusal by its
 // number, 0 for none.
 //
-// First House P of document 01. Then a room with a chilled ceiling: a warm hour is asked, and met in version 1 and in
-// version 2. By the heating fraction the room is left too warm, by the cooling fraction it keeps its cooling setpoint. A
-// cold hour is the same in both. Then the entries of these hours in books, and versions that no hour has.
+// First House P of document 01, then its hours in version 3 with limits, worked out by hand. Then a room with a chilled
+// ceiling: a warm hour is asked, and met in version 1 and in version 2. By the heating fraction the room is left too warm, by
+// the cooling fraction it keeps its cooling setpoint. A cold hour is the same in both. Then the entries of these hours in
+// books, versions that no hour has, and the room in version 3: hours with limits, limits out of range, entries and books.
 mod bytes;
 mod chilled_ceiling;
 mod house_p;
+mod limits;
 mod replies;
 mod table;
 
 use chilled_ceiling::books;
 use chilled_ceiling::hours;
+use chilled_ceiling::limit_books;
+use chilled_ceiling::limit_values;
+use chilled_ceiling::limited;
 use chilled_ceiling::room;
 use chilled_ceiling::unknown;
 use house_p::book_rows;
+use house_p::limited as limited_hours;
 use house_p::rows;
 
 fn print_house_p() {
@@ -24,6 +30,7 @@ fn print_house_p() {
     rows::print_h_ci();
     rows::print_rates();
     book_rows::print_book();
+    limited_hours::print_limited();
 }
 
 fn print_chilled_ceiling() {
@@ -38,6 +45,11 @@ fn print_chilled_ceiling() {
     hours::print_cold(z, &codes, &values, start);
     books::print_books(z, &codes, &values, &h, start);
     unknown::print_unknown(z, &codes, &values, &h, start);
+    limited::print_warm(z, &codes, &values, start);
+    limited::print_cold(z, &codes, &values, start);
+    limited::print_earlier(z, &codes, &values, start);
+    limit_values::print_values(z, &codes, &values, &h, start);
+    limit_books::print_books(z, &codes, &values, &h, start);
 }
 
 fn main() {

@@ -4,11 +4,11 @@ use zone::State;
 use zone::Verdict;
 
 // What no call on these books hands back, so that what was given can be told from what was found.
-const MADE_UP_VERSION: u64 = 77;
+pub const MADE_UP_VERSION: u64 = 77;
 
-const MADE_UP_COUNT: usize = 9999;
+pub const MADE_UP_COUNT: usize = 9999;
 
-const MADE_UP_USED: usize = 79;
+pub const MADE_UP_USED: usize = 79;
 
 pub fn nothing() -> BookState {
     let state = State {

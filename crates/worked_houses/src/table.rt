@@ -66,6 +66,19 @@ pub fn value(asked: &[u8], came: f64, expected: f64, words: &[u8]) {
     verdict(a == b);
 }
 
+// The same, the expected value in decimals.
+pub fn decimals(asked: &[u8], came: f64, expected: f64) {
+    let a = bits_of(came);
+    let b = bits_of(expected);
+    text(asked);
+    hex(a);
+    hex(b);
+    text(b" ");
+    signed(expected);
+    text(b"   ");
+    verdict(a == b);
+}
+
 // Without its fraction; 0 for what has no place here.
 fn whole(x: f64) -> u64 {
     if -1.0 < x {
@@ -108,14 +121,18 @@ fn signed_column(sign: &[u8], n: u64) {
     decimal(n);
 }
 
-// A value with nothing to be laid beside: in decimals, and its bits where other rows have what came.
-pub fn shown(asked: &[u8], x: f64) {
-    text(asked);
+fn signed(x: f64) {
     if x < 0.0 {
         signed_column(b"-", thousandths(-x));
     } else {
         signed_column(b" ", thousandths(x));
     }
+}
+
+// A value with nothing to be laid beside: in decimals, and its bits where other rows have what came.
+pub fn shown(asked: &[u8], x: f64) {
+    text(asked);
+    signed(x);
     hex(bits_of(x));
     text(b"\n");
 }

@@ -48,4 +48,5 @@ pub mod FirstHours
 pub mod StartUp
 pub mod Accepted
 pub mod Answers
+pub mod Limits
 pub mod Refusals

@@ -8,6 +8,7 @@ pub use Rattle.zone.proofs.Laws.Answers.{demand-no, demand-yes, hour-no
 pub use Rattle.zone.proofs.Laws.Element.{nodes-few}
 pub use Rattle.zone.proofs.Laws.HeadAnswers.{apart, head-no, head-yes, same-refusal}
 pub use Rattle.zone.proofs.Laws.Kept.{none-kept-in}
+pub use Rattle.zone.proofs.Laws.Limits.{limits-back, limits-length, same-limits}
 pub use Rattle.zone.proofs.Laws.Lists.{from, none-left}
 pub use Rattle.zone.proofs.Laws.NextHour.{next-then}
 pub use Rattle.zone.proofs.Laws.NextKept.{next-kept}

@@ -5,3 +5,4 @@ pub mod Decode
 pub mod Head
 pub mod Conditions
 pub mod Encode
+pub mod Limits

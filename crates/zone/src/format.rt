@@ -6,4 +6,5 @@ pub mod decode_conditions;
 pub mod element_layout;
 pub mod head;
 pub mod layout;
+pub mod limits;
 pub mod read_conditions;

@@ -4,8 +4,9 @@ use super::number::{cell, short};
 use super::open::words;
 use super::plan::Plan;
 use super::what::{Key, What};
-use crate::book::Entry;
 use crate::conditions::{AirChangesPerHour, Conditions};
+use crate::entry::Entry;
+use crate::limits::HeldLimit;
 use csv::Writer;
 
 /// The CSV text of hours, every value in a column of its own. The first has this number.
@@ -84,7 +85,6 @@ pub fn results_text(entry: &Entry) -> String {
     };
     let (air, operative) = (entry.state().temp_internal_air(), entry.temp_operative());
     let lines = [
-        ("entry_version", entry.version().to_string()),
         ("space_heat_demand", format!("{} kWh", short(demand.space_heat_demand))),
         ("space_cool_demand", format!("{} kWh", short(demand.space_cool_demand))),
         ("ach_cooling", format!("{} per hour, the chosen rate", short(demand.ach_cooling))),
@@ -92,5 +92,23 @@ pub fn results_text(entry: &Entry) -> String {
         ("temp_internal_air", format!("{} °C after the hour", short(air))),
         ("temp_operative", format!("{} °C after the hour", short(operative))),
     ];
-    lines.map(|(name, value)| format!("# {name} = {value}\n")).concat()
+    let version = ("entry_version", entry.version().to_string());
+    let lines = [version].into_iter().chain(plant_lines(entry)).chain(lines);
+    lines.map(|(name, value)| format!("# {name} = {value}\n")).collect()
+}
+
+/// The limits of an hour that has them, and the power that was delivered.
+fn plant_lines(entry: &Entry) -> Vec<(&'static str, String)> {
+    let Some(limits) = entry.limits() else { return vec![] };
+    let held = match entry.held_limit() {
+        Some(HeldLimit::Heating) => ": the heating limit held",
+        Some(HeldLimit::Cooling) => ": the cooling limit held",
+        None => "",
+    };
+    vec![
+        ("heating_limit", format!("{} W", short(limits.heating))),
+        ("cooling_limit", format!("{} W", short(limits.cooling))),
+        // −0 + 0 is 0: no cooling is no power.
+        ("delivered", format!("{} W{held}", short(entry.delivered() + 0.0))),
+    ]
 }

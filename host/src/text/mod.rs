@@ -41,5 +41,6 @@ pub use hours::read_hours;
 pub use hours_text::{results_text, write_hours};
 pub use house::{read_house, House};
 pub use house_text::write_house;
+pub use number::read as read_number;
 pub use of_bytes::{conditions_faults, elements_of_year, head_faults, hours_of_form};
 pub use plan::Plan;

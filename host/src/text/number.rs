@@ -12,7 +12,7 @@ pub(crate) fn may_be_none(name: &str) -> bool {
 
 /// The `f64` nearest to a decimal: a sign, digits with or without a point, an exponent; all but the
 /// digits may be left out. A word as `inf` is no number.
-pub(crate) fn read(text: &str) -> Option<f64> {
+pub fn read(text: &str) -> Option<f64> {
     let decimal = |c: u8| c.is_ascii_digit() || matches!(c, b'+' | b'-' | b'.' | b'e' | b'E');
     if !text.bytes().all(decimal) {
         return None;

@@ -99,7 +99,20 @@ pub fn update(head: &[u8], cond: &[u8], own: [f64; 3], lent: &mut Lent) -> u32 {
     }
 }
 
+/// What is handed over for limits where a version looks at none.
+pub const NO_LIMITS: [f64; 2] = [f64::NAN, f64::NEG_INFINITY];
+
 pub fn hour_step(head: &[u8], cond: &[u8], version: u64, lent: &mut Lent) -> u32 {
+    limited_step(head, cond, version, NO_LIMITS, lent)
+}
+
+pub fn limited_step(
+    head: &[u8],
+    cond: &[u8],
+    version: u64,
+    limits: [f64; 2],
+    lent: &mut Lent,
+) -> u32 {
     unsafe {
         hem_hour_step(
             head.as_ptr(),
@@ -109,6 +122,8 @@ pub fn hour_step(head: &[u8], cond: &[u8], version: u64, lent: &mut Lent) -> u32
             cond.as_ptr(),
             cond.len(),
             version,
+            limits[0],
+            limits[1],
             lent.out.as_mut_ptr(),
             lent.balance.as_mut_ptr(),
         )
@@ -144,6 +159,16 @@ pub fn begin(head: &[u8], lent: &mut Lent) -> u32 {
 }
 
 pub fn append(head: &[u8], cond: &[u8], version: u64, lent: &mut Lent) -> u32 {
+    limited_append(head, cond, version, NO_LIMITS, lent)
+}
+
+pub fn limited_append(
+    head: &[u8],
+    cond: &[u8],
+    version: u64,
+    limits: [f64; 2],
+    lent: &mut Lent,
+) -> u32 {
     unsafe {
         hem_append(
             head.as_ptr(),
@@ -158,6 +183,8 @@ pub fn append(head: &[u8], cond: &[u8], version: u64, lent: &mut Lent) -> u32 {
             cond.as_ptr(),
             cond.len(),
             version,
+            limits[0],
+            limits[1],
         )
     }
 }

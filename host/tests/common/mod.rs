@@ -1,6 +1,7 @@
 //! The program hem-year, run as a user runs it.
 #![allow(dead_code)] // Each file of tests uses a part of this.
 pub mod hours;
+pub mod plant;
 pub mod table;
 
 use hem_zone::samples::{hour_p, house_p};
@@ -9,10 +10,11 @@ use std::path::{Path, PathBuf};
 use std::process::{Child, Command, Output, Stdio};
 
 pub const PROGRAM: &str = env!("CARGO_BIN_EXE_hem-year");
-/// Bytes of House P's head, of the conditions of an hour and of an entry.
+/// Bytes of House P's head, of the conditions of an hour, and of an entry of versions 1 and 2 and of 3.
 pub const HEAD: usize = 180;
 pub const HOUR: usize = 154;
 pub const ENTRY: usize = 216;
+pub const ENTRY_3: usize = 232;
 
 /// A folder of its own for each test, gone when the test is done.
 pub struct Folder(pub PathBuf);

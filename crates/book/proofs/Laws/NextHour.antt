@@ -2,7 +2,7 @@
 use Prim.Native.Nat.{ℕ}
 use mathlib.Core.Path.{_≡_, sym, ap, _∙_}
 use mathlib.Core.Bool.{true, false}
-use mathlib.Core.List.{List}
+use mathlib.Core.List.{List, _++_}
 use native.Mathlib.Omega.{arith}
 use Rattle.zone.specs.Promise.{Result, ok, refused}
 use Rattle.zone.specs.Record.BuildingElement.{standardCoefficients}
@@ -15,11 +15,16 @@ use Rattle.zone.specs.declared.calls.state.Demand.{Demand}
 use Rattle.zone.specs.declared.calls.state.DemandAnswer.the-variants as DemandAnswer
 use Rattle.zone.specs.declared.calls.state.DemandReply.{DemandReply}
 use Rattle.zone.proofs.Promise.{and-true, next-then}
-use Rattle.zone.specs.Calls.Hour.{hourVersion}
+use Rattle.zone.specs.Calls.Hour.{hourVersion, hasLimits}
+use Rattle.zone.specs.Format.Limits.{limitsIn}
+use Rattle.zone.specs.declared.format.limits.Limits.{Limits}
 use lib.Dec.{leb}
+use lib.ListN.{length}
 use Rattle.book.specs.Numbers.{falseEntry}
+use Rattle.book.specs.Layout.{limitsLength}
 use Rattle.book.specs.Entry.{entryOf}
 use Rattle.book.specs.Year.{hour, Carried, carried, mayFollow, hourEntry}
+use Rattle.book.proofs.Laws.Body.{by-parts}
 
 module _ (s : State) where
   next-no : (d : Result (Demand × State)) (x : DemandReply) → x ≡ nextHourReply s d → (n j : ℕ) → x .answer ≡ DemandAnswer.Refused n j → d ≡ refused n j
@@ -39,26 +44,28 @@ module _ (s : State) where
       let q : DemandAnswer.Refused m k ≡ DemandAnswer.Accepted a = sym (ap (λ y. y .answer) e) ∙ f in
       absurd (let z : _≡_ {A = ℕ} 0 1 = cc in omega arith)
 
-module _ (z : Zone) (tested : zoneTest z ≡ ok tt) (s : Carried) (version : ℕ) (follows : mayFollow (s .lastVersion) version ≡ true) (i : List ℕ) (x : DemandReply)
-    (e : x ≡ nextHourReply (s .state) (nextHour standardCoefficients z version (s .state) i)) where
+-- the body is the conditions i and the limits' bytes j; l is what the zone is given, the limits in j where the version has any
+module _ (z : Zone) (tested : zoneTest z ≡ ok tt) (s : Carried) (version : ℕ) (follows : mayFollow (s .lastVersion) version ≡ true)
+    (i j : List ℕ) (long : length j ≡ limitsLength version) (l : Limits) (holds : hasLimits version ≡ true → limitsIn j ≡ l) (x : DemandReply)
+    (e : x ≡ nextHourReply (s .state) (nextHour standardCoefficients z version l (s .state) i)) where
   known : hourVersion version ≡ true
   known = and-true (hourVersion version) (leb (s .lastVersion) version) follows .0
 
-  pub step-refused : (n j : ℕ) → x .answer ≡ DemandAnswer.Refused n j → (k : ℕ) → hourEntry z k s (hour version i) ≡ refused n j
+  pub step-refused : (n k : ℕ) → x .answer ≡ DemandAnswer.Refused n k → (count : ℕ) → hourEntry z count s (hour version (i ++ j)) ≡ refused n k
   unfolding hourEntry
-  step-refused n j f k =
-      rw follows
-      (next-then standardCoefficients z version (s .state) i tested known (λ d after. ok (record { bytes = entryOf z version i d after; after = carried after version }))
-      ∙ rw (next-no (s .state) (nextHour standardCoefficients z version (s .state) i) x e n j f))
+  step-refused n k f count =
+      rw (follows, by-parts version i j long z (s .state) l holds)
+      (next-then standardCoefficients z version l (s .state) i tested known (λ d after. ok (record { bytes = entryOf z version (i ++ j) d after; after = carried after version }))
+      ∙ rw (next-no (s .state) (nextHour standardCoefficients z version l (s .state) i) x e n k f))
 
   -- what the hour step gives, as an entry
-  pub step-given : (d : Demand) → x .answer ≡ DemandAnswer.Accepted d → (k : ℕ)
-      → hourEntry z k s (hour version i) ≡ ok (record { bytes = entryOf z version i d (x .state); after = carried (x .state) version })
+  pub step-given : (d : Demand) → x .answer ≡ DemandAnswer.Accepted d → (count : ℕ)
+      → hourEntry z count s (hour version (i ++ j)) ≡ ok (record { bytes = entryOf z version (i ++ j) d (x .state); after = carried (x .state) version })
   unfolding hourEntry
-  step-given d f k =
-      rw follows
-      (next-then standardCoefficients z version (s .state) i tested known (λ y after. ok (record { bytes = entryOf z version i y after; after = carried after version }))
-      ∙ rw (next-yes (s .state) (nextHour standardCoefficients z version (s .state) i) x e d f))
+  step-given d f count =
+      rw (follows, by-parts version i j long z (s .state) l holds)
+      (next-then standardCoefficients z version l (s .state) i tested known (λ y after. ok (record { bytes = entryOf z version (i ++ j) y after; after = carried after version }))
+      ∙ rw (next-yes (s .state) (nextHour standardCoefficients z version l (s .state) i) x e d f))
 
 -- a version that may not follow
 pub step-not-next : (z : Zone) (s : Carried) (version : ℕ) → mayFollow (s .lastVersion) version ≡ false → (i : List ℕ) (k : ℕ) → hourEntry z k s (hour version i) ≡ refused falseEntry k

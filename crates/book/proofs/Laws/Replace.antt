@@ -2,9 +2,10 @@
 use Prim.Native.Nat.{ℕ, suc, _+_, _≤_, _<_}
 use mathlib.Core.Path.{_≡_, sym, ap, _∙_}
 use mathlib.Core.List.{List, [], _∷_, _++_, append-assoc, append-nil}
+use native.Mathlib.Nat.{zero-add}
 use native.Mathlib.Omega.{arith}
 use lib.ListN.{length, take, drop, set, length-append, length-set, length-take, take-append-drop}
-use lib.Seq.{take-set-le, drop-cons, getD-set-same, drop-set-lt, take-at, drop-append-add, drop-drop, length-take-le, paste}
+use lib.Seq.{take-set-le, drop-cons, getD-set-same, drop-set-lt, take-at, drop-append-add, drop-drop, length-take-le, drop-length, paste}
 use Rattle.book.specs.Inner.Replace.{replaceAt}
 
 -- no byte replaced
@@ -67,3 +68,8 @@ replace-paste at n s b h = ap (λ (k : ℕ). take at b ++ take n s ++ drop (at +
 pub replace-start : (bs b : List ℕ) (n : ℕ) → length bs ≡ n → take n (replaceAt 0 bs b) ≡ bs
 unfolding replaceAt
 replace-start bs b n e = take-at bs (drop (0 + length bs) b) n e
+
+-- what fills a buffer
+pub replace-all : (bs b : List ℕ) → length bs ≡ length b → replaceAt 0 bs b ≡ bs
+unfolding replaceAt
+replace-all bs b e = ap (λ (l : List ℕ). bs ++ l) (ap (λ (n : ℕ). drop n b) (zero-add (length bs) ∙ e) ∙ drop-length b) ∙ append-nil bs

@@ -2,9 +2,9 @@
 use Prim.Native.Nat.{ℕ, _+_, _≤_}
 use mathlib.Core.Path.{_≡_, sym, ap, _∙_}
 use mathlib.Core.Bool.{Bool}
-use mathlib.Core.List.{List, [], _∷_, _++_}
+use mathlib.Core.List.{List, [], _∷_, _++_, append-assoc}
 use native.Mathlib.Omega.{arith}
-use lib.ListN.{length, take}
+use lib.ListN.{length, take, length-append}
 use lib.Seq.{take-length}
 use lib.Ieee.{Float}
 use Rattle.zone.specs.Record.BuildingElement.{nodeCount}
@@ -28,7 +28,7 @@ use Rattle.book.proofs.Laws.Replace.{replace-then, replace-four, replac
 use Rattle.book.proofs.Laws.Entry.{length-front, length-demand}
 
 module _ (at : ℕ) (b b₁ b₂ : List ℕ) where
-  pub front-written : (z : ZoneFront) (codes : List ℕ) (values : List Float) (version m : ℕ) → m ≡ followingLength (zoneIn z codes values) → at + frontSize ≤ length b
+  pub front-written : (z : ZoneFront) (codes : List ℕ) (values : List Float) (version m : ℕ) → m ≡ followingLength (zoneIn z codes values) version → at + frontSize ≤ length b
       → b₁ ≡ replaceAt at (bytesOf lengthSize m) b → b₂ ≡ replaceAt (at + lengthSize) (bytesOf versionSize version) b₁ → b₂ ≡ replaceAt at (frontBytes (zoneIn z codes values) version) b
   front-written z codes values version m l h e₁ e₂ =
       replace-then at (at + lengthSize) (bytesOf lengthSize m) (bytesOf versionSize version) b b₁ b₂ (omega arith) (omega (arith, length-bytesOf lengthSize m)) e₁ e₂
@@ -54,27 +54,36 @@ module _ (at : ℕ) (b b₁ b₂ : List ℕ) where
 
 pub ruleset trigger-cases = (trigger-absent, trigger-at)
 
-module _ (z : Zone) (version : ℕ) (i : List ℕ) (d : Demand) (s : State) where
-  pub entry-written : (at n : ℕ) (b b₁ b₂ b₃ b₄ : List ℕ) → n ≡ nodeCount z → at + wholeLength z ≤ length b
+module _ (z : Zone) (version : ℕ) (i j : List ℕ) (d : Demand) (s : State) where
+  pub entry-written : (at n : ℕ) (b b₁ b₂ b₃ b₄ b₅ : List ℕ) → n ≡ nodeCount z → at + wholeLength z version ≤ length b
       → b₁ ≡ replaceAt at (frontBytes z version) b
       → b₂ ≡ replaceAt (at + frontSize) (take (length i) i) b₁
-      → b₃ ≡ replaceAt (at + frontSize + length i) (demandBytes d) b₂
-      → b₄ ≡ replaceAt (at + frontSize + length i + demandSize) (rowBytes (take n (s .temps))) b₃
-      → b₄ ≡ replaceAt at (entryOf z version i d s) b
+      → b₃ ≡ replaceAt (at + frontSize + length i) (take (length j) j) b₂
+      → b₄ ≡ replaceAt (at + frontSize + length i + length j) (demandBytes d) b₃
+      → b₅ ≡ replaceAt (at + frontSize + length i + length j + demandSize) (rowBytes (take n (s .temps))) b₄
+      → b₅ ≡ replaceAt at (entryOf z version (i ++ j) d s) b
   unfolding entryOf
-  entry-written at n b b₁ b₂ b₃ b₄ l h e₁ e₂ e₃ e₄ =
-      replace-four at (at + frontSize) (at + frontSize + length i) (at + frontSize + length i + demandSize) (frontBytes z version) i (demandBytes d) (temperatureBytes z s) b b₁ b₂ b₃ b₄
+  entry-written at n b b₁ b₂ b₃ b₄ b₅ l h e₁ e₂ e₃ e₄ e₅ =
+      let front = frontBytes z version in
+      let p = at + frontSize in
+      let q = p + length i in
+      let r = q + length j in
+      let opened : b₂ ≡ replaceAt at (front ++ i) b =
+      replace-then at p front i b b₁ b₂ (omega arith) (omega (arith, length-front z version)) e₁ (e₂ ∙ ap (λ (y : List ℕ). replaceAt p y b₁) (take-length i)) in
+      replace-four at q r (r + demandSize) (front ++ i) j (demandBytes d) (temperatureBytes z s) b b₂ b₃ b₄ b₅
       (omega arith)
-      (omega (arith, length-front z version))
-      (omega (arith, length-front z version))
-      (omega (arith, length-front z version, length-demand d))
-      e₁
-      (e₂ ∙ ap (λ (y : List ℕ). replaceAt (at + frontSize) y b₁) (take-length i))
-      e₃
-      (e₄ ∙ ap (λ (y : ℕ). replaceAt (at + frontSize + length i + demandSize) (rowBytes (take y (s .temps))) b₃) l)
+      (omega (arith, length-append front i, length-front z version))
+      (omega (arith, length-append front i, length-front z version))
+      (omega (arith, length-append front i, length-front z version, length-demand d))
+      opened
+      (e₃ ∙ ap (λ (y : List ℕ). replaceAt q y b₂) (take-length j))
+      e₄
+      (e₅ ∙ ap (λ (y : ℕ). replaceAt (r + demandSize) (rowBytes (take y (s .temps))) b₄) l)
+      ∙ ap (λ (y : List ℕ). replaceAt at y b)
+      (append-assoc front i (j ++ (demandBytes d ++ temperatureBytes z s)) ∙ ap (λ (y : List ℕ). front ++ y) (sym (append-assoc i j (demandBytes d ++ temperatureBytes z s))))
 
   -- the entry written anew into a buffer's start, compared with a whole entry
-  pub entry-compared : (c b b₁ : List ℕ) (t : Bool) → length c ≡ wholeLength z → length (entryOf z version i d s) ≡ wholeLength z
-      → b₁ ≡ replaceAt 0 (entryOf z version i d s) b → t ≡ equalBytes (take (length c) b₁) c → t ≡ equalBytes (entryOf z version i d s) c
+  pub entry-compared : (c b b₁ : List ℕ) (t : Bool) → length c ≡ wholeLength z version → length (entryOf z version (i ++ j) d s) ≡ wholeLength z version
+      → b₁ ≡ replaceAt 0 (entryOf z version (i ++ j) d s) b → t ≡ equalBytes (take (length c) b₁) c → t ≡ equalBytes (entryOf z version (i ++ j) d s) c
   entry-compared c b b₁ t l m e f =
-      f ∙ ap (λ (y : List ℕ). equalBytes y c) (ap (take (length c)) e ∙ replace-start (entryOf z version i d s) b (length c) (m ∙ sym l))
+      f ∙ ap (λ (y : List ℕ). equalBytes y c) (ap (take (length c)) e ∙ replace-start (entryOf z version (i ++ j) d s) b (length c) (m ∙ sym l))

@@ -2,6 +2,7 @@
 use Prim.Native.Nat.{ℕ, _+_, _*_}
 use Rattle.zone.specs.Format.Bytes.{floatSize}
 use Rattle.zone.specs.Format.Layout.{lengthSize, elementHourSize}
+use Rattle.zone.specs.Format.Limits.{powerLimitsSize}
 use Rattle.book.specs.Layout.{fixedLength}
 
 -- trigger byte and trigger rate
@@ -15,9 +16,9 @@ ratesSize = floatSize * 3
 abbrev pub demandSize : ℕ
 demandSize = ratesSize + triggerSize
 
--- 24 elements of five nodes, and the air
+-- 24 elements of five nodes, the air, and the limits
 abbrev pub longestFollowing : ℕ
-longestFollowing = fixedLength + elementHourSize * 24 + floatSize * 121
+longestFollowing = fixedLength + elementHourSize * 24 + floatSize * 121 + powerLimitsSize
 
 abbrev pub longestEntry : ℕ
 longestEntry = lengthSize + longestFollowing

@@ -1,5 +1,5 @@
 -- What the book needs of the layers below it: the head's reader, start-up, the hour step and the bytes of an entry.
--- `Item` is what a book holds in order: an hour, as its version and its 113 + 41n bytes of conditions. `State` is what is carried from entry to
+-- `Item` is what a book holds in order: an hour, as its version and the bytes of its conditions and limits. `State` is what is carried from entry to
 -- entry and handed back: the node temperatures and the last version. Nothing of specs/Model depends on what zones, states and items are.
 use mathlib.Core.List.{List}
 use mathlib.Core.Option.{Option}
@@ -28,7 +28,8 @@ pub record Interface : Type 1 where
   -- the hour step as an append asks it: the same, or a refusal. It is apart from `step` because an append may refuse an item that a take-up still
   -- accepts: an entry written earlier stays true, though no such item may be added any more. Where there are no such items the two are equal.
   pub appendStep : Zone → (count : ℕ) → State → Item → Result (Written State)
-  -- the length of the whole entry with which a rest of the book begins; none where the rest is too short to begin with one
+  -- the length of the whole entry with which a rest of the book begins, all of the rest where that cannot be told; none where the rest is too short to begin
+  -- with one
   pub entryLength : Zone → (rest : List ℕ) → Option ℕ
-  -- the item (version and conditions) that a whole entry holds, be the entry true or false
+  -- the item (an hour's version, conditions and limits) that a whole entry holds, be the entry true or false
   pub itemOf : Zone → (entry : List ℕ) → Item

@@ -33,7 +33,7 @@ module _ (L : Interface) (z : L .Zone) where
   itemsBefore bs zero = []
   itemsBefore bs (suc k) = itemsBefore bs k ++ (L .itemOf z (entryAt bs k) ∷ [])
 
-  -- what the hour step gives for the conditions of the entry with index k, from the state that the plain book has there
+  -- what the hour step gives for the item of the entry with index k, from the state that the plain book has there
   unfoldable pub stepAt : (start : L .State) → (bs : List ℕ) → (k : ℕ) → Result (Written (L .State))
   stepAt start bs k =
       bind (entriesOf L z 0 start (itemsBefore bs k)) λ es.

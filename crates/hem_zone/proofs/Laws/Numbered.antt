@@ -1,4 +1,4 @@
--- Every refusal of document 01 has a number from 1 to 18 and an index of at most 8,783: family by family.
+-- Every refusal of the papers has a number from 1 to 19 and an index of at most 8,783: family by family.
 use Prim.Native.Nat.{ℕ, _≤_}
 use borrow.Author.Needs.{needs}
 use Rattle.zone.specs.Promise.{SolveRefusal, solveDivisor, solveTemperature}
@@ -7,10 +7,10 @@ use Rattle.zone.specs.Claims.Refusals as Zone
 use Rattle.book.specs.Refusals as Book
 use Rattle.hem_zone.specs.Claims.{AfterHead, ofHead, ofCall}
 
--- a refusal of document 01
+-- a refusal of the papers
 pub record Numbered (number index : ℕ) : Type 0 where
   pub from-1 : 1 ≤ number
-  pub to-18 : number ≤ 18
+  pub to-19 : number ≤ 19
   pub few : index ≤ 8783
 
 solve-numbered : (n i : ℕ) → SolveRefusal n i → Numbered n i
@@ -46,8 +46,12 @@ demand-numbered n i Zone.demandVentilationBelowHeating = search needs
 demand-numbered n i (Zone.demandSolve p) = solve-numbered n i p
 demand-numbered n i Zone.demandNoEffect = search needs
 
+known-numbered : (n i : ℕ) → Zone.KnownHourRefusal n i → Numbered n i
+known-numbered n i (Zone.hourDemand p) = demand-numbered n i p
+known-numbered n i Zone.hourLimitValue = search needs
+
 pub hour-numbered : (n i : ℕ) → Zone.HourRefusal n i → Numbered n i
-hour-numbered n i (Zone.hourDemand p) = demand-numbered n i p
+hour-numbered n i (Zone.hourKnown p) = known-numbered n i p
 hour-numbered n i Zone.hourFalseEntry = search needs
 
 pub update-numbered : (n i : ℕ) → Zone.UpdateRefusal n i → Numbered n i
@@ -73,7 +77,7 @@ pub append-numbered : (count n i : ℕ) → Book.AppendRefusal count n i → Num
 append-numbered count n i (Book.appendZone p) = zone-numbered n i p
 append-numbered count n i Book.appendBookFull = search needs
 append-numbered count n i (Book.appendFalseEntry h) = search needs
-append-numbered count n i (Book.appendHour p) = demand-numbered n i p
+append-numbered count n i (Book.appendHour p) = known-numbered n i p
 append-numbered count n i Book.appendBufferShort = search needs
 
 pub take-up-numbered : (n i : ℕ) → Book.TakeUpRefusal n i → Numbered n i

@@ -9,6 +9,7 @@ use crate::chilled_ceiling::room::NODES;
 use crate::chilled_ceiling::room::cold_hour;
 use crate::chilled_ceiling::room::used_of;
 use crate::chilled_ceiling::room::warm_hour;
+use crate::limits::not_looked_at;
 use crate::replies::nothing;
 use crate::replies::verdict_index;
 use crate::replies::verdict_number;
@@ -17,15 +18,16 @@ use crate::table::number;
 use crate::table::text;
 use book::BookState;
 use book::Reply;
+use zone::Limits;
 use zone::State;
 use zone::ZoneFront;
 
 // A book of one entry, and the places of the entry's parts in it.
 const BOOK: usize = HEAD + ENTRY;
 
-const VERSION: usize = HEAD + 4;
+pub const VERSION: usize = HEAD + 4;
 
-const CONDITIONS_FROM: usize = VERSION + 1;
+pub const CONDITIONS_FROM: usize = VERSION + 1;
 
 // Behind the conditions heating, cooling, rate and trigger.
 const TEMPERATURES: usize = CONDITIONS_FROM + CONDITIONS + 33;
@@ -44,13 +46,35 @@ pub fn one_hour(
     h: &[u8],
     conditions: &[u8],
     version: u64,
+    limits: Limits,
     b: &mut [u8],
 ) -> Reply {
     let begun = book::begin(nothing(), h, b);
-    book::append(z, codes, values, begun.values, conditions, version, b)
+    book::append(
+        z,
+        codes,
+        values,
+        begun.values,
+        conditions,
+        version,
+        limits,
+        b,
+    )
 }
 
+// A book of entries without limits.
 pub fn print_reply(r: Reply, refusal: u64, index: usize, entries: usize, last_version: u64) {
+    print_used(r, refusal, index, entries, used_of(entries), last_version);
+}
+
+pub fn print_used(
+    r: Reply,
+    refusal: u64,
+    index: usize,
+    entries: usize,
+    used: usize,
+    last_version: u64,
+) {
     let values = r.values;
     let verdict = r.verdict;
     number(
@@ -71,7 +95,7 @@ pub fn print_reply(r: Reply, refusal: u64, index: usize, entries: usize, last_ve
     number(
         b"  used bytes                     ",
         values.used as u64,
-        used_of(entries) as u64,
+        used as u64,
     );
     number(
         b"  last version                   ",
@@ -91,12 +115,28 @@ fn unlike_hour_step(
     version: u64,
     b: &[u8; BOOK],
 ) -> u64 {
-    let x = start.hour_step(z, codes, values, conditions, version);
+    let x = start.hour_step(z, codes, values, conditions, version, not_looked_at());
     let after = x.state;
     let temps = after.temps;
     let mut given = [0u8; BOOK];
     write_f64s_be(&mut given, TEMPERATURES, &temps, NODES);
     differing(b, &given, TEMPERATURES, BOOK)
+}
+
+fn unlike(a: &[u8; BOOK], b: &[u8; BOOK], from: usize, to: usize) -> u64 {
+    differing(a, b, from, to)
+}
+
+fn write_hour(
+    z: ZoneFront,
+    codes: &[u8; 72],
+    values: &[f64; 600],
+    h: &[u8],
+    conditions: &[u8; CONDITIONS],
+    version: u64,
+    b: &mut [u8; BOOK],
+) {
+    one_hour(z, codes, values, h, conditions, version, not_looked_at(), b);
 }
 
 // Each entry's temperatures beside the hour step's in its version.
@@ -126,8 +166,8 @@ fn print_warm(z: ZoneFront, codes: &[u8; 72], values: &[f64; 600], h: &[u8], sta
     let c = warm_hour();
     let mut one = [0u8; BOOK];
     let mut two = [0u8; BOOK];
-    one_hour(z, codes, values, h, &c, 1, &mut one);
-    one_hour(z, codes, values, h, &c, 2, &mut two);
+    write_hour(z, codes, values, h, &c, 1, &mut one);
+    write_hour(z, codes, values, h, &c, 2, &mut two);
     text(b"the warm hour's entries in version 1 and in version 2\n");
     number(
         b"  version byte of the first      ",
@@ -141,17 +181,17 @@ fn print_warm(z: ZoneFront, codes: &[u8; 72], values: &[f64; 600], h: &[u8], sta
     );
     number(
         b"  bytes before it that differ    ",
-        differing(&one, &two, 0, VERSION),
+        unlike(&one, &two, 0, VERSION),
         0,
     );
     number(
         b"  of conditions and demand       ",
-        differing(&one, &two, CONDITIONS_FROM, TEMPERATURES),
+        unlike(&one, &two, CONDITIONS_FROM, TEMPERATURES),
         0,
     );
     holds(
         b"  the temperatures differ",
-        differing(&one, &two, TEMPERATURES, BOOK) != 0,
+        unlike(&one, &two, TEMPERATURES, BOOK) != 0,
     );
     print_temperatures(z, codes, values, start, &c, &one, &two);
 }
@@ -160,17 +200,17 @@ fn print_cold(z: ZoneFront, codes: &[u8; 72], values: &[f64; 600], h: &[u8], sta
     let c = cold_hour();
     let mut one = [0u8; BOOK];
     let mut two = [0u8; BOOK];
-    one_hour(z, codes, values, h, &c, 1, &mut one);
-    one_hour(z, codes, values, h, &c, 2, &mut two);
+    write_hour(z, codes, values, h, &c, 1, &mut one);
+    write_hour(z, codes, values, h, &c, 2, &mut two);
     text(b"the cold hour's entries in version 1 and in version 2\n");
     number(
         b"  bytes that differ              ",
-        differing(&one, &two, 0, BOOK),
+        unlike(&one, &two, 0, BOOK),
         1,
     );
     number(
         b"  of them the version byte       ",
-        differing(&one, &two, VERSION, VERSION + 1),
+        unlike(&one, &two, VERSION, VERSION + 1),
         1,
     );
     print_temperatures(z, codes, values, start, &c, &one, &two);
@@ -188,7 +228,7 @@ fn print_append(
     entries: usize,
 ) -> BookState {
     let c = cold_hour();
-    let r = book::append(z, codes, values, given, &c, version, b);
+    let r = book::append(z, codes, values, given, &c, version, not_looked_at(), b);
     let index = if refusal == 0 { 0 } else { entries };
     print_reply(r, refusal, index, entries, 2);
     r.values

@@ -1,8 +1,10 @@
 // The warm and the cold hour: demand, then the hour step in version 1 and in version 2 from the same state.
+use crate::chilled_ceiling::room::CONDITIONS;
 use crate::chilled_ceiling::room::COOLING_SETPOINT;
 use crate::chilled_ceiling::room::HEATING_SETPOINT;
 use crate::chilled_ceiling::room::cold_hour;
 use crate::chilled_ceiling::room::warm_hour;
+use crate::limits::not_looked_at;
 use crate::replies::verdict_number;
 use crate::table::holds;
 use crate::table::number;
@@ -12,12 +14,13 @@ use crate::table::value;
 use zone::Demand;
 use zone::DemandAnswer;
 use zone::HourAnswer;
+use zone::Limits;
 use zone::OperativeReply;
 use zone::State;
 use zone::ZoneFront;
 
 // A distance that is no more than rounding, and one that the room's people notice.
-const KEPT: f64 = 1e-9;
+pub const KEPT: f64 = 1e-9;
 
 const MISSED: f64 = 0.1;
 
@@ -25,9 +28,10 @@ const MISSED: f64 = 0.1;
 const NOWHERE: f64 = -273.15;
 
 // The demand that is asked before an hour is met.
-struct Asked {
-    heating: f64,
-    cooling: f64,
+pub struct Asked {
+    pub heating: f64,
+    pub cooling: f64,
+    pub rate: f64,
 }
 
 pub fn print_start(z: ZoneFront, codes: &[u8; 72], values: &[f64; 600]) -> State {
@@ -42,12 +46,12 @@ pub fn print_start(z: ZoneFront, codes: &[u8; 72], values: &[f64; 600]) -> State
 }
 
 // A refused demand is printed as such, and its heating and cooling are no demand's.
-fn print_asked(
+pub fn print_asked(
     z: ZoneFront,
     codes: &[u8; 72],
     values: &[f64; 600],
     s: State,
-    conditions: &[u8],
+    conditions: &[u8; CONDITIONS],
 ) -> Asked {
     let x = s.space_heat_cool_demand(z, codes, values, conditions);
     let answer = x.answer;
@@ -60,6 +64,7 @@ fn print_asked(
             Asked {
                 heating: -1.0,
                 cooling: 1.0,
+                rate: 0.0,
             }
         }
         DemandAnswer::Accepted(d) => {
@@ -68,12 +73,13 @@ fn print_asked(
             Asked {
                 heating: d.space_heat_demand,
                 cooling: d.space_cool_demand,
+                rate: d.ach_cooling,
             }
         }
     }
 }
 
-// The version changes nothing of the demand.
+// Neither version nor limits change anything of the demand.
 fn print_demand(d: Demand, asked: Asked) {
     value(
         b"  heating, kWh                   ",
@@ -90,16 +96,17 @@ fn print_demand(d: Demand, asked: Asked) {
 }
 
 // The state after the hour; of a refused hour the one before it.
-fn state_after(
+pub fn state_after(
     z: ZoneFront,
     codes: &[u8; 72],
     values: &[f64; 600],
     s: State,
-    conditions: &[u8],
+    conditions: &[u8; CONDITIONS],
     version: u64,
+    limits: Limits,
     asked: Asked,
 ) -> State {
-    let x = s.hour_step(z, codes, values, conditions, version);
+    let x = s.hour_step(z, codes, values, conditions, version, limits);
     let answer = x.answer;
     match answer {
         HourAnswer::Refused {
@@ -112,7 +119,7 @@ fn state_after(
 }
 
 // The temperature under control; a refusal is printed as such, and then no setpoint is kept.
-fn operative(z: ZoneFront, codes: &[u8; 72], values: &[f64; 600], s: State) -> f64 {
+pub fn operative(z: ZoneFront, codes: &[u8; 72], values: &[f64; 600], s: State) -> f64 {
     let answer = s.temp_operative(z, codes, values);
     match answer {
         OperativeReply::Refused {
@@ -126,7 +133,7 @@ fn operative(z: ZoneFront, codes: &[u8; 72], values: &[f64; 600], s: State) -> f
     }
 }
 
-fn distance(a: f64, b: f64) -> f64 {
+pub fn distance(a: f64, b: f64) -> f64 {
     if a < b { b - a } else { a - b }
 }
 
@@ -136,12 +143,21 @@ fn print_met(
     codes: &[u8; 72],
     values: &[f64; 600],
     s: State,
-    conditions: &[u8],
+    conditions: &[u8; CONDITIONS],
     version: u64,
     asked: Asked,
     setpoint: f64,
 ) -> f64 {
-    let after = state_after(z, codes, values, s, conditions, version, asked);
+    let after = state_after(
+        z,
+        codes,
+        values,
+        s,
+        conditions,
+        version,
+        not_looked_at(),
+        asked,
+    );
     let t = operative(z, codes, values, after);
     shown(b"  operative temperature  ", t);
     shown(b"  from the setpoint      ", distance(t, setpoint));

@@ -9,6 +9,11 @@ pub const CONDITIONS: usize = 195;
 
 pub const ENTRY: usize = 297;
 
+// The limits in an entry of version 3, and such an entry.
+pub const LIMITS: usize = 16;
+
+pub const LIMITED_ENTRY: usize = ENTRY + LIMITS;
+
 // Five of the wall, two of the window, and the air.
 pub const NODES: usize = 8;
 
@@ -25,9 +30,9 @@ pub fn used_of(entries: usize) -> usize {
 }
 
 // What the ceiling gives to the air, the rest going to the surfaces by radiation.
-const HEATING_FRACTION: f64 = 0.3;
+pub const HEATING_FRACTION: f64 = 0.3;
 
-const COOLING_FRACTION: f64 = 0.7;
+pub const COOLING_FRACTION: f64 = 0.7;
 
 pub const HEATING_SETPOINT: f64 = 21.0;
 

@@ -2,6 +2,7 @@
 use crate::house_p::house::conditions_of;
 use crate::house_p::house::head_of;
 use crate::house_p::house::house_p;
+use crate::limits::not_looked_at;
 use crate::replies::nothing;
 use crate::replies::verdict_number;
 use crate::table::number;
@@ -47,12 +48,21 @@ fn book_of_one(b: &mut [u8; 396]) {
     let begun = book::begin(nothing(), &p, b);
     print_used(begun, 0, 180);
     text(b"append\n");
-    let appended = book::append(h.zone, &codes, &values, begun.values, &c, VERSION, b);
+    let appended = book::append(
+        h.zone,
+        &codes,
+        &values,
+        begun.values,
+        &c,
+        VERSION,
+        not_looked_at(),
+        b,
+    );
     print_used(appended, 1, 396);
 }
 
 // Take-up of the first `cut` bytes.
-fn taken_up(b: &[u8], cut: usize) -> Reply {
+pub fn taken_up(b: &[u8], cut: usize) -> Reply {
     if cut < b.len() {
         let start = 0;
         let part = &b[start..cut];

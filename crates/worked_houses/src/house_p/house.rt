@@ -57,24 +57,45 @@ pub fn head_of(p: House) -> [u8; 180] {
     b
 }
 
-// An hour of House P with these heating and cooling setpoints.
-pub fn conditions_of(heat: f64, cool: f64) -> [u8; 154] {
+// What the rows change of its hours: setpoints, convective fractions of heating and cooling, and what other systems give.
+pub struct Hour {
+    pub heat: f64,
+    pub cool: f64,
+    pub heating_fraction: f64,
+    pub cooling_fraction: f64,
+    pub convective: f64,
+    pub radiative: f64,
+}
+
+pub fn hour_of(h: Hour) -> [u8; 154] {
     let mut b = [0u8; 154];
     let values = [
         1.0,
         20.0,
         0.0,
         0.0,
-        1.0,
-        1.0,
-        heat,
-        cool,
+        h.heating_fraction,
+        h.cooling_fraction,
+        h.heat,
+        h.cool,
         1.4e32,
         20.0,
-        0.0,
-        0.0,
+        h.convective,
+        h.radiative,
     ];
     write_f64s_be(&mut b, 0, &values, 12);
     put_part(&mut b, 113);
     b
+}
+
+// An hour of House P with these heating and cooling setpoints.
+pub fn conditions_of(heat: f64, cool: f64) -> [u8; 154] {
+    hour_of(Hour {
+        heat,
+        cool,
+        heating_fraction: 1.0,
+        cooling_fraction: 1.0,
+        convective: 0.0,
+        radiative: 0.0,
+    })
 }

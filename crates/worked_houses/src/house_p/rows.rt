@@ -14,7 +14,7 @@ use zone::Verdict;
 use zone::ZoneFront;
 
 // Every temperature 20.
-fn start() -> State {
+pub fn start() -> State {
     State {
         nodes: 3,
         temps: [20.0; 121],

@@ -77,6 +77,6 @@ module _ (c : Coefficients) (z : Zone) where
       demand-signs c z (slotsOf z s) (h .0) d (h .2)
 
   pub hour-call-signs : HourCallSigns c z
-  hour-call-signs version s bytes r e =
-      let h = hour-made c z s version bytes r e in
+  hour-call-signs version l s bytes r e =
+      let h = hour-made c z s version l bytes r e in
       demand-signs c z (slotsOf z s) (h .conditions) (r .demand) (h .answered)

@@ -14,7 +14,7 @@ use Rattle.solver.specs.Chain.{eliminateChain, eliminateChains, chainDivisorsVa
 use Rattle.solver.specs.FastSolver.{setInnerDiagonals, gatherDense, scatterDense, temperatures, diagOf, denseOf, allDivisorsValid, temperaturesOf, temperaturesValid, solve}
 use Rattle.zone.specs.Record.BuildingElement.{standardCoefficients, hCi, addClosed, hPliTransparent, numberOfNodes, nodesOf, nodeCount}
 use Rattle.zone.specs.Format.Bytes.{bigEndianFrom, bytesOf}
-use Rattle.zone.specs.Check.Ranges.{areaRange, pitchRange, coefficientRange, hPliRange, kPliRange, fractionRange, skyRange, deltaRRange, irradianceRange, gainsRange, rateRange, temperatureRange, heatingSetpointRange, setpointRange, hourLengthRange, allIn}
+use Rattle.zone.specs.Check.Ranges.{areaRange, pitchRange, coefficientRange, hPliRange, kPliRange, fractionRange, skyRange, deltaRRange, irradianceRange, gainsRange, powerLimitRange, rateRange, temperatureRange, heatingSetpointRange, setpointRange, hourLengthRange, allIn}
 use Rattle.zone.specs.Check.ZoneTest.{elementHourInRange, elementInRange, frontInRange, valuesTest, countsTest, zoneTest, allRequired}
 use Rattle.zone.specs.Format.Conditions.{elementHoursAt, conditionsAt, openBitsValid, hourAndGainsInRange, setpointsInRange, conditionsTest, conditionsOf}
 use Rattle.zone.specs.Physics.Ventilation.{airProperties, densityKgPerM3, calcVentHeatTransferCoeff, orMinimum, raisedTo, cappedAt, achReqToReachTemperature}
@@ -27,7 +27,7 @@ use Rattle.zone.specs.Physics.Equations.{rowsOf, rightSidesOf}
 use Rattle.zone.specs.Physics.NodeLayout.{firstNode, copyNodes, toSlots, toNodes}
 use Rattle.zone.specs.Calls.State.{stateTest, zoneAndStateTest, slotsOf, stateOf}
 use Rattle.zone.specs.Hour.Demand.{controlTemperature, fracConvGainsHeatCool, wanted, fracUpper, interpHeatCoolDemand, demandRecord, calcCoolingPotentialFromVentilation, shareOrZero, demandForLoad, spaceHeatCoolDemand}
-use Rattle.zone.specs.Calls.Hour.{testedHour, tested, testedStep, step, updateTemperatures, demand, delivered, deliveredFraction, convectiveShare, hourStep}
+use Rattle.zone.specs.Calls.Hour.{testedHour, tested, testedHourAndLimits, testedStep, step, updateTemperatures, demand, delivered, limited, deliveredBy, deliveredFraction, convectiveShare, hourStep}
 use lib.Ieee.{add, sub, mul, div, lt, le, eq, ne, ofBits, toBits, neg}
 use Rattle.zone.specs.Format.Head.{headOf, structureOf, elementsEnd}
 use Rattle.zone.specs.Calls.StartUp.{startUpConditions, allClose, close, pass, settle, initNodeTemps}
@@ -63,7 +63,7 @@ unfolding diagOf denseOf allDivisorsValid temperaturesOf temperaturesValid solve
 solver4 = tt
 
 unfoldable checks1 : Unit {0}
-unfolding areaRange pitchRange coefficientRange hPliRange kPliRange fractionRange skyRange deltaRRange irradianceRange gainsRange rateRange temperatureRange heatingSetpointRange
+unfolding areaRange pitchRange coefficientRange hPliRange kPliRange fractionRange skyRange deltaRRange irradianceRange gainsRange powerLimitRange rateRange temperatureRange heatingSetpointRange
 checks1 = tt
 
 unfoldable checks2 : Unit {0}
@@ -91,7 +91,7 @@ unfolding calcCoolingPotentialFromVentilation shareOrZero demandForLoad spaceHea
 calls2 = tt
 
 unfoldable calls3 : Unit {0}
-unfolding pass settle initNodeTemps delivered deliveredFraction convectiveShare testedStep hourStep
+unfolding pass settle initNodeTemps delivered limited deliveredBy deliveredFraction convectiveShare testedHourAndLimits testedStep hourStep
 calls3 = tt
 
 -- all of them
@@ -101,7 +101,7 @@ computed = tt
 
 pub house-p : HousePClaims
 unfolding computed
-house-p = record { head = refl; start-up = refl; balance = _; hour = refl; hour-2 = refl }
+house-p = record { head = refl; start-up = refl; balance = _; hour-1 = λ l. refl; hour-2 = λ l. refl; hour-3 = refl }
 
 pub claim : allHold table ≡ true
 unfolding allHold computed

@@ -11,6 +11,7 @@ use Rattle.solver.proofs.Laws.Refusals.{bind-refuses, cond-refuses, require-ref
 use Rattle.zone.specs.declared.record.building_element.Coefficients.{Coefficients}
 use Rattle.zone.specs.declared.record.building_element.Element.{Element}
 use Rattle.zone.specs.declared.record.zone_record.Zone.{Zone}
+use Rattle.zone.specs.declared.format.limits.Limits.{Limits}
 use Rattle.zone.specs.declared.calls.state.State.{State}
 use Rattle.zone.specs.Record.BuildingElement.{nodeCount}
 use Rattle.zone.specs.Check.Ranges.{gainsRange, fractionRange, rateRange}
@@ -18,7 +19,7 @@ use Rattle.zone.specs.Check.ZoneTest.{elementHourInRange, elementInRange
 use Rattle.zone.specs.Format.Layout.{firstElementHour, conditionsLength}
 use Rattle.zone.specs.Format.Conditions.{conditionsAt, rateCodeValid, openBitsValid, hourAndGainsInRange, setpointsInRange, achArgsInRange, conditionsTest, conditionsOf}
 use Rattle.zone.specs.Calls.State.{allWithinStateBound, stateTest, zoneAndStateTest, slotsOf, operative}
-use Rattle.zone.specs.Calls.Hour.{testedHour, tested, hourVersion, testedStep, demand, hourStep, updateTemperatures}
+use Rattle.zone.specs.Calls.Hour.{testedHour, tested, hourVersion, limitsValid, testedHourAndLimits, testedStep, demand, hourStep, updateTemperatures}
 use Rattle.zone.specs.Calls.StartUp.{startState, close, settle, initNodeTemps}
 use Rattle.zone.specs.Claims.Refusals.{OfZone, IndicesOfZone}
 use Rattle.zone.proofs.Laws.Refusals.{demand-refuses, step-refuses, pass-refuses}
@@ -87,12 +88,14 @@ module _ (z : Zone) where
         bind-refuses _ zone-within λ _ _.
         tested-hour-within bytes
 
-    tested-step-within : (version : ℕ) (bytes : List ℕ) → RefusesOnly (OfZone z) (testedStep z version s bytes)
-    unfolding testedStep
-    tested-step-within version bytes =
+    tested-step-within : (version : ℕ) (l : Limits) (bytes : List ℕ) → RefusesOnly (OfZone z) (testedStep z version l s bytes)
+    unfolding testedStep testedHourAndLimits
+    tested-step-within version l bytes =
         bind-refuses _ zone-within λ _ _.
         test-refuses (hourVersion version) Number.falseEntry 0 _ none λ _.
-        tested-hour-within bytes
+        bind-refuses _ (tested-hour-within bytes) λ h _.
+        test-refuses (limitsValid version l) Number.limitValue 0 _ none λ _.
+        accepts h
 
     module _ (c : Coefficients) (bytes : List ℕ) where
       demand-within : RefusesOnly (OfZone z) (demand c z s bytes)
@@ -101,10 +104,10 @@ module _ (z : Zone) where
           bind-refuses _ (tested-within bytes) λ h _.
           demand-refuses solve-none c z (slotsOf z s) h none (λ _. none) none
 
-      hour-within : (version : ℕ) → RefusesOnly (OfZone z) (hourStep c z version s bytes)
+      hour-within : (version : ℕ) (l : Limits) → RefusesOnly (OfZone z) (hourStep c z version l s bytes)
       unfolding hourStep
-      hour-within version =
-          bind-refuses _ (tested-step-within version bytes) λ h _.
+      hour-within version l =
+          bind-refuses _ (tested-step-within version l bytes) λ h _.
           bind-refuses _ (demand-refuses solve-none c z (slotsOf z s) h none (λ _. none) none) λ d _.
           bind-refuses _ (step-refuses solve-none c z s h _ _ _) λ r _.
           accepts _
@@ -135,7 +138,7 @@ indices-of-zone c z =
     record {
       operatives = operative-within z;
       demands = λ s bytes. demand-within z s c bytes;
-      hourSteps = λ version s bytes. hour-within z s c bytes version;
+      hourSteps = λ version l s bytes. hour-within z s c bytes version l;
       updates = λ s bytes gains fraction ach. update-within z s c bytes gains fraction ach;
       startUp = start-up-within z c;
     }

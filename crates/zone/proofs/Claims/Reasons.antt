@@ -11,12 +11,13 @@ use Rattle.solver.proofs.Laws.Refusals.{bind-refuses, refuses-also}
 use Rattle.zone.specs.declared.record.building_element.Coefficients.{Coefficients}
 use Rattle.zone.specs.declared.record.zone_record.Zone.{Zone}
 use Rattle.zone.specs.declared.format.conditions.Conditions.{Conditions}
+use Rattle.zone.specs.declared.format.limits.Limits.{Limits}
 use Rattle.zone.specs.declared.calls.state.State.{State}
 use Rattle.zone.specs.Record.Numbers as Number
 use Rattle.zone.specs.Check.Ranges.{gainsRange, fractionRange, rateRange}
 use Rattle.zone.specs.Check.ZoneTest.{zoneTest}
 use Rattle.zone.specs.Calls.State.{slotsOf}
-use Rattle.zone.specs.Calls.Hour.{testedHour, tested, hourVersion, testedStep, step, demand, hourStep, updateTemperatures}
+use Rattle.zone.specs.Calls.Hour.{testedHour, tested, hourVersion, limitsValid, testedHourAndLimits, testedStep, step, demand, hourStep, updateTemperatures}
 use Rattle.zone.specs.Calls.StartUp.{startUpConditions, startState, close, pass, settle, initNodeTemps}
 use Rattle.zone.specs.Claims.StartUpClaims.{Unsettled, start, further}
 use Rattle.zone.specs.Claims.Reasons.{
@@ -24,6 +25,7 @@ use Rattle.zone.specs.Claims.Reasons.{
   inTests,
   after,
   DemandReasons,
+  byLimitValue,
   asked,
   met,
   HourStepReason,
@@ -42,7 +44,7 @@ use Rattle.zone.specs.Claims.Reasons.{
   StartUpReasons,
 }
 use Rattle.zone.proofs.Claims.HeadRefusals.{zone-below, conditions-below, zone-refusals}
-use Rattle.zone.proofs.Laws.Versions.{step-passed}
+use Rattle.zone.proofs.Laws.Versions.{invalid-limits, step-passed}
 use Rattle.zone.proofs.Laws.Refusals as Laws
 
 -- what is refused, by the equation that says so
@@ -71,29 +73,37 @@ module _ (c : Coefficients) (z : Zone) where
   unfolding demand
   demand-reasons s bytes = tests-then z s bytes _ λ h. Laws.demand-reasons c z (slotsOf z s) h
 
-  module _ (version : ℕ) (s : State) (bytes : List ℕ) where
+  module _ (version : ℕ) (l : Limits) (s : State) (bytes : List ℕ) where
     -- of a zone and a version that pass they are the demand's
-    hour-tests : zoneTest z ≡ ok tt → hourVersion version ≡ true → RefusesOnly (HourStepReason c z version s bytes) (testedHour z s bytes)
+    hour-tests : zoneTest z ≡ ok tt → hourVersion version ≡ true → RefusesOnly (HourStepReason c z version l s bytes) (testedHour z s bytes)
     unfolding tested Below10
     hour-tests a k =
-        subst (RefusesOnly (HourStepReason c z version s bytes)) (rw a refl)
+        subst (RefusesOnly (HourStepReason c z version l s bytes)) (rw a refl)
         (refuses-also (λ n i p. ofVersion a k (inTests (p .1) (p .0))) (by-equation (tested z s bytes) (tests-below z s bytes)))
 
-    step-tests : RefusesOnly (HourStepReason c z version s bytes) (testedStep z version s bytes)
+    -- then the limits'
+    limits-tests : zoneTest z ≡ ok tt → hourVersion version ≡ true → RefusesOnly (HourStepReason c z version l s bytes) (testedHourAndLimits z version l s bytes)
+    unfolding testedHourAndLimits tested
+    limits-tests a k =
+        bind-refuses _ (hour-tests a k) λ h e.
+        Laws.because (limitsValid version l) Number.limitValue 0 _ (λ q. ofVersion a k (after {h = h} (rw a e) (byLimitValue (invalid-limits version l q .0) (invalid-limits version l q .1)))) λ _.
+        accepts h
+
+    step-tests : RefusesOnly (HourStepReason c z version l s bytes) (testedStep z version l s bytes)
     unfolding testedStep
     step-tests =
         bind-refuses _ (refuses-also (λ n i p. inHourZone (p .1) (zone-below n i (p .0))) (by-equation (zoneTest z) (zone-refusals z))) λ _ a.
         Laws.because (hourVersion version) Number.falseEntry 0 _ (byFalseEntry a) λ k.
-        hour-tests a k
+        limits-tests a k
 
   pub hour-reasons : HourReasons c z
   unfolding hourStep step
-  hour-reasons version s bytes =
-      bind-refuses _ (step-tests version s bytes) λ h e.
-      let p = step-passed z version s bytes h e in
+  hour-reasons version l s bytes =
+      bind-refuses _ (step-tests version l s bytes) λ h e.
+      let p = step-passed z version l s bytes h e in
       refuses-also (λ n i q. ofVersion (p .zone) (p .known) (after (p .tests) q)) (
-      bind-refuses _ (refuses-also (λ n i p. asked p) (Laws.demand-reasons c z (slotsOf z s) h)) λ d e.
-      bind-refuses _ (bind-refuses _ (refuses-also (λ n i p. met e p) (Laws.solve-reasons c z (slotsOf z s) h _ _ _)) λ t _. accepts _) λ r _.
+      bind-refuses _ (refuses-also (λ n i q. asked (p .limits) q) (Laws.demand-reasons c z (slotsOf z s) h)) λ d e.
+      bind-refuses _ (bind-refuses _ (refuses-also (λ n i q. met (p .limits) e q) (Laws.solve-reasons c z (slotsOf z s) h _ _ _)) λ t _. accepts _) λ r _.
       accepts _)
 
   pub update-reasons : UpdateReasons c z

@@ -1,5 +1,5 @@
 -- Refusals: which numbers and indices they have; and a refused call hands back the state that it was given.
-use mathlib.Core.Path.{_≡_, refl, sym, subst}
+use mathlib.Core.Path.{_≡_, refl}
 use Prim.Native.Nat.{ℕ, zero, suc, _<_}
 use mathlib.Core.Bool.{true, _&&_}
 use mathlib.Core.List.{List, []}
@@ -11,6 +11,7 @@ use Rattle.solver.proofs.Laws.Refusals.{bind-refuses, cond-refuses, test-refuse
 use Rattle.zone.specs.declared.record.building_element.Coefficients.{Coefficients}
 use Rattle.zone.specs.declared.record.zone_record.Zone.{Zone}
 use Rattle.zone.specs.declared.format.conditions.Conditions.{Conditions}
+use Rattle.zone.specs.declared.format.limits.Limits.{Limits}
 use Rattle.zone.specs.Check.Ranges.{gainsRange, fractionRange, rateRange}
 use Rattle.zone.proofs.Claims.HeadRefusals.{zone-below, conditions-below, zone-refusals}
 use Rattle.zone.specs.declared.physics.balance.HeatBalance.{HeatBalance}
@@ -35,8 +36,11 @@ use Rattle.zone.specs.Claims.Refusals.{
   demandVentilationBelowHeating,
   demandSolve,
   demandNoEffect,
-  HourRefusal,
+  KnownHourRefusal,
   hourDemand,
+  hourLimitValue,
+  HourRefusal,
+  hourKnown,
   hourFalseEntry,
   UpdateRefusal,
   updateZone,
@@ -53,7 +57,6 @@ use Rattle.zone.specs.Claims.Refusals.{
   CallRefusals,
 }
 use Rattle.zone.specs.Claims.StateClaims.{StateKept}
-use Rattle.zone.proofs.Laws.Versions.{step-known}
 use Rattle.zone.proofs.Laws.Refusals.{before-refuses, tested-refuses, tested-step-refuses, step-refuses, demand-refuses, pass-refuses}
 use Rattle.zone.specs.Record.Numbers as Number
 
@@ -92,22 +95,25 @@ module _ (c : Coefficients) (z : Zone) where
         demand-asked h
 
     -- after its tests an hour step has the demand's
-    step-after-tests : {P : ℕ → ℕ → Type 0} → ((n i : ℕ) → DemandRefusal n i → P n i) → (version : ℕ) → RefusesOnly P (testedStep z version s bytes) → RefusesOnly P (hourStep c z version s bytes)
+    step-after-tests : {P : ℕ → ℕ → Type 0} → ((n i : ℕ) → DemandRefusal n i → P n i) → (version : ℕ) (l : Limits) → RefusesOnly P (testedStep z version l s bytes)
+        → RefusesOnly P (hourStep c z version l s bytes)
     unfolding hourStep
-    step-after-tests also version tests =
+    step-after-tests also version l tests =
         bind-refuses _ tests λ h _.
         bind-refuses _ (refuses-also also (demand-asked h)) λ d _.
         bind-refuses _ (step-refuses (λ n i p. also n i (demandSolve p)) c z s h _ _ _) λ r _.
         accepts _
 
-    pub hour-step-refusals : (version : ℕ) → RefusesOnly HourRefusal (hourStep c z version s bytes)
-    hour-step-refusals version =
-        step-after-tests (λ n i p. hourDemand p) version
-        (tested-step-refuses (λ n i p. hourDemand (demandZone p)) hourFalseEntry (hourDemand demandStateInvalid) (λ n i p. hourDemand (demandConditions p)) z version s bytes)
+    pub hour-step-refusals : (version : ℕ) (l : Limits) → RefusesOnly HourRefusal (hourStep c z version l s bytes)
+    hour-step-refusals version l =
+        step-after-tests (λ n i p. hourKnown (hourDemand p)) version l
+        (tested-step-refuses z version l s bytes (λ n i p. hourKnown (hourDemand (demandZone p))) (λ _. hourFalseEntry) (hourKnown (hourDemand demandStateInvalid)) (λ n i p. hourKnown (hourDemand (demandConditions p))) (hourKnown hourLimitValue))
 
-    -- of a version that hours have it has no others
-    pub known-step-refusals : (version : ℕ) → hourVersion version ≡ true → RefusesOnly DemandRefusal (hourStep c z version s bytes)
-    known-step-refusals version k = step-after-tests (λ n i p. p) version (subst (RefusesOnly DemandRefusal) (sym (step-known z version s bytes k)) demand-tested)
+    -- of a version that hours have it has no 18
+    pub known-step-refusals : (version : ℕ) (l : Limits) → hourVersion version ≡ true → RefusesOnly KnownHourRefusal (hourStep c z version l s bytes)
+    known-step-refusals version l k =
+        step-after-tests (λ n i p. hourDemand p) version l
+        (tested-step-refuses z version l s bytes (λ n i p. hourDemand (demandZone p)) (λ f. absurd (let x : _≡_ {A = ℕ} 0 1 = cc in omega arith)) (hourDemand demandStateInvalid) (λ n i p. hourDemand (demandConditions p)) hourLimitValue)
 
     pub update-refusals : (gains fraction ach : Float) → RefusesOnly UpdateRefusal (updateTemperatures c z s bytes gains fraction ach)
     unfolding updateTemperatures
@@ -147,7 +153,7 @@ call-refusals c z =
     record {
       operatives = λ s. operative-refusals c z s [];
       demands = demand-refusals c z;
-      hourSteps = λ version s bytes. hour-step-refusals c z s bytes version;
+      hourSteps = λ version l s bytes. hour-step-refusals c z s bytes version l;
       updates = update-refusals c z;
       startUps = start-up-refusals c z;
     }

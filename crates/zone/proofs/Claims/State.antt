@@ -51,8 +51,8 @@ module _ (c : Coefficients) (z : Zone) where
       step-tested s bytes (h .0) (r .0) (h .1) (step-made c z s (h .0) gains fraction ach r (w .2))
 
   pub hour-state-tested : HourStateTested c z
-  hour-state-tested version s bytes r e =
-      let m = hour-made c z s version bytes r e in
+  hour-state-tested version l s bytes r e =
+      let m = hour-made c z s version l bytes r e in
       step-tested s bytes (m .conditions) (r .state) (m .tests) (m .met)
 
   -- start-up: the temperatures that settle are those before the first pass, or what a pass gave

@@ -10,6 +10,7 @@ use Rattle.solver.proofs.Laws.Result.{bind-ok, ok-inj}
 use Rattle.zone.specs.Format.Layout.{conditionsLength}
 use Rattle.zone.specs.declared.record.building_element.Coefficients.{Coefficients}
 use Rattle.zone.specs.declared.format.conditions.Conditions.{Conditions}
+use Rattle.zone.specs.declared.format.limits.Limits.{Limits}
 use Rattle.zone.specs.declared.record.zone_record.Zone.{Zone}
 use Rattle.zone.specs.Check.ZoneTest.{zoneTest}
 use Rattle.zone.proofs.Laws.Versions.{step-passed}
@@ -22,7 +23,7 @@ use Rattle.zone.specs.declared.physics.balance.HeatBalance.{HeatBalance}
 use Rattle.zone.specs.declared.calls.state.State.{State}
 use Rattle.zone.specs.Calls.State.{stateTest, slotsOf, stateOf}
 use Rattle.zone.specs.Hour.Demand.{deltaT, gainsHeatCool, spaceHeatCoolDemand}
-use Rattle.zone.specs.Calls.Hour.{testedHour, tested, testedStep, step, delivered, convectiveShare, HourResult, hourStep}
+use Rattle.zone.specs.Calls.Hour.{testedHour, tested, testedStep, step, deliveredBy, convectiveShare, HourResult, hourStep}
 
 -- the temperatures after an accepted step, and its state
 pub record StepMade (c : Coefficients) (z : Zone) (t : List Float) (h : Conditions) (after : State) : Type 0 where
@@ -48,18 +49,18 @@ module _ (c : Coefficients) (z : Zone) (s : State) where
       let t = bind-ok (calcTemperatures c z (slotsOf z s) h (deltaT h) gains fraction ach) _ r e in
       record { gains = gains; fraction = fraction; ach = ach; temps = t .0; solved = t .1; state = ap (λ x. x .0) (ok-inj (t .2)) }
 
-  module _ (version : ℕ) (bytes : List ℕ) (r : HourResult) (e : hourStep c z version s bytes ≡ ok r) where
+  module _ (version : ℕ) (l : Limits) (bytes : List ℕ) (r : HourResult) (e : hourStep c z version l s bytes ≡ ok r) where
     pub hour-made : HourMade c z s bytes r
     unfolding hourStep
     hour-made =
-        let h = bind-ok (testedStep z version s bytes) _ r e in
+        let h = bind-ok (testedStep z version l s bytes) _ r e in
         let d = bind-ok (spaceHeatCoolDemand c z (slotsOf z s) (h .0)) _ r (h .2) in
-        let w = delivered (h .0) (d .0) in
+        let w = deliveredBy version l (h .0) (d .0) in
         let g = gainsHeatCool (h .0) +ᶠ w in
         let m = bind-ok (step c z s (h .0) g (convectiveShare version (h .0) w g) (d .0 .«ach_cooling»)) _ r (d .2) in
         record {
           conditions = h .0;
-          tests = step-passed z version s bytes (h .0) (h .1) .tests;
+          tests = step-passed z version l s bytes (h .0) (h .1) .tests;
           answered = d .1 ∙ ap (λ x. ok (x .demand)) (ok-inj (m .2));
           met = subst (StepMade c z (slotsOf z s) (h .0)) (ap (λ x. x .state) (ok-inj (m .2))) (step-made (h .0) g (convectiveShare version (h .0) w g) (d .0 .«ach_cooling») (m .0) (m .1));
         }

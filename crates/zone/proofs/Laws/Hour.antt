@@ -1,5 +1,5 @@
 -- The ways out of the functions of arguments.rt, update.rt, hour_step.rt and next_hour.rt.
-use mathlib.Core.Path.{_≡_, refl, sym, ap, _∙_}
+use mathlib.Core.Path.{_≡_, refl}
 use mathlib.Core.Bool.{Bool, true, false, _&&_}
 use mathlib.Core.List.{List, []}
 use Prim.Native.Nat.{ℕ}
@@ -11,6 +11,7 @@ use Rattle.zone.specs.declared.record.zone_record.Zone.{Zone}
 use Rattle.zone.specs.declared.record.zone_record.Verdict.{Verdict}
 use Rattle.zone.specs.declared.record.zone_record.Verdict.the-variants as Verdict
 use Rattle.zone.specs.declared.format.conditions.Conditions.{Conditions}
+use Rattle.zone.specs.declared.format.limits.Limits.{Limits}
 use Rattle.zone.specs.declared.format.conditions.HourFront.{HourFront}
 use Rattle.zone.specs.declared.record.building_element.ElementHour.{ElementHour}
 use Rattle.zone.specs.Record.BuildingElement.{standardCoefficients}
@@ -29,7 +30,7 @@ use Rattle.zone.specs.declared.calls.state.UpdateReply.{UpdateReply}
 use Rattle.zone.specs.declared.calls.state.HourStepReply.{HourStepReply}
 use Rattle.zone.specs.Calls.State.{slotsOf, stateOf}
 use Rattle.zone.specs.Hour.Demand.{deltaT, gainsHeatCool, temperaturesWith, spaceHeatCoolDemand}
-use Rattle.zone.specs.Calls.Hour.{testedHour, tested, testedStep, step, updateTemperatures, demand, delivered, deliveredFraction, convectiveShare, hourStep}
+use Rattle.zone.specs.Calls.Hour.{tested, testedHourAndLimits, testedStep, step, updateTemperatures, demand, delivered, deliveredBy, deliveredFraction, convectiveShare, hourStep}
 use Rattle.zone.specs.declared.hour.hour.Meeting.the-variants.{NotMet, WithGains}
 use Rattle.zone.specs.declared.hour.hour.Asked.the-variants as Asked
 use Rattle.zone.specs.Inner.Lent.{hourOf}
@@ -38,14 +39,7 @@ use Rattle.zone.specs.Inner.Hour.{demandSolved, updateSolved, hourSolved
 use Rattle.zone.specs.Calls.Answers.{demandReply, updateReply, hourStepReply}
 use Rattle.zone.specs.Inner.NextHour.{nextHour, nextHourReply, solvedNext}
 use Rattle.zone.specs.Inner.Verdict.{verdictRes}
-
--- a verdict with its value
-module _ {A : Type 0} (v : Verdict) (x : A) (r : Result A) (e : verdictRes v x ≡ r) where
-  pub res-accepted : v ≡ Verdict.Accepted → r ≡ ok x
-  res-accepted p = sym e ∙ ap (λ (w : Verdict). verdictRes w x) p
-
-  pub res-refused : (n i : ℕ) → v ≡ Verdict.Refused n i → r ≡ refused n i
-  res-refused n i p = sym e ∙ ap (λ (w : Verdict). verdictRes w x) p
+use Rattle.zone.proofs.Laws.Ranges.{res-accepted, res-refused}
 
 -- ---- the hour, solved
 
@@ -64,42 +58,42 @@ demanded-is s after (DemandAnswer.Accepted d) = refl
 demanded-is s after (DemandAnswer.Refused n i) = refl
 
 -- the hour step
-module _ (z : Zone) (version : ℕ) (s : State) (bytes : List ℕ) (h : Conditions) (read : testedStep z version s bytes ≡ ok h) (t : List Float) (t-is : t ≡ slotsOf z s) (before : List Float) where
-  hour-solved : hourStep standardCoefficients z version s bytes ≡ bind (hourSolved z t h (Asked.Demand (WithGains version)) before) (stepped z version t h)
+module _ (z : Zone) (version : ℕ) (l : Limits) (s : State) (bytes : List ℕ) (h : Conditions) (read : testedStep z version l s bytes ≡ ok h) (t : List Float) (t-is : t ≡ slotsOf z s) (before : List Float) where
+  hour-solved : hourStep standardCoefficients z version l s bytes ≡ bind (hourSolved z t h (Asked.Demand (WithGains version l)) before) (stepped z version l t h)
   unfolding hourStep step demandSolved
   hour-solved = go (spaceHeatCoolDemand standardCoefficients z t h) refl
     where
       last : (d : Demand) → spaceHeatCoolDemand standardCoefficients z t h ≡ ok d → (y : Result (List Float))
-          → temperaturesWith standardCoefficients z t h (gainsHeatCool h +ᶠ delivered h d) (convectiveShare version h (delivered h d) (gainsHeatCool h +ᶠ delivered h d)) (d .«ach_cooling») ≡ y
-          → hourStep standardCoefficients z version s bytes ≡ bind (hourSolved z t h (Asked.Demand (WithGains version)) before) (stepped z version t h)
+          → temperaturesWith standardCoefficients z t h (gainsHeatCool h +ᶠ deliveredBy version l h d) (convectiveShare version h (deliveredBy version l h d) (gainsHeatCool h +ᶠ deliveredBy version l h d)) (d .«ach_cooling») ≡ y
+          → hourStep standardCoefficients z version l s bytes ≡ bind (hourSolved z t h (Asked.Demand (WithGains version l)) before) (stepped z version l t h)
       last d p (ok after) q = rw (read, ← t-is, p, q) refl
       last d p (refused n i) q = rw (read, ← t-is, p, q) refl
 
-      go : (x : Result Demand) → spaceHeatCoolDemand standardCoefficients z t h ≡ x → hourStep standardCoefficients z version s bytes ≡ bind (hourSolved z t h (Asked.Demand (WithGains version)) before) (stepped z version t h)
+      go : (x : Result Demand) → spaceHeatCoolDemand standardCoefficients z t h ≡ x → hourStep standardCoefficients z version l s bytes ≡ bind (hourSolved z t h (Asked.Demand (WithGains version l)) before) (stepped z version l t h)
       go (ok d) p = last d p _ refl
       go (refused n i) p = rw (read, ← t-is, p) refl
 
 -- the same without the heat balance
-module _ (z : Zone) (version : ℕ) (s : State) (bytes : List ℕ) (h : Conditions) (read : testedHour z s bytes ≡ ok h) (t : List Float) (t-is : t ≡ slotsOf z s) (before : List Float) where
-  pub next-solved : nextHour standardCoefficients z version s bytes ≡ solvedNext z (hourSolved z t h (Asked.Demand (WithGains version)) before)
+module _ (z : Zone) (version : ℕ) (l : Limits) (s : State) (bytes : List ℕ) (h : Conditions) (read : testedHourAndLimits z version l s bytes ≡ ok h) (t : List Float) (t-is : t ≡ slotsOf z s) (before : List Float) where
+  pub next-solved : nextHour standardCoefficients z version l s bytes ≡ solvedNext z (hourSolved z t h (Asked.Demand (WithGains version l)) before)
   unfolding nextHour demandSolved
   next-solved = go (spaceHeatCoolDemand standardCoefficients z t h) refl
     where
       last : (d : Demand) → spaceHeatCoolDemand standardCoefficients z t h ≡ ok d → (y : Result (List Float))
-          → temperaturesWith standardCoefficients z t h (gainsHeatCool h +ᶠ delivered h d) (convectiveShare version h (delivered h d) (gainsHeatCool h +ᶠ delivered h d)) (d .«ach_cooling») ≡ y
-          → nextHour standardCoefficients z version s bytes ≡ solvedNext z (hourSolved z t h (Asked.Demand (WithGains version)) before)
+          → temperaturesWith standardCoefficients z t h (gainsHeatCool h +ᶠ deliveredBy version l h d) (convectiveShare version h (deliveredBy version l h d) (gainsHeatCool h +ᶠ deliveredBy version l h d)) (d .«ach_cooling») ≡ y
+          → nextHour standardCoefficients z version l s bytes ≡ solvedNext z (hourSolved z t h (Asked.Demand (WithGains version l)) before)
       last d p (ok after) q = rw (read, ← t-is, p, q) refl
       last d p (refused n i) q = rw (read, ← t-is, p, q) refl
 
-      go : (x : Result Demand) → spaceHeatCoolDemand standardCoefficients z t h ≡ x → nextHour standardCoefficients z version s bytes ≡ solvedNext z (hourSolved z t h (Asked.Demand (WithGains version)) before)
+      go : (x : Result Demand) → spaceHeatCoolDemand standardCoefficients z t h ≡ x → nextHour standardCoefficients z version l s bytes ≡ solvedNext z (hourSolved z t h (Asked.Demand (WithGains version l)) before)
       go (ok d) p = last d p _ refl
       go (refused n i) p = rw (read, ← t-is, p) refl
 
 -- ---- what reads the front alone
 
-front-delivered : (h : HourFront) (hours : List ElementHour) (d : Demand) → delivered (hourOf h []) d ≡ delivered (hourOf h hours) d
-unfolding delivered
-front-delivered h hours d = refl
+front-delivered : (version : ℕ) (l : Limits) (h : HourFront) (hours : List ElementHour) (d : Demand) → deliveredBy version l (hourOf h []) d ≡ deliveredBy version l (hourOf h hours) d
+unfolding delivered deliveredBy
+front-delivered version l h hours d = refl
 
 front-share : (version : ℕ) (h : HourFront) (hours : List ElementHour) (w g : Float) → convectiveShare version (hourOf h []) w g ≡ convectiveShare version (hourOf h hours) w g
 unfolding convectiveShare deliveredFraction
@@ -135,27 +129,27 @@ module _ (z : Zone) (s : State) where
     asked-accepted e t before after a t-is solved = rw (res-accepted v h (tested z s bytes) read e, ← t-is, demand-solved z t h before after a solved) (demanded-is s after a)
 
   -- of an hour step
-  module _ (version : ℕ) (bytes : List ℕ) (v : Verdict) (h : Conditions) (read : verdictRes v h ≡ testedStep z version s bytes) where
-    pub hour-refused : (n i : ℕ) (r : HourStepReply) → v ≡ Verdict.Refused n i → r ≡ hourStepReply s (refused n i) → r ≡ hourStepReply s (hourStep standardCoefficients z version s bytes)
+  module _ (version : ℕ) (l : Limits) (bytes : List ℕ) (v : Verdict) (h : Conditions) (read : verdictRes v h ≡ testedStep z version l s bytes) where
+    pub hour-refused : (n i : ℕ) (r : HourStepReply) → v ≡ Verdict.Refused n i → r ≡ hourStepReply s (refused n i) → r ≡ hourStepReply s (hourStep standardCoefficients z version l s bytes)
     unfolding hourStep
-    hour-refused n i r e p = rw (res-refused v h (testedStep z version s bytes) read n i e) p
+    hour-refused n i r e p = rw (res-refused v h (testedStep z version l s bytes) read n i e) p
 
     pub hour-replied : v ≡ Verdict.Accepted → (t before : List Float) (x : Result (Demand × List Float)) (r : HourStepReply) → t ≡ slotsOf z s
-        → x ≡ hourSolved z t h (Asked.Demand (WithGains version)) before → r ≡ hourStepReply s (bind x (stepped z version t h)) → r ≡ hourStepReply s (hourStep standardCoefficients z version s bytes)
-    hour-replied good t before x r t-is solved p = rw (hour-solved z version s bytes h (res-accepted v h (testedStep z version s bytes) read good) t t-is before, ← solved) p
+        → x ≡ hourSolved z t h (Asked.Demand (WithGains version l)) before → r ≡ hourStepReply s (bind x (stepped z version l t h)) → r ≡ hourStepReply s (hourStep standardCoefficients z version l s bytes)
+    hour-replied good t before x r t-is solved p = rw (hour-solved z version l s bytes h (res-accepted v h (testedStep z version l s bytes) read good) t t-is before, ← solved) p
 
 -- its reply, of either answer; the load is worked out from the front of the conditions
-module _ (z : Zone) (version : ℕ) (s : State) (t : List Float) (hf : HourFront) (hours : List ElementHour) (after : List Float) (a : DemandAnswer) where
+module _ (z : Zone) (version : ℕ) (l : Limits) (s : State) (t : List Float) (hf : HourFront) (hours : List ElementHour) (after : List Float) (a : DemandAnswer) where
   pub step-reply-refused : (n i : ℕ) (r : HourStepReply) → a ≡ DemandAnswer.Refused n i → r ≡ hourStepReply s (refused n i)
-      → r ≡ hourStepReply s (bind (answerWith a after) (stepped z version t (hourOf hf hours)))
+      → r ≡ hourStepReply s (bind (answerWith a after) (stepped z version l t (hourOf hf hours)))
   step-reply-refused n i r e p = rw e p
 
-  pub step-reply-accepted : (d : Demand) → a ≡ DemandAnswer.Accepted d → (w g share : Float) → w ≡ delivered (hourOf hf []) d → g ≡ gainsHeatCool (hourOf hf []) +ᶠ w → share ≡ convectiveShare version (hourOf hf []) w g
+  pub step-reply-accepted : (d : Demand) → a ≡ DemandAnswer.Accepted d → (w g share : Float) → w ≡ deliveredBy version l (hourOf hf []) d → g ≡ gainsHeatCool (hourOf hf []) +ᶠ w → share ≡ convectiveShare version (hourOf hf []) w g
       → (c : Coefficients) (dt : Float) (balance : HeatBalance) (state : State) → c ≡ standardCoefficients → dt ≡ deltaT (hourOf hf [])
       → balance ≡ heatBalance c z t (hourOf hf hours) dt g share (d .«ach_cooling») after → state ≡ stateOf z after
-      → record { answer = HourAnswer.Accepted d balance; state = state } ≡ hourStepReply s (bind (answerWith a after) (stepped z version t (hourOf hf hours)))
+      → record { answer = HourAnswer.Accepted d balance; state = state } ≡ hourStepReply s (bind (answerWith a after) (stepped z version l t (hourOf hf hours)))
   step-reply-accepted d e w g share w-is g-is share-is c dt balance state c-is dt-is p q =
-      rw (e, ← front-delivered hf hours d, ← w-is, ← g-is, ← front-share version hf hours w g, ← share-is, p, q, c-is, dt-is) refl
+      rw (e, ← front-delivered version l hf hours d, ← w-is, ← g-is, ← front-share version hf hours w g, ← share-is, p, q, c-is, dt-is) refl
 
 -- the reply of an hour without its heat balance, of either answer
 module _ (z : Zone) (s : State) (after : List Float) (a : DemandAnswer) where

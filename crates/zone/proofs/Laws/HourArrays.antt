@@ -12,29 +12,32 @@ use lib.Ieee.{Float, nan}
 use lib.ListN.{length, take, drop, getD, set, replicate, length-set, length-replicate, getD-replicate}
 use lib.Seq.{getD-set-same, getD-set-other}
 use Rattle.solver.specs.F64.{zero64}
-use Rattle.solver.specs.Result.{refused}
+use Rattle.solver.specs.Result.{ok, refused}
 use Rattle.zone.specs.Format.Layout.{openByte, elementHourSize, firstElementHour}
 use Rattle.zone.specs.Format.Bytes.{bigEndianFrom}
 use Rattle.zone.specs.Format.Decode.{floatsAt, elementHourAt, noElementHour}
 use Rattle.zone.specs.Format.Conditions.{elementHoursAt, conditionsAt, conditionsOf}
+use Rattle.zone.specs.Inner.Verdict.{verdictRes}
 use Rattle.zone.specs.Inner.Lent.{counted, elementIn, elementsIn, zoneIn, elementHourIn, elementHoursIn, hourOf}
 use Rattle.zone.specs.Inner.Arrays.{hourFrontOf, treatmentsIn, NoParts, HourSized}
 use Rattle.zone.specs.Inner.Format.{testedAt, conditionsFor}
 use Rattle.zone.specs.declared.record.building_element.Element.{Element}
 use Rattle.zone.specs.declared.record.building_element.ElementHour.{ElementHour}
 use Rattle.zone.specs.declared.record.zone_record.Zone.{Zone}
+use Rattle.zone.specs.declared.format.conditions.Conditions.{Conditions}
+use Rattle.zone.specs.declared.format.limits.Limits.{Limits}
 use Rattle.zone.specs.declared.record.zone_record.ZoneFront.{ZoneFront}
 use Rattle.zone.specs.declared.record.zone_record.Verdict.{Verdict}
 use Rattle.zone.specs.declared.record.zone_record.Verdict.the-variants as Verdict
 use Rattle.zone.specs.declared.calls.state.State.{State}
 use Rattle.zone.specs.Record.BuildingElement.{nodeCount}
-use Rattle.zone.specs.Record.Numbers.{stateInvalid, falseEntry}
+use Rattle.zone.specs.Record.Numbers.{stateInvalid, falseEntry, limitValue}
 use Rattle.zone.specs.Check.ZoneTest.{zoneTest, verdictOf}
 use Rattle.zone.specs.Calls.State.{allWithinStateBound, stateTest, zoneAndStateTest}
-use Rattle.zone.specs.Calls.Hour.{testedHour, tested, hourVersion, testedStep}
+use Rattle.zone.specs.Calls.Hour.{testedHour, tested, hourVersion, limitsValid, testedHourAndLimits, testedStep}
 use Rattle.zone.specs.declared.format.conditions.HourFront.{HourFront}
 use Rattle.zone.proofs.Laws.Lists.{one-left, replaced, replaced-next}
-use Rattle.zone.proofs.Laws.Ranges.{verdict-accepted, verdict-refused}
+use Rattle.zone.proofs.Laws.Ranges.{res-accepted, res-refused, verdict-accepted, verdict-refused}
 use Rattle.zone.proofs.Laws.Counted.{counted-set, counted-constant, run}
 use Rattle.zone.proofs.Laws.Replaced.{replaced-length, part-front, part-there, part-behind, part-replicate}
 use Rattle.zone.proofs.Laws.Arrays.{floats-length}
@@ -150,17 +153,17 @@ module _ (z : Zone) (s : State) (v : Verdict) (zone : v ≡ verdictOf (zoneTest 
     unfolding tested
     tested-refused bytes = let w : zoneTest z ≡ refused n i = verdict-refused (zoneTest z) n i (sym zone ∙ e) in rw w refl
 
-    pub step-refused : (version : ℕ) (bytes : List ℕ) → testedStep z version s bytes ≡ refused n i
+    pub step-refused : (version : ℕ) (l : Limits) (bytes : List ℕ) → testedStep z version l s bytes ≡ refused n i
     unfolding testedStep
-    step-refused version bytes = let w : zoneTest z ≡ refused n i = verdict-refused (zoneTest z) n i (sym zone ∙ e) in rw w refl
+    step-refused version l bytes = let w : zoneTest z ≡ refused n i = verdict-refused (zoneTest z) n i (sym zone ∙ e) in rw w refl
 
   module _ (good : v ≡ Verdict.Accepted) where
-    module _ (version : ℕ) (known : Bool) (known-is : known ≡ hourVersion version) (bytes : List ℕ) where
-      pub step-on : known ≡ true → testedStep z version s bytes ≡ testedHour z s bytes
+    module _ (version : ℕ) (l : Limits) (known : Bool) (known-is : known ≡ hourVersion version) (bytes : List ℕ) where
+      pub step-on : known ≡ true → testedStep z version l s bytes ≡ testedHourAndLimits z version l s bytes
       unfolding testedStep
       step-on k = let w : hourVersion version ≡ true = sym known-is ∙ k in rw (verdict-accepted (zoneTest z) (sym zone ∙ good), w) refl
 
-      pub step-unknown : known ≡ false → testedStep z version s bytes ≡ refused falseEntry 0
+      pub step-unknown : known ≡ false → testedStep z version l s bytes ≡ refused falseEntry 0
       unfolding testedStep
       step-unknown k = let w : hourVersion version ≡ false = sym known-is ∙ k in rw (verdict-accepted (zoneTest z) (sym zone ∙ good), w) refl
 
@@ -176,6 +179,24 @@ module _ (z : Zone) (s : State) (v : Verdict) (zone : v ≡ verdictOf (zoneTest 
       pub state-refused : test ≡ false → Verdict.Refused stateInvalid 0 ≡ verdictOf (zoneAndStateTest z s)
       unfolding zoneAndStateTest stateTest
       state-refused k = rw (verdict-accepted (zoneTest z) (sym zone ∙ good), ← state, k) refl
+
+-- an hour's, then its limits'
+module _ (z : Zone) (version : ℕ) (l : Limits) (s : State) (bytes : List ℕ) (v : Verdict) (h : Conditions) (read : verdictRes v h ≡ testedHour z s bytes) where
+  pub limits-refused : (n i : ℕ) → v ≡ Verdict.Refused n i → testedHourAndLimits z version l s bytes ≡ refused n i
+  unfolding testedHourAndLimits
+  limits-refused n i e = rw (res-refused v h (testedHour z s bytes) read n i e) refl
+
+  module _ (good : v ≡ Verdict.Accepted) (valid : Bool) (valid-is : valid ≡ limitsValid version l) where
+    was-read : testedHour z s bytes ≡ ok h
+    was-read = res-accepted v h (testedHour z s bytes) read good
+
+    pub limits-in : valid ≡ true → verdictRes v h ≡ testedHourAndLimits z version l s bytes
+    unfolding testedHourAndLimits
+    limits-in k = read ∙ rw (was-read, ← valid-is, k) refl
+
+    pub limits-out : valid ≡ false → testedHourAndLimits z version l s bytes ≡ refused limitValue 0
+    unfolding testedHourAndLimits
+    limits-out k = rw (was-read, ← valid-is, k) refl
 
 module _ (z : ZoneFront) (codes : List ℕ) (values : List Float) (s : State) (bytes : List ℕ) (test : Bool)
     (state : test ≡ (eqb (s .nodes) (nodeCount (zoneIn z codes values)) && allWithinStateBound (take (s .nodes) (s .temps)))) where

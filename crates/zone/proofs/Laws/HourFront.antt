@@ -19,7 +19,7 @@ use Rattle.zone.specs.declared.hour.hour.Asked.{Asked}
 use Rattle.zone.specs.declared.hour.hour.Asked.the-variants as Asked
 use Rattle.zone.specs.Inner.Lent.{hourOf}
 use Rattle.zone.specs.Hour.Demand.{achTarget, wanted, fracConvGainsHeatCool, fracUpper}
-use Rattle.zone.specs.Calls.Hour.{delivered, deliveredFraction, convectiveShare}
+use Rattle.zone.specs.Calls.Hour.{delivered, deliveredBy, deliveredFraction, convectiveShare}
 use Rattle.zone.specs.Inner.Prepared.{Prepared, freeIn}
 use Rattle.zone.specs.Inner.Demand.{zoneTemperatures, rateToReach, windowsCool, coolByWindows, withChoice, chooseRate, coolingPotential, loadedDemand, demandFromFree, demandIn}
 use Rattle.zone.specs.Inner.Hour.{metLoad, demandMetIn, answerIn}
@@ -63,9 +63,9 @@ module _ (p : Prepared) (volume : Float) (control : List Float → Float) (h : H
       (λ x. from-front usefulArea (zoneTemperatures control (x .0)) (x .1))))
 
   met-front : (d : Demand) (meeting : Meeting) → metLoad (hourOf h []) d meeting ≡ metLoad (hourOf h hours) d meeting
-  unfolding delivered deliveredFraction convectiveShare
+  unfolding delivered deliveredBy deliveredFraction convectiveShare
   met-front d NotMet = refl
-  met-front d (WithGains version) = refl
+  met-front d (WithGains version l) = refl
   met-front d Alone = refl
 
   pub answer-front : (usefulArea : Float) (asked : Asked) (before : List Float) →

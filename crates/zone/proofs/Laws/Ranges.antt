@@ -1,6 +1,6 @@
 -- The tests of lists and elements, one by one.
 use Prim.Native.Nat.{ℕ, _+_, _*_, _%_, _^_, _<_, _≤_}
-use mathlib.Core.Path.{_≡_, refl}
+use mathlib.Core.Path.{_≡_, refl, sym, ap, _∙_}
 use mathlib.Core.Bool.{Bool, true, false, _&&_}
 use mathlib.Core.List.{List}
 use native.Mathlib.Omega.{arith}
@@ -16,7 +16,9 @@ use Rattle.zone.specs.Record.Numbers.{structure}
 use Rattle.zone.specs.Check.Ranges.{allIn}
 use Rattle.zone.specs.Check.ZoneTest.{countValid, countsTest, verdictOf}
 use Rattle.zone.specs.declared.record.zone_record.Zone.{Zone}
+use Rattle.zone.specs.declared.record.zone_record.Verdict.{Verdict}
 use Rattle.zone.specs.declared.record.zone_record.Verdict.the-variants.{Accepted, Refused}
+use Rattle.zone.specs.Inner.Verdict.{verdictRes}
 use Rattle.zone.proofs.Laws.Lists.{from}
 use Rattle.solver.proofs.Laws.Tests.{and-true}
 
@@ -46,6 +48,14 @@ verdict-accepted (refused a b) e = absurd (let z : _≡_ {A = ℕ} 0 1 = cc in o
 pub verdict-refused : (r : Result (Unit {0})) (a b : ℕ) → verdictOf r ≡ Refused a b → r ≡ refused a b
 verdict-refused (ok tt) a b e = absurd (let z : _≡_ {A = ℕ} 0 1 = cc in omega arith)
 verdict-refused (refused x y) a b e = cc
+
+-- and a verdict with its value
+module _ {A : Type 0} (v : Verdict) (x : A) (r : Result A) (e : verdictRes v x ≡ r) where
+  pub res-accepted : v ≡ Accepted → r ≡ ok x
+  res-accepted p = sym e ∙ ap (λ (w : Verdict). verdictRes w x) p
+
+  pub res-refused : (n i : ℕ) → v ≡ Refused n i → r ≡ refused n i
+  res-refused n i p = sym e ∙ ap (λ (w : Verdict). verdictRes w x) p
 
 pub count-few : (a : Bool) (n : ℕ) → (a && leb n 24) ≡ true → n ≤ 24
 count-few a n e = leb-true n 24 (and-true a (leb n 24) e .1)

@@ -19,6 +19,7 @@ use Rattle.solver.proofs.Laws.Refusals.{bind-refuses, require-refuses, refuses-
 use Rattle.zone.specs.declared.record.building_element.Coefficients.{Coefficients}
 use Rattle.zone.specs.declared.record.zone_record.Zone.{Zone}
 use Rattle.zone.specs.declared.format.conditions.Conditions.{Conditions}
+use Rattle.zone.specs.declared.format.limits.Limits.{Limits}
 use Rattle.zone.specs.declared.format.conditions.AirChangesPerHourArgument.{AirChangesPerHourArgument}
 use Rattle.zone.specs.declared.format.conditions.AirChangesPerHourArgument.the-variants.{Cooling, TargetAndWindowsOpen}
 use Rattle.zone.specs.Record.BuildingElement.{nodeCount}
@@ -30,13 +31,20 @@ use Rattle.zone.specs.declared.hour.windows.VentilationChoice.{Ventilati
 use Rattle.zone.specs.declared.hour.load.HeatCoolLoad.{HeatCoolLoad}
 use Rattle.zone.specs.declared.hour.load.HeatCoolLoad.the-variants.{NoLoad, Toward}
 use Rattle.zone.specs.Calls.State.{allWithinStateBound, stateTest, zoneAndStateTest, slotsOf}
-use Rattle.zone.specs.Calls.Hour.{testedHour, tested, hourVersion, testedStep, step}
+use Rattle.zone.specs.Calls.Hour.{testedHour, tested, hourVersion, limitsValid, testedHourAndLimits, testedStep, step}
 use Rattle.zone.specs.Physics.Slots.{air}
 use Rattle.zone.specs.Hour.Demand.{deltaT, controlTemperature, achTarget, wanted, interpHeatCoolDemand, temperaturesWith, freeTemperatures, calcCoolingPotentialFromVentilation, demandForLoad, spaceHeatCoolDemand}
 use Rattle.zone.specs.Claims.Reasons.{SetpointsPass, stepMatrix, stepRightSide, SolveReason, byDivisor, byTemperature, Tried, DemandSolve, atTarget, atOpen, between, loaded, DemandReason, byCoolingBelowHeating, byVentilationBelowHeating, inSolve, byNoEffect}
 use Rattle.zone.specs.Calls.StartUp.{startUpConditions, pass}
 use Rattle.zone.specs.Record.Numbers as Number
 use Rattle.solver.specs.Numbers as SolveNumber
+
+-- a test that has to hold, and what comes after it, where it holds
+pub because :
+    {P : ℕ → ℕ → Type 0} {B : Type 0} (test : Bool) (number index : ℕ) (f : Unit {0} → Result B) → (test ≡ false → P number index)
+    → (test ≡ true → RefusesOnly P (f tt)) → RefusesOnly P (bind (requireAt test number index) f)
+because true number index f p q = q refl
+because false number index f p q = refuses (p refl)
 
 module _ {P : ℕ → ℕ → Type 0} where
   -- the zone's 4, 5, the state's 6
@@ -62,15 +70,19 @@ module _ {P : ℕ → ℕ → Type 0} where
       bind-refuses _ (refuses-also zone (zone-refusals z)) λ _ _.
       tested-hour-refuses six conditions z s bytes
 
-  -- and of an hour step the version's 18
+  -- and of an hour step the version's 18 and the limits' 19; a version that hours have has no 18
   pub tested-step-refuses :
-      ((n i : ℕ) → ZoneRefusal n i → P n i) → P Number.falseEntry 0 → P Number.stateInvalid 0 → ((n i : ℕ) → ConditionsRefusal n i → P n i)
-      → (z : Zone) (version : ℕ) (s : State) (bytes : List ℕ) → RefusesOnly P (testedStep z version s bytes)
-  unfolding testedStep
-  tested-step-refuses zone eighteen six conditions z version s bytes =
+      (z : Zone) (version : ℕ) (l : Limits) (s : State) (bytes : List ℕ)
+      → ((n i : ℕ) → ZoneRefusal n i → P n i) → (hourVersion version ≡ false → P Number.falseEntry 0) → P Number.stateInvalid 0
+      → ((n i : ℕ) → ConditionsRefusal n i → P n i) → P Number.limitValue 0
+      → RefusesOnly P (testedStep z version l s bytes)
+  unfolding testedStep testedHourAndLimits
+  tested-step-refuses z version l s bytes zone eighteen six conditions nineteen =
       bind-refuses _ (refuses-also zone (zone-refusals z)) λ _ _.
-      test-refuses (hourVersion version) Number.falseEntry 0 _ eighteen λ _.
-      tested-hour-refuses six conditions z s bytes
+      because (hourVersion version) Number.falseEntry 0 _ eighteen λ _.
+      bind-refuses _ (tested-hour-refuses six conditions z s bytes) λ h _.
+      test-refuses (limitsValid version l) Number.limitValue 0 _ nineteen λ _.
+      accepts h
 
 -- a test that has to fail, and what comes after it, where it fails
 unless-refuses :
@@ -78,13 +90,6 @@ unless-refuses :
     → (test ≡ false → RefusesOnly P (f tt)) → RefusesOnly P (bind (require (not test) number) f)
 unless-refuses true number f p q = refuses (p refl)
 unless-refuses false number f p q = q refl
-
--- a test that has to hold, and what comes after it, where it holds
-pub because :
-    {P : ℕ → ℕ → Type 0} {B : Type 0} (test : Bool) (number index : ℕ) (f : Unit {0} → Result B) → (test ≡ false → P number index)
-    → (test ≡ true → RefusesOnly P (f tt)) → RefusesOnly P (bind (requireAt test number index) f)
-because true number index f p q = q refl
-because false number index f p q = refuses (p refl)
 
 -- a choice: its first part starts where the test holds, its second where it fails
 pub choice-refuses :

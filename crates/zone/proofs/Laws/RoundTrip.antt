@@ -14,7 +14,7 @@ use Rattle.zone.specs.Format.Decode.{floatsAt}
 use Rattle.zone.specs.Format.Encode.{floatBytes, rowBytes}
 use Rattle.solver.proofs.Laws.Tests.{and-true}
 
-bigEndian-snoc : (n : ℕ) (bs : List ℕ) (b : ℕ) → bigEndianFrom n (bs ++ (b ∷ [])) ≡ bigEndianFrom n bs * 256 + b
+pub bigEndian-snoc : (n : ℕ) (bs : List ℕ) (b : ℕ) → bigEndianFrom n (bs ++ (b ∷ [])) ≡ bigEndianFrom n bs * 256 + b
 unfolding bigEndianFrom
 bigEndian-snoc n [] b = refl
 bigEndian-snoc n (x ∷ bs) b = bigEndian-snoc (n * 256 + x) bs b

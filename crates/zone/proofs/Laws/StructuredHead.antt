@@ -17,6 +17,7 @@ use Rattle.zone.specs.Format.Head.{ReadHead, elementsEnd, structureOf, h
 use Rattle.zone.specs.Inner.Head.{structuredHead}
 use Rattle.zone.specs.declared.record.building_element.Coefficients.{Coefficients}
 use Rattle.zone.specs.declared.record.zone_record.Zone.{Zone}
+use Rattle.zone.specs.declared.format.limits.Limits.{Limits}
 use Rattle.zone.specs.declared.calls.state.State.{State}
 use Rattle.zone.specs.Calls.State.{zoneAndStateTest, operative}
 use Rattle.zone.specs.Calls.Hour.{tested, testedStep, demand, hourStep, updateTemperatures}
@@ -142,9 +143,9 @@ module _ (z : Zone) (a b : ℕ) (e : zoneTest z ≡ refused a b) where
       unfolding demand tested
       demand-judges = rw e
 
-      pub hour-judges : (version : ℕ) → hourStep c z version s bytes ≡ refused a b
+      pub hour-judges : (version : ℕ) (l : Limits) → hourStep c z version l s bytes ≡ refused a b
       unfolding hourStep testedStep
-      hour-judges version = rw e
+      hour-judges version l = rw e
 
       pub update-judges : (gains fraction ach : Float) → updateTemperatures c z s bytes gains fraction ach ≡ refused a b
       unfolding updateTemperatures tested

@@ -1,4 +1,4 @@
--- What the functions answer: the enums' cases with document 01's numbers and values. A refusal hands back the state that was given.
+-- What the functions answer: the enums' cases with the papers' numbers and values. A refusal hands back the state that was given.
 use lib.ListN.{replicate}
 use lib.Ieee.{Float}
 use Rattle.solver.specs.F64.{zero64}

@@ -1,4 +1,4 @@
--- Document 01, "Ranges, all finite": each range once. A comparison with a NaN is false, so a NaN lies in none.
+-- Document 01, "Ranges, all finite", and document 02 (b): each range once. A comparison with a NaN is false, so a NaN lies in none.
 use Prim.Native.Nat.{ℕ, _^_}
 use mathlib.Core.Bool.{Bool, true, _&&_}
 use mathlib.Core.List.{List, [], _∷_}
@@ -53,6 +53,10 @@ irradianceRange = fromTo (decimal 0 0) (decimal 2000 0)
 -- gains ±1e7
 unfoldable pub gainsRange : Float → Bool
 gainsRange = fromTo (neg (decimal 10000000 0)) (decimal 10000000 0)
+
+-- greatest heating and greatest cooling, W: 0 to 1e7
+unfoldable pub powerLimitRange : Float → Bool
+powerLimitRange = fromTo (decimal 0 0) (decimal 10000000 0)
 
 -- rates 0 to 1,000
 unfoldable pub rateRange : Float → Bool

@@ -9,6 +9,7 @@ use Rattle.solver.specs.F64.{zero64}
 use Rattle.solver.specs.Result.{ok}
 use Rattle.zone.specs.declared.record.building_element.Coefficients.{Coefficients}
 use Rattle.zone.specs.declared.record.zone_record.Zone.{Zone}
+use Rattle.zone.specs.declared.format.limits.Limits.{Limits}
 use Rattle.zone.specs.declared.calls.state.State.{State}
 use Rattle.zone.specs.declared.calls.state.Demand.{Demand}
 use Rattle.zone.specs.Calls.Hour.{demand, HourResult, hourStep}
@@ -23,4 +24,4 @@ abbrev pub DemandCallSigns : Coefficients → Zone → Type 0
 DemandCallSigns c z = (s : State) (bytes : List ℕ) (d : Demand) → demand c z s bytes ≡ ok d → Signs d
 
 abbrev pub HourCallSigns : Coefficients → Zone → Type 0
-HourCallSigns c z = (version : ℕ) (s : State) (bytes : List ℕ) (r : HourResult) → hourStep c z version s bytes ≡ ok r → Signs (r .demand)
+HourCallSigns c z = (version : ℕ) (l : Limits) (s : State) (bytes : List ℕ) (r : HourResult) → hourStep c z version l s bytes ≡ ok r → Signs (r .demand)

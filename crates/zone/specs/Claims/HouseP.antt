@@ -6,7 +6,7 @@ use mathlib.Core.Bool.{Bool, true, false, _&&_}
 use mathlib.Core.List.{List, [], _∷_, _++_}
 use lib.ListN.{getD, replicate}
 use lib.Dec.{eqb}
-use lib.Ieee.{Float, binary64, nan, neg, toBits}
+use lib.Ieee.{Float, binary64, nan, neg, ofBits, toBits}
 use Rattle.solver.specs.F64.{decimal, zero64, one64}
 use Rattle.solver.specs.Result.{Result, ok, refused}
 use Rattle.zone.specs.Record.BuildingElement.{standardCoefficients, hCi}
@@ -14,9 +14,10 @@ use Rattle.zone.specs.Format.Decode.{zoneAt}
 use Rattle.zone.specs.Format.Head.{headOf}
 use Rattle.zone.specs.Format.Encode.{rowBytes}
 use Rattle.zone.specs.Physics.Ventilation.{achReqToReachTemperature}
-use Rattle.zone.specs.Calls.Hour.{updateTemperatures, demand, hourStep}
+use Rattle.zone.specs.Calls.Hour.{powerLimitsRange, updateTemperatures, demand, HourResult, hourStep}
 use Rattle.zone.specs.Calls.StartUp.{initNodeTemps}
 use Rattle.zone.specs.declared.record.zone_record.Zone.{Zone}
+use Rattle.zone.specs.declared.format.limits.Limits.{Limits}
 use Rattle.zone.specs.declared.physics.balance.HeatBalance.{HeatBalance}
 use Rattle.zone.specs.declared.calls.state.State.{State}
 use Rattle.zone.specs.declared.calls.state.Demand.{Demand}
@@ -65,14 +66,16 @@ twenty = record { nodes = 3; temps = decimal 20 0 ∷ decimal 20 0 ∷ decimal 2
 abbrev pub noDemand : Demand
 noDemand = record { «space_heat_demand» = zero64; «space_cool_demand» = zero64; «ach_cooling» = zero64; «ach_to_trigger_heating» = Absent }
 
--- its head is 180 bytes; start-up finds 20, 20, 20; an hour with setpoints 20 and 24 wants nothing and leaves them, in either version; its heat balance is
+-- its head is 180 bytes; start-up finds 20, 20, 20; an hour with setpoints 20 and 24 wants nothing and leaves them, in each version; its heat balance is
 -- left open here
 pub record HousePClaims : Type 0 where
   pub head : headOf headOfP ≡ ok (record { zone = houseP; length = 180 })
   pub start-up : initNodeTemps standardCoefficients houseP ≡ ok twenty
   pub balance : HeatBalance
-  pub hour : hourStep standardCoefficients houseP 1 twenty hourOfP ≡ ok (record { demand = noDemand; state = twenty; balance = balance })
-  pub hour-2 : hourStep standardCoefficients houseP 2 twenty hourOfP ≡ ok (record { demand = noDemand; state = twenty; balance = balance })
+  pub hour-1 : (l : Limits) → hourStep standardCoefficients houseP 1 l twenty hourOfP ≡ ok (record { demand = noDemand; state = twenty; balance = balance })
+  pub hour-2 : (l : Limits) → hourStep standardCoefficients houseP 2 l twenty hourOfP ≡ ok (record { demand = noDemand; state = twenty; balance = balance })
+  -- a delivered 0 is beyond no limit, nor beyond a limit of 0
+  pub hour-3 : hourStep standardCoefficients houseP 3 (record { heating = zero64; cooling = zero64 }) twenty hourOfP ≡ ok (record { demand = noDemand; state = twenty; balance = balance })
 
 -- ---- the table
 
@@ -90,6 +93,20 @@ refusedWith n (refused k i) = eqb k n && eqb i 0
 
 abbrev isTwenty : State → ℕ → Bool
 isTwenty s i = same (getD (s .temps) i nan) (decimal 20 0)
+
+-- the limits of a plant
+abbrev plant : (heating cooling : Float) → Limits
+plant heating cooling = record { heating = heating; cooling = cooling }
+
+-- an hour step of version 3: the demand, and the three temperatures after it
+abbrev limitedHour : Limits → (heat cool : Float) → Result HourResult
+limitedHour l heat cool = hourStep standardCoefficients houseP 3 l twenty (hour heat cool)
+
+abbrev endsAt : (heating cooling outer inner air : Float) → Result HourResult → Bool
+endsAt heating cooling outer inner air (ok r) =
+    demandIs heating cooling (ok (r .demand))
+    && same (getD (r .state .temps) 0 nan) outer && same (getD (r .state .temps) 1 nan) inner && same (getD (r .state .temps) 2 nan) air
+endsAt heating cooling outer inner air (refused _ _) = false
 
 abbrev allTwenty : Result (State × HeatBalance) → Bool
 allTwenty (ok r) = eqb (r .0 .nodes) 3 && isTwenty (r .0) 0 && isTwenty (r .0) 1 && isTwenty (r .0) 2
@@ -122,6 +139,16 @@ table =
     ∷ demandIs (decimal 144 3) zero64 (asked houseP (decimal 21 0) (decimal 24 0))
     ∷ demandIs zero64 (neg (decimal 144 3)) (asked houseP (decimal 15 0) (decimal 19 0))
     ∷ refusedWith 10 (asked houseP (decimal 22 0) (decimal 21 0))
+    -- of the 144 W that are asked for a plant of 72 W gives half, and the temperatures go half the way; the demand is uncut
+    ∷ endsAt (decimal 144 3) zero64 (decimal 2015625 5) (decimal 203125 4) (decimal 205 1) (limitedHour (plant (decimal 72 0) zero64) (decimal 21 0) (decimal 24 0))
+    ∷ endsAt zero64 (neg (decimal 144 3)) (decimal 1984375 5) (decimal 196875 4) (decimal 195 1) (limitedHour (plant zero64 (decimal 72 0)) (decimal 15 0) (decimal 19 0))
+    -- 144 W is not strictly beyond 144 W
+    ∷ endsAt (decimal 144 3) zero64 (decimal 203125 4) (decimal 20625 3) (decimal 21 0) (limitedHour (plant (decimal 144 0) zero64) (decimal 21 0) (decimal 24 0))
+    -- the ends of the limits' range: 0 of either sign and 1e7; behind it the next number, the greatest below 0, and a NaN
+    ∷ (powerLimitsRange (plant zero64 (neg zero64)) && powerLimitsRange (plant (decimal 10000000 0) (decimal 10000000 0)))
+    ∷ refusedWith 19 (limitedHour (plant (ofBits binary64 4711630319722168321) zero64) (decimal 22 0) (decimal 21 0))
+    ∷ refusedWith 19 (limitedHour (plant zero64 (ofBits binary64 9223372036854775809)) (decimal 22 0) (decimal 21 0))
+    ∷ refusedWith 19 (limitedHour (plant nan zero64) (decimal 22 0) (decimal 21 0))
     ∷ refusedWith 12 (asked singular (decimal 20 0) (decimal 24 0))
     ∷ refusedWith 12 (updated singular)
     ∷ same (hCiOfPitch (decimal 60 0)) (decimal 25 1)

@@ -1,4 +1,4 @@
--- Document 01, "refusals come only under the conditions above": why demand, hour step, update and start-up are refused.
+-- Document 01, "refusals come only under the conditions above", those of document 02 too: why demand, hour step, update and start-up are refused.
 use Prim.Native.Nat.{ℕ, _<_}
 use mathlib.Core.Path.{_≡_}
 use mathlib.Core.Bool.{true, false, _&&_}
@@ -14,12 +14,13 @@ use Rattle.solver.specs.Numbers.{divisor, temperature}
 use Rattle.zone.specs.declared.record.building_element.Coefficients.{Coefficients}
 use Rattle.zone.specs.declared.record.zone_record.Zone.{Zone}
 use Rattle.zone.specs.declared.format.conditions.Conditions.{Conditions}
+use Rattle.zone.specs.declared.format.limits.Limits.{Limits}
 use Rattle.zone.specs.declared.format.conditions.AirChangesPerHourArgument.the-variants.{TargetAndWindowsOpen}
 use Rattle.zone.specs.declared.calls.state.State.{State}
 use Rattle.zone.specs.declared.calls.state.Demand.{Demand}
 use Rattle.zone.specs.declared.hour.windows.VentilationChoice.{VentilationChoice}
 use Rattle.zone.specs.declared.hour.load.HeatCoolLoad.the-variants.{Toward}
-use Rattle.zone.specs.Record.Numbers.{conditionsValue, coolingBelowHeating, ventilationBelowHeating, noEffect, notSettled, falseEntry}
+use Rattle.zone.specs.Record.Numbers.{conditionsValue, coolingBelowHeating, ventilationBelowHeating, noEffect, notSettled, falseEntry, limitValue}
 use Rattle.zone.specs.Check.Ranges.{gainsRange, fractionRange, rateRange}
 use Rattle.zone.specs.Check.ZoneTest.{zoneTest}
 use Rattle.zone.specs.Physics.Slots.{air}
@@ -41,7 +42,7 @@ use Rattle.zone.specs.Hour.Demand.{
   spaceHeatCoolDemand,
 }
 use Rattle.zone.specs.Calls.State.{slotsOf}
-use Rattle.zone.specs.Calls.Hour.{hourVersion, tested, demand, delivered, convectiveShare, hourStep, updateTemperatures}
+use Rattle.zone.specs.Calls.Hour.{hourVersion, hasLimits, powerLimitsRange, limitsValid, tested, demand, delivered, deliveredBy, convectiveShare, hourStep, updateTemperatures}
 use Rattle.zone.specs.Calls.StartUp.{startUpConditions, startState, initNodeTemps}
 use Rattle.zone.specs.Claims.StartUpClaims.{Unsettled, LimitUnsettled}
 
@@ -111,22 +112,25 @@ module _ (c : Coefficients) (z : Zone) where
   abbrev pub DemandReasons : Type 0
   DemandReasons = (s : State) (bytes : List ℕ) → RefusesOnly (AfterTests z s bytes (DemandReason c z (slotsOf z s))) (demand c z s bytes)
 
-  -- the demand's, or those of the solve that meets it
-  pub data HourReason (version : ℕ) (s : State) (h : Conditions) : (number index : ℕ) → Type 0 where
-    asked : {number index : ℕ} → DemandReason c z (slotsOf z s) h number index → HourReason version s h number index
-    met : {d : Demand} {number index : ℕ} → spaceHeatCoolDemand c z (slotsOf z s) h ≡ ok d
-        → SolveReason c z (slotsOf z s) h (gainsHeatCool h +ᶠ delivered h d) (convectiveShare version h (delivered h d) (gainsHeatCool h +ᶠ delivered h d)) (d .«ach_cooling») number index
-        → HourReason version s h number index
+  -- the limits', then the demand's, or those of the solve that meets it
+  pub data HourReason (version : ℕ) (l : Limits) (s : State) (h : Conditions) : (number index : ℕ) → Type 0 where
+    -- "19, a limit out of range, after 9"
+    byLimitValue : hasLimits version ≡ true → powerLimitsRange l ≡ false → HourReason version l s h limitValue 0
+    asked : {number index : ℕ} → limitsValid version l ≡ true → DemandReason c z (slotsOf z s) h number index
+        → HourReason version l s h number index
+    met : {d : Demand} {number index : ℕ} → limitsValid version l ≡ true → spaceHeatCoolDemand c z (slotsOf z s) h ≡ ok d
+        → SolveReason c z (slotsOf z s) h (gainsHeatCool h +ᶠ deliveredBy version l h d) (convectiveShare version h (deliveredBy version l h d) (gainsHeatCool h +ᶠ deliveredBy version l h d)) (d .«ach_cooling») number index
+        → HourReason version l s h number index
 
   -- "An hour step alone names one too; an unknown one is 18, index 0, before 6": between the zone's 4, 5 and all others
-  pub data HourStepReason (version : ℕ) (s : State) (bytes : List ℕ) : (number index : ℕ) → Type 0 where
-    inHourZone : {number index : ℕ} → zoneTest z ≡ refused number index → number < 6 → HourStepReason version s bytes number index
-    byFalseEntry : zoneTest z ≡ ok tt → hourVersion version ≡ false → HourStepReason version s bytes falseEntry 0
-    ofVersion : {number index : ℕ} → zoneTest z ≡ ok tt → hourVersion version ≡ true → AfterTests z s bytes (HourReason version s) number index
-        → HourStepReason version s bytes number index
+  pub data HourStepReason (version : ℕ) (l : Limits) (s : State) (bytes : List ℕ) : (number index : ℕ) → Type 0 where
+    inHourZone : {number index : ℕ} → zoneTest z ≡ refused number index → number < 6 → HourStepReason version l s bytes number index
+    byFalseEntry : zoneTest z ≡ ok tt → hourVersion version ≡ false → HourStepReason version l s bytes falseEntry 0
+    ofVersion : {number index : ℕ} → zoneTest z ≡ ok tt → hourVersion version ≡ true → AfterTests z s bytes (HourReason version l s) number index
+        → HourStepReason version l s bytes number index
 
   abbrev pub HourReasons : Type 0
-  HourReasons = (version : ℕ) (s : State) (bytes : List ℕ) → RefusesOnly (HourStepReason version s bytes) (hourStep c z version s bytes)
+  HourReasons = (version : ℕ) (l : Limits) (s : State) (bytes : List ℕ) → RefusesOnly (HourStepReason version l s bytes) (hourStep c z version l s bytes)
 
   -- "its own gains, fraction and rate tested in 9 after the conditions, index 0, then 12, 13"
   pub data UpdateReason (s : State) (gains fraction ach : Float) (h : Conditions) : (number index : ℕ) → Type 0 where

@@ -1,15 +1,16 @@
--- Document 01, "Refused, operation by operation": which numbers and indices operative temperature, demand, hour step, update and start-up can be refused with.
+-- Document 01, "Refused, operation by operation", and document 02's 18 and 19: which numbers and indices operative temperature, demand, hour step, update and start-up can be refused with.
 use Prim.Native.Nat.{ℕ, _≤_}
 use mathlib.Core.List.{List}
 use lib.Ieee.{Float}
 use Rattle.solver.specs.Refusals.{RefusesOnly, SolveRefusal}
 use Rattle.zone.specs.declared.record.building_element.Coefficients.{Coefficients}
 use Rattle.zone.specs.declared.record.zone_record.Zone.{Zone}
+use Rattle.zone.specs.declared.format.limits.Limits.{Limits}
 use Rattle.zone.specs.declared.calls.state.State.{State}
 use Rattle.zone.specs.Calls.State.{operative}
 use Rattle.zone.specs.Calls.Hour.{demand, hourStep, updateTemperatures}
 use Rattle.zone.specs.Calls.StartUp.{initNodeTemps}
-use Rattle.zone.specs.Record.Numbers.{stateInvalid, conditionsValue, coolingBelowHeating, ventilationBelowHeating, noEffect, notSettled, falseEntry}
+use Rattle.zone.specs.Record.Numbers.{stateInvalid, conditionsValue, coolingBelowHeating, ventilationBelowHeating, noEffect, notSettled, falseEntry, limitValue}
 use Rattle.zone.specs.Claims.HeadRefusals.{ZoneRefusal, ConditionsRefusal}
 
 -- the operative temperature: the zone's 4, 5, then the state's 6
@@ -34,9 +35,14 @@ pub data DemandRefusal : (number index : ℕ) → Type 0 where
   -- "last, loaded and free temperature differ by something close to 0"
   demandNoEffect : DemandRefusal noEffect 0
 
+-- an hour of a version that hours have: the demand's, and "19, a limit out of range"
+pub data KnownHourRefusal : (number index : ℕ) → Type 0 where
+  hourDemand : {number index : ℕ} → DemandRefusal number index → KnownHourRefusal number index
+  hourLimitValue : KnownHourRefusal limitValue 0
+
 -- the hour step has 18 besides: "an unknown one is 18, index 0"
 pub data HourRefusal : (number index : ℕ) → Type 0 where
-  hourDemand : {number index : ℕ} → DemandRefusal number index → HourRefusal number index
+  hourKnown : {number index : ℕ} → KnownHourRefusal number index → HourRefusal number index
   hourFalseEntry : HourRefusal falseEntry 0
 
 -- "Update: 6 to 9, its own gains, fraction and rate tested in 9 after the conditions, index 0, then 12, 13."
@@ -62,7 +68,7 @@ OfZone z number index = index ≤ z .count
 pub record IndicesOfZone (c : Coefficients) (z : Zone) : Type 0 where
   pub operatives : (s : State) → RefusesOnly (OfZone z) (operative z s)
   pub demands : (s : State) (bytes : List ℕ) → RefusesOnly (OfZone z) (demand c z s bytes)
-  pub hourSteps : (version : ℕ) (s : State) (bytes : List ℕ) → RefusesOnly (OfZone z) (hourStep c z version s bytes)
+  pub hourSteps : (version : ℕ) (l : Limits) (s : State) (bytes : List ℕ) → RefusesOnly (OfZone z) (hourStep c z version l s bytes)
   pub updates : (s : State) (bytes : List ℕ) (gains fraction ach : Float) → RefusesOnly (OfZone z) (updateTemperatures c z s bytes gains fraction ach)
   pub startUp : RefusesOnly (OfZone z) (initNodeTemps c z)
 
@@ -70,6 +76,6 @@ pub record IndicesOfZone (c : Coefficients) (z : Zone) : Type 0 where
 pub record CallRefusals (c : Coefficients) (z : Zone) : Type 0 where
   pub operatives : (s : State) → RefusesOnly OperativeRefusal (operative z s)
   pub demands : (s : State) (bytes : List ℕ) → RefusesOnly DemandRefusal (demand c z s bytes)
-  pub hourSteps : (version : ℕ) (s : State) (bytes : List ℕ) → RefusesOnly HourRefusal (hourStep c z version s bytes)
+  pub hourSteps : (version : ℕ) (l : Limits) (s : State) (bytes : List ℕ) → RefusesOnly HourRefusal (hourStep c z version l s bytes)
   pub updates : (s : State) (bytes : List ℕ) (gains fraction ach : Float) → RefusesOnly UpdateRefusal (updateTemperatures c z s bytes gains fraction ach)
   pub startUps : RefusesOnly StartUpRefusal (initNodeTemps c z)

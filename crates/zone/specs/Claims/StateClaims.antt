@@ -6,6 +6,7 @@ use lib.Ieee.{Float}
 use Rattle.solver.specs.Result.{Result, ok}
 use Rattle.zone.specs.declared.record.building_element.Coefficients.{Coefficients}
 use Rattle.zone.specs.declared.record.zone_record.Zone.{Zone}
+use Rattle.zone.specs.declared.format.limits.Limits.{Limits}
 use Rattle.zone.specs.declared.physics.balance.HeatBalance.{HeatBalance}
 use Rattle.zone.specs.declared.calls.state.State.{State}
 use Rattle.zone.specs.declared.calls.state.Demand.{Demand}
@@ -22,7 +23,7 @@ module _ (c : Coefficients) (z : Zone) where
       → updateTemperatures c z s bytes gains fraction ach ≡ ok r → zoneAndStateTest z (r .0) ≡ ok tt
 
   abbrev pub HourStateTested : Type 0
-  HourStateTested = (version : ℕ) (s : State) (bytes : List ℕ) (r : HourResult) → hourStep c z version s bytes ≡ ok r → zoneAndStateTest z (r .state) ≡ ok tt
+  HourStateTested = (version : ℕ) (l : Limits) (s : State) (bytes : List ℕ) (r : HourResult) → hourStep c z version l s bytes ≡ ok r → zoneAndStateTest z (r .state) ≡ ok tt
 
   abbrev pub StartUpStateTested : Type 0
   StartUpStateTested = (s : State) → initNodeTemps c z ≡ ok s → zoneAndStateTest z s ≡ ok tt

@@ -9,6 +9,7 @@ use Rattle.solver.specs.Result.{Result, ok, refused, bind}
 use Rattle.solver.specs.Inner.Factored.{solvedRes}
 use Rattle.zone.specs.declared.record.zone_record.Zone.{Zone}
 use Rattle.zone.specs.declared.format.conditions.Conditions.{Conditions}
+use Rattle.zone.specs.declared.format.limits.Limits.{Limits}
 use Rattle.zone.specs.declared.calls.state.Demand.{Demand}
 use Rattle.zone.specs.declared.calls.state.AchToTriggerHeating.the-variants.{Absent}
 use Rattle.zone.specs.declared.hour.hour.Meeting.{Meeting}
@@ -23,15 +24,15 @@ use Rattle.zone.specs.Physics.HeatBalance.{heatBalance}
 use Rattle.zone.specs.Hour.Demand.{deltaT, gainsHeatCool, temperaturesWith, spaceHeatCoolDemand, ventilated, demandRecord}
 use Rattle.zone.specs.declared.calls.state.State.{State}
 use Rattle.zone.specs.Calls.State.{stateOf}
-use Rattle.zone.specs.Calls.Hour.{delivered, convectiveShare, HourResult}
+use Rattle.zone.specs.Calls.Hour.{delivered, deliveredBy, convectiveShare, HourResult}
 use Rattle.zone.specs.Calls.StartUp.{close}
 use Rattle.zone.specs.Inner.Prepared.{Prepared, loadIn, solvedIn}
 use Rattle.zone.specs.Inner.Demand.{demandIn}
 
 abbrev pub metLoad : Conditions → Demand → Meeting → MetLoad
 metLoad h d NotMet = NoLoad
-metLoad h d (WithGains version) =
-    let w = delivered h d in
+metLoad h d (WithGains version l) =
+    let w = deliveredBy version l h d in
     let g = gainsHeatCool h +ᶠ w in
     Load g (convectiveShare version h w g)
 metLoad h d Alone = Load (delivered h d) (h .«frac_convective_heat»)
@@ -93,9 +94,9 @@ abbrev pub settledState : Zone → Result (Demand × List Float) → Result Stat
 settledState z x = bind x λ u. ok (stateOf z (u .1))
 
 -- the hour step, from the demand and the temperatures after it
-abbrev pub stepped : Zone → (version : ℕ) → (t : List Float) → Conditions → Demand × List Float → Result HourResult
-stepped z version t h u =
+abbrev pub stepped : Zone → (version : ℕ) → Limits → (t : List Float) → Conditions → Demand × List Float → Result HourResult
+stepped z version l t h u =
     let d = u .0 in
-    let w = delivered h d in
+    let w = deliveredBy version l h d in
     let g = gainsHeatCool h +ᶠ w in
     ok (record { demand = d; state = stateOf z (u .1); balance = heatBalance standardCoefficients z t h (deltaT h) g (convectiveShare version h w g) (d .«ach_cooling») (u .1) })

@@ -8,6 +8,7 @@ use Rattle.solver.specs.Result.{Result, ok, refused, bind}
 use Rattle.zone.specs.declared.record.building_element.Coefficients.{Coefficients}
 use Rattle.zone.specs.declared.record.zone_record.Zone.{Zone}
 use Rattle.zone.specs.declared.format.conditions.Conditions.{Conditions}
+use Rattle.zone.specs.declared.format.limits.Limits.{Limits}
 use Rattle.zone.specs.declared.hour.hour.Meeting.the-variants.{WithGains}
 use Rattle.zone.specs.declared.hour.hour.Asked.the-variants as Asked
 use Rattle.zone.specs.declared.calls.state.State.{State}
@@ -20,14 +21,14 @@ use Rattle.zone.specs.Calls.State.{slotsOf, stateOf}
 use Rattle.zone.specs.Inner.Lent.{counted}
 use Rattle.zone.specs.Inner.Arrays.{hourFrontOf}
 use Rattle.zone.specs.Inner.Kept.{Held, keepFactors, directionsOf, hourHeld}
-use Rattle.zone.specs.Calls.Hour.{testedHour, delivered, convectiveShare}
+use Rattle.zone.specs.Calls.Hour.{testedHourAndLimits, deliveredBy, convectiveShare}
 
 -- the hour step of a zone and a version that are tested already, and whose heat balance nobody asks for: the demand, and the state after the hour
-unfoldable pub nextHour : Coefficients → Zone → (version : ℕ) → State → List ℕ → Result (Demand × State)
-nextHour c z version s bytes =
-    bind (testedHour z s bytes) λ h.
+unfoldable pub nextHour : Coefficients → Zone → (version : ℕ) → Limits → State → List ℕ → Result (Demand × State)
+nextHour c z version l s bytes =
+    bind (testedHourAndLimits z version l s bytes) λ h.
     bind (spaceHeatCoolDemand c z (slotsOf z s) h) λ d.
-    let w = delivered h d in
+    let w = deliveredBy version l h d in
     let g = gainsHeatCool h +ᶠ w in
     bind (temperaturesWith c z (slotsOf z s) h g (convectiveShare version h w g) (d .«ach_cooling»)) λ t.
     ok (d, stateOf z t)
@@ -53,7 +54,7 @@ heldAfter z s (ok h) k = keepFactors z (directionsOf z (slotsOf z s)) (opensOf h
 heldAfter z s (refused number index) k = k
 
 -- `nextHour` from that
-unfoldable pub nextHourFrom : Zone → (version : ℕ) → State → List ℕ → Held → Result (Demand × State)
-nextHourFrom z version s bytes k =
-    bind (testedHour z s bytes) λ h.
-    solvedNext z (hourHeld z (slotsOf z s) (hourFrontOf h) (h .elements) (Asked.Demand (WithGains version)) (replicate 121 zero64) k)
+unfoldable pub nextHourFrom : Zone → (version : ℕ) → Limits → State → List ℕ → Held → Result (Demand × State)
+nextHourFrom z version l s bytes k =
+    bind (testedHourAndLimits z version l s bytes) λ h.
+    solvedNext z (hourHeld z (slotsOf z s) (hourFrontOf h) (h .elements) (Asked.Demand (WithGains version l)) (replicate 121 zero64) k)

@@ -1,4 +1,4 @@
--- Document 01's numbers of refusals, "Refused, operation by operation". 12 and 13 are the solver's, 16 and 17 the book's; 18, an hour step's and the book's, stands here.
+-- The papers' numbers of refusals: document 01, "Refused, operation by operation", and document 02. 12 and 13 are the solver's, 16 and 17 the book's; 18, an hour step's and the book's, stands here.
 use Prim.Native.Nat.{ℕ}
 
 -- "fewer than 4 bytes", "bytes end early"
@@ -55,3 +55,7 @@ notSettled = 15
 -- "a false one 18"; document 02 (a): 18 "as for a version that no hour has"
 abbrev pub falseEntry : ℕ
 falseEntry = 18
+
+-- document 02 (b): "19, a limit out of range"
+abbrev pub limitValue : ℕ
+limitValue = 19

@@ -9,8 +9,9 @@ use crate::calls::state::state_of;
 use crate::check::arguments::tested;
 use crate::check::arguments::tested_step;
 use crate::format::conditions::HourFront;
+use crate::format::limits::Limits;
 use crate::hour::delivered::convective_share;
-use crate::hour::delivered::delivered_of;
+use crate::hour::delivered::delivered_by;
 use crate::hour::delivered::total_gains;
 use crate::hour::hour::Asked;
 use crate::hour::hour::Meeting;
@@ -60,15 +61,16 @@ fn hour_step_reply(
     parts: &[f64; 120],
     opens: &[u8; 24],
     version: u64,
+    limits: Limits,
     demand: DemandAnswer,
     after: &[f64; 121],
 ) -> HourStepReply
-    ensures { λ r. ⌜ r ≡ hourStepReply s (bind (answerWith demand (now (after .entry))) (stepped (zoneIn z (now (codes .entry)) (now (values .entry))) version (now (t .entry)) (conditionsIn h (now (parts .entry)) (now (opens .entry))))) ⌝ }
+    ensures { λ r. ⌜ r ≡ hourStepReply s (bind (answerWith demand (now (after .entry))) (stepped (zoneIn z (now (codes .entry)) (now (values .entry))) version limits (now (t .entry)) (conditionsIn h (now (parts .entry)) (now (opens .entry))))) ⌝ }
 {
     match demand {
         DemandAnswer::Refused { number, index } => refuse(s, number, index),
         DemandAnswer::Accepted(d) => {
-            let w = delivered_of(h, d);
+            let w = delivered_by(version, limits, h, d);
             let g = total_gains(h, w);
             let share = convective_share(version, h, w, g);
             let c = standard_coefficients();
@@ -145,8 +147,9 @@ impl State {
         values: &[f64; 600],
         conditions: &[u8],
         version: u64,
+        limits: Limits,
     ) -> HourStepReply
-        ensures { λ r. ⌜ r ≡ hourStepReply self (hourStep standardCoefficients (zoneIn z (now (codes .entry)) (now (values .entry))) version self (now (conditions .entry))) ⌝ }
+        ensures { λ r. ⌜ r ≡ hourStepReply self (hourStep standardCoefficients (zoneIn z (now (codes .entry)) (now (values .entry))) version limits self (now (conditions .entry))) ⌝ }
     {
         let mut parts = [0.0; 120];
         let mut opens = [0; 24];
@@ -155,6 +158,7 @@ impl State {
             codes,
             values,
             version,
+            limits,
             self,
             conditions,
             &mut parts,
@@ -169,7 +173,7 @@ impl State {
         }
         let h = read.front;
         let t = slots_of(z, codes, values, self);
-        let asked = Asked::Demand(Meeting::WithGains(version));
+        let asked = Asked::Demand(Meeting::WithGains(version, limits));
         let mut after = [0.0; 121];
         let demand = hour_in(z, codes, values, &t, h, &parts, &opens, asked, &mut after);
         hour_step_reply(
@@ -182,6 +186,7 @@ impl State {
             &parts,
             &opens,
             version,
+            limits,
             demand,
             &after,
         )

@@ -5,7 +5,8 @@ use crate::calls::state::DemandReply;
 use crate::calls::state::State;
 use crate::calls::state::slots_of;
 use crate::calls::state::state_of;
-use crate::check::arguments::tested_hour;
+use crate::check::arguments::tested_hour_and_limits;
+use crate::format::limits::Limits;
 use crate::hour::hour::Asked;
 use crate::hour::hour::Meeting;
 use crate::hour::hour_kept::hour_kept;
@@ -16,7 +17,7 @@ ghost use Rattle.zone.specs.Inner.Lent.{zoneIn};
 ghost use Rattle.zone.specs.Inner.Demand.{answerWith};
 ghost use Rattle.zone.specs.Inner.Kept.{arrays, held};
 ghost use Rattle.zone.specs.Inner.NextHour.{nextHour, solvedNext, nextHourReply, heldAfter, nextHourFrom};
-ghost use Rattle.zone.specs.Calls.Hour.{testedHour};
+ghost use Rattle.zone.specs.Calls.Hour.{testedHourAndLimits};
 ghost use Rattle.zone.specs.Record.BuildingElement.{standardCoefficients};
 
 // The reply: the demand and the state after the hour, or the refusal and the state before it.
@@ -52,6 +53,7 @@ impl State {
         values: &[f64; 600],
         conditions: &[u8],
         version: u64,
+        limits: Limits,
         flags: &mut [bool; 2],
         numbers: &mut [f64; 3],
         key: &mut [u8; 48],
@@ -64,12 +66,22 @@ impl State {
         column: &mut [f64; 25],
     ) -> DemandReply
         ensures { λ r. ⌜ (held (now (flags .exit)) (now (numbers .exit)) (now (key .exit)) (arrays (now («two_nodes» .exit)) (now (diag .exit)) (now (next .exit)) (now (prev .exit)) (now (dense .exit)) (now (interchanges .exit))) (now (column .exit))
-            ≡ heldAfter (zoneIn z (now (codes .entry)) (now (values .entry))) self (testedHour (zoneIn z (now (codes .entry)) (now (values .entry))) self (now (conditions .entry))) (held (now (flags .entry)) (now (numbers .entry)) (now (key .entry)) (arrays (now («two_nodes» .entry)) (now (diag .entry)) (now (next .entry)) (now (prev .entry)) (now (dense .entry)) (now (interchanges .entry))) (now (column .entry))))
-            × (r ≡ nextHourReply self (nextHourFrom (zoneIn z (now (codes .entry)) (now (values .entry))) version self (now (conditions .entry)) (held (now (flags .exit)) (now (numbers .exit)) (now (key .exit)) (arrays (now («two_nodes» .exit)) (now (diag .exit)) (now (next .exit)) (now (prev .exit)) (now (dense .exit)) (now (interchanges .exit))) (now (column .exit))))) ⌝ }
+            ≡ heldAfter (zoneIn z (now (codes .entry)) (now (values .entry))) self (testedHourAndLimits (zoneIn z (now (codes .entry)) (now (values .entry))) version limits self (now (conditions .entry))) (held (now (flags .entry)) (now (numbers .entry)) (now (key .entry)) (arrays (now («two_nodes» .entry)) (now (diag .entry)) (now (next .entry)) (now (prev .entry)) (now (dense .entry)) (now (interchanges .entry))) (now (column .entry))))
+            × (r ≡ nextHourReply self (nextHourFrom (zoneIn z (now (codes .entry)) (now (values .entry))) version limits self (now (conditions .entry)) (held (now (flags .exit)) (now (numbers .exit)) (now (key .exit)) (arrays (now («two_nodes» .exit)) (now (diag .exit)) (now (next .exit)) (now (prev .exit)) (now (dense .exit)) (now (interchanges .exit))) (now (column .exit))))) ⌝ }
     {
         let mut parts = [0.0; 120];
         let mut opens = [0; 24];
-        let read = tested_hour(z, codes, values, self, conditions, &mut parts, &mut opens);
+        let read = tested_hour_and_limits(
+            z,
+            codes,
+            values,
+            version,
+            limits,
+            self,
+            conditions,
+            &mut parts,
+            &mut opens,
+        );
         let verdict = read.verdict;
         match verdict {
             Verdict::Refused { number, index } => {
@@ -78,7 +90,7 @@ impl State {
             Verdict::Accepted => {}
         }
         let t = slots_of(z, codes, values, self);
-        let asked = Asked::Demand(Meeting::WithGains(version));
+        let asked = Asked::Demand(Meeting::WithGains(version, limits));
         let mut after = [0.0; 121];
         let demand = hour_kept(
             z,
@@ -112,8 +124,9 @@ impl State {
         values: &[f64; 600],
         conditions: &[u8],
         version: u64,
+        limits: Limits,
     ) -> DemandReply
-        ensures { λ r. ⌜ r ≡ nextHourReply self (nextHour standardCoefficients (zoneIn z (now (codes .entry)) (now (values .entry))) version self (now (conditions .entry))) ⌝ }
+        ensures { λ r. ⌜ r ≡ nextHourReply self (nextHour standardCoefficients (zoneIn z (now (codes .entry)) (now (values .entry))) version limits self (now (conditions .entry))) ⌝ }
     {
         let mut flags = [false; 2];
         let mut numbers = [0.0; 3];
@@ -131,6 +144,7 @@ impl State {
             values,
             conditions,
             version,
+            limits,
             &mut flags,
             &mut numbers,
             &mut key,

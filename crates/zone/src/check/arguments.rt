@@ -1,11 +1,15 @@
-// Refusals 4 to 9 of a call, and 18 of an hour step: the zone, the version, the state, the conditions. (Tests of a call's arguments, not of the program.)
+// Refusals 4 to 9 of a call, and 18 and 19 of an hour step: the zone, the version, the state, the conditions, the limits. (Tests of a call's arguments, not
+// of the program.)
 use crate::calls::state::State;
 use crate::check::versions::hour_version;
+use crate::check::versions::limits_valid;
 use crate::check::zone_tests::zone_test;
 use crate::format::conditions::HourConditions;
 use crate::format::decode_conditions::no_hour_front;
+use crate::format::limits::Limits;
 use crate::format::read_conditions::read_conditions;
 use crate::record::numbers::FALSE_ENTRY;
+use crate::record::numbers::LIMIT_VALUE;
 use crate::record::numbers::STATE_INVALID;
 use crate::record::zone_record::Verdict;
 use crate::record::zone_record::ZoneFront;
@@ -19,7 +23,7 @@ ghost use lib.Dec.{eqb};
 ghost use Rattle.zone.specs.Record.BuildingElement.{nodeCount};
 ghost use Rattle.zone.specs.Check.ZoneTest.{verdictOf};
 ghost use Rattle.zone.specs.Calls.State.{allWithinStateBound, zoneAndStateTest};
-ghost use Rattle.zone.specs.Calls.Hour.{testedHour, tested, testedStep};
+ghost use Rattle.zone.specs.Calls.Hour.{testedHour, tested, testedHourAndLimits, testedStep};
 ghost use Rattle.zone.specs.Inner.Verdict.{verdictRes};
 ghost use Rattle.zone.specs.Inner.Lent.{zoneIn, conditionsIn};
 ghost use Rattle.zone.specs.Inner.Arrays.{NoParts};
@@ -130,26 +134,65 @@ pub fn tested(
     }
 }
 
-// An hour step's: the zone, 4, 5; then the version, 18.
-pub fn tested_step(
+// An hour's of a zone and a version that are tested: 6, then 7, 8, 9, then the limits, 19.
+pub fn tested_hour_and_limits(
     z: ZoneFront,
     codes: &[u8; 72],
     values: &[f64; 600],
     version: u64,
+    limits: Limits,
     s: State,
     conditions: &[u8],
     parts: &mut [f64; 120],
     opens: &mut [u8; 24],
 ) -> HourConditions
     requires { ⌜ NoParts (now parts) (now opens) ⌝ }
-    ensures { λ r. ⌜ verdictRes (r .verdict) (conditionsIn (r .front) (now (parts .exit)) (now (opens .exit))) ≡ testedStep (zoneIn z (now (codes .entry)) (now (values .entry))) version s (now (conditions .entry)) ⌝ }
+    ensures { λ r. ⌜ verdictRes (r .verdict) (conditionsIn (r .front) (now (parts .exit)) (now (opens .exit))) ≡ testedHourAndLimits (zoneIn z (now (codes .entry)) (now (values .entry))) version limits s (now (conditions .entry)) ⌝ }
+{
+    let read = tested_hour(z, codes, values, s, conditions, parts, opens);
+    let verdict = read.verdict;
+    match verdict {
+        Verdict::Refused { number, index } => refuse(number, index),
+        Verdict::Accepted => {
+            if limits_valid(version, limits) {
+                return read;
+            }
+            refuse(LIMIT_VALUE, 0)
+        }
+    }
+}
+
+// An hour step's: the zone, 4, 5; then the version, 18.
+pub fn tested_step(
+    z: ZoneFront,
+    codes: &[u8; 72],
+    values: &[f64; 600],
+    version: u64,
+    limits: Limits,
+    s: State,
+    conditions: &[u8],
+    parts: &mut [f64; 120],
+    opens: &mut [u8; 24],
+) -> HourConditions
+    requires { ⌜ NoParts (now parts) (now opens) ⌝ }
+    ensures { λ r. ⌜ verdictRes (r .verdict) (conditionsIn (r .front) (now (parts .exit)) (now (opens .exit))) ≡ testedStep (zoneIn z (now (codes .entry)) (now (values .entry))) version limits s (now (conditions .entry)) ⌝ }
 {
     let zone = zone_test(z, codes, values);
     match zone {
         Verdict::Refused { number, index } => refuse(number, index),
         Verdict::Accepted => {
             if hour_version(version) {
-                return tested_hour(z, codes, values, s, conditions, parts, opens);
+                return tested_hour_and_limits(
+                    z,
+                    codes,
+                    values,
+                    version,
+                    limits,
+                    s,
+                    conditions,
+                    parts,
+                    opens,
+                );
             }
             refuse(FALSE_ENTRY, 0)
         }

@@ -1,9 +1,9 @@
-// The ranges of document 01.
+// The ranges of the papers.
 ghost use mathlib.Core.Path.{_≡_};
 ghost use mathlib.Core.Bool.{cond};
 ghost use Prim.Native.Nat.{_≤_, _^_};
 ghost use lib.ListN.{length, take};
-ghost use Rattle.zone.specs.Check.Ranges.{areaRange, pitchRange, coefficientRange, hPliRange, kPliRange, deltaRRange, fractionRange, skyRange, irradianceRange, gainsRange, rateRange, temperatureRange, heatingSetpointRange, setpointRange, hourLengthRange, limitRange, fromTo, aboveTo, allIn, openWithin};
+ghost use Rattle.zone.specs.Check.Ranges.{areaRange, pitchRange, coefficientRange, hPliRange, kPliRange, deltaRRange, fractionRange, skyRange, irradianceRange, gainsRange, powerLimitRange, rateRange, temperatureRange, heatingSetpointRange, setpointRange, hourLengthRange, limitRange, fromTo, aboveTo, allIn, openWithin};
 
 pub fn area_in_range(x: f64) -> bool
     ensures { λ r. ⌜ r ≡ areaRange x ⌝ }
@@ -45,6 +45,12 @@ pub fn gains_in_range(x: f64) -> bool
     ensures { λ r. ⌜ r ≡ gainsRange x ⌝ }
 {
     (-10000000.0 <= x) & (x <= 10000000.0)
+}
+
+pub fn power_limit_in_range(x: f64) -> bool
+    ensures { λ r. ⌜ r ≡ powerLimitRange x ⌝ }
+{
+    (0.0 <= x) & (x <= 10000000.0)
 }
 
 pub fn rate_in_range(x: f64) -> bool

@@ -3,7 +3,9 @@ use crate::calls::state::AchToTriggerHeating;
 use crate::calls::state::Demand;
 use crate::calls::state::DemandAnswer;
 use crate::format::conditions::HourFront;
+use crate::format::limits::Limits;
 use crate::hour::delivered::convective_share;
+use crate::hour::delivered::delivered_by;
 use crate::hour::delivered::delivered_of;
 use crate::hour::delivered::total_gains;
 use crate::hour::demand::hour_demand;
@@ -22,11 +24,11 @@ ghost use Rattle.zone.specs.Inner.Prepared.{prepared};
 ghost use Rattle.zone.specs.Inner.Demand.{answerWith};
 ghost use Rattle.zone.specs.Inner.Hour.{metLoad, noDemand, updateIn, demandMetIn, answerIn};
 
-// Whether the demand is met, and how: with the total gains and their convective share, by the rule of an entry version, or alone with the fraction of
-// heating.
+// Whether the demand is met, and how: with the total gains and their convective share, by the rule of an entry version and its limits, or alone with the
+// fraction of heating.
 pub enum Meeting {
     NotMet,
-    WithGains(u64),
+    WithGains(u64, Limits),
     Alone,
 }
 
@@ -49,10 +51,10 @@ pub enum MetLoad {
 fn met_load(h: HourFront, d: Demand, meeting: Meeting) -> MetLoad
     ensures { λ r. ⌜ r ≡ metLoad (hourOf h []) d meeting ⌝ }
 {
-    let w = delivered_of(h, d);
     match meeting {
         Meeting::NotMet => MetLoad::NoLoad,
-        Meeting::WithGains(version) => {
+        Meeting::WithGains(version, limits) => {
+            let w = delivered_by(version, limits, h, d);
             let g = total_gains(h, w);
             let share = convective_share(version, h, w, g);
             MetLoad::Load {
@@ -60,10 +62,13 @@ fn met_load(h: HourFront, d: Demand, meeting: Meeting) -> MetLoad
                 fraction: share,
             }
         }
-        Meeting::Alone => MetLoad::Load {
-            gains: w,
-            fraction: h.frac_convective_heat,
-        },
+        Meeting::Alone => {
+            let w = delivered_of(h, d);
+            MetLoad::Load {
+                gains: w,
+                fraction: h.frac_convective_heat,
+            }
+        }
     }
 }
 

@@ -1,4 +1,4 @@
-// Document 01's numbers of refusals. 12 and 13 are the solver's.
+// The papers' numbers of refusals. 12 and 13 are the solver's.
 pub const HEAD_SHORT: u32 = 1;
 
 pub const HEAD_LENGTH: u32 = 2;
@@ -27,3 +27,5 @@ pub const NOT_SETTLED: u32 = 15;
 
 // An entry version that no hour has; in a book a false entry too.
 pub const FALSE_ENTRY: u32 = 18;
+
+pub const LIMIT_VALUE: u32 = 19;

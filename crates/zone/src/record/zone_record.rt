@@ -40,7 +40,7 @@ pub struct Zone {
     pub building_elements: [Element; 24],
 }
 
-// An answer's verdict: accepted, or refused with document 01's number and index (0 where the paper gives none).
+// An answer's verdict: accepted, or refused with the papers' number and index (0 where the paper gives none).
 pub enum Verdict {
     Accepted,
     Refused { number: u32, index: usize },

@@ -1,8 +1,9 @@
 //! The words of a command line. Options may stand anywhere, with their value behind a space or `=`;
 //! `--` ends them. What each command takes is told by `commands.rs`.
-use crate::commands::{Command, COMMANDS, FLAGS, VALUED};
+use crate::commands::{Command, COMMANDS, FLAGS, NUMBER, VALUED};
 use crate::failure::Failure;
 use crate::words::grouped;
+use hem_zone::text::read_number;
 use lexopt::Arg;
 use std::ffi::{OsStr, OsString};
 use std::path::Path;
@@ -114,7 +115,8 @@ fn known(name: &str) -> Option<Known> {
     flag.or_else(|| valued().map(|(valued, what)| Known::Valued(valued, what)))
 }
 
-/// The value of an option: behind `=`, or the next word unless that looks like an option.
+/// The value of an option: behind `=`, or the next word unless that looks like an option. A number below 0
+/// does not, where a number is asked for.
 fn value_of(
     parser: &mut lexopt::Parser,
     places: &[OsString],
@@ -125,9 +127,17 @@ fn value_of(
         return Ok(value);
     }
     match parser.value() {
-        Ok(word) if !word.as_encoded_bytes().starts_with(b"-") => Ok(word),
+        Ok(word) if !is_option(&word) || what == NUMBER && is_below_0(&word) => Ok(word),
         _ => Err(wrong(named(places), format_args!("--{name} needs a {what}"))),
     }
+}
+
+fn is_option(word: &OsStr) -> bool {
+    word.as_encoded_bytes().starts_with(b"-")
+}
+
+fn is_below_0(word: &OsStr) -> bool {
+    matches!(word.as_encoded_bytes(), [b'-', b'0'..=b'9', ..])
 }
 
 fn named(places: &[OsString]) -> Option<&'static Command> {
@@ -148,7 +158,8 @@ fn of_lexopt(places: &[OsString], error: lexopt::Error) -> Failure {
 }
 
 impl Words {
-    fn wrong(&self, text: impl std::fmt::Display) -> Failure {
+    /// A usage error of this command.
+    pub fn wrong(&self, text: impl std::fmt::Display) -> Failure {
         wrong(Some(self.command), text)
     }
 
@@ -202,6 +213,17 @@ impl Words {
     ) -> Result<Option<T>, Failure> {
         let Some(word) = self.value(option) else { return Ok(None) };
         self.whole(&format!("--{option}"), word, most).map(Some)
+    }
+
+    /// The number of an option, a decimal.
+    pub fn decimal_of(&self, option: &str) -> Result<Option<f64>, Failure> {
+        let Some(word) = self.value(option) else { return Ok(None) };
+        let fault = match word.to_str().and_then(read_number) {
+            Some(number) if number.is_finite() => return Ok(Some(number)),
+            Some(_) => "beyond every number that can be held",
+            None => "which is not a number",
+        };
+        Err(self.wrong(format!("--{option} is {word:?}, {fault}")))
     }
 
     fn whole<T: FromStr + ToString>(

@@ -3,31 +3,31 @@ use crate::calendar::hour_name;
 use crate::failure::Failure;
 use crate::files;
 use crate::inputs::{self, Year};
-use crate::version::{self, NEW_BOOK_VERSION};
+use crate::rule::limits_in_words;
+use crate::version::NEW_BOOK_VERSION;
 use crate::words::{count, hours};
 use hem_zone::text::{conditions_faults, head_faults, read_hours, read_house, Faults, Plan};
-use hem_zone::{Book, Conditions, Head, Zone};
+use hem_zone::{Book, Conditions, Head, Rule, Zone};
 use std::path::Path;
 
 /// What is checked.
 pub struct Check<'a> {
     pub house: &'a Path,
     pub hours: &'a Path,
-    /// The version of the entries that are calculated, where it is given.
-    pub version: Option<u64>,
+    /// The rule of the entries that are calculated, where it is given.
+    pub rule: Option<Rule>,
 }
 
 pub fn check(given: &Check) -> Result<(), Failure> {
-    version::must_be_known(given.version)?;
-    let version = given.version.unwrap_or(NEW_BOOK_VERSION);
+    let rule = given.rule.unwrap_or(NEW_BOOK_VERSION.into());
     let (house, hours) = (given.house, given.hours);
     let mut faults = Faults::new();
     let (zone, plan) = check_house(house, &mut faults)?;
     let year = check_hours(hours, zone.as_ref(), plan.as_ref(), &mut faults)?;
     if let (Some(zone), Read::Good(year), true) = (&zone, &year, faults.is_empty()) {
-        check_run(given, zone, year, version, &mut faults);
+        check_run(given, zone, year, rule, &mut faults);
         if faults.is_empty() {
-            return files::print(&praise(given, zone, year.len(), version));
+            return files::print(&praise(given, zone, year.len(), rule));
         }
     }
     files::print(&faults.to_string())?;
@@ -48,10 +48,12 @@ enum Read {
     Not,
 }
 
-fn praise(given: &Check, zone: &Zone, number: usize, version: u64) -> String {
+fn praise(given: &Check, zone: &Zone, number: usize, rule: Rule) -> String {
+    let version = rule.version();
+    let limits = rule.limits().map_or(String::new(), |l| format!(" ({})", limits_in_words(&l)));
     format!(
         "{}: a house of {}\n{}: {}\n\
-         no faults: start-up settles and every hour can be calculated, as entries of version {version}\n",
+         no faults: start-up settles and every hour can be calculated, as entries of version {version}{limits}\n",
         given.house.display(),
         count(zone.layout().elements(), "element"),
         given.hours.display(),
@@ -122,14 +124,14 @@ fn check_year(path: &Path, zone: &Zone, year: &Year, faults: &mut Faults) -> Vec
 }
 
 /// Runs start-up and the hours, as in a new book: what they lead to can be refused too.
-fn check_run(given: &Check, zone: &Zone, year: &[Vec<u8>], version: u64, faults: &mut Faults) {
+fn check_run(given: &Check, zone: &Zone, year: &[Vec<u8>], rule: Rule, faults: &mut Faults) {
     let mut book = match Book::begin(zone.head()) {
         Ok(book) => book,
         Err(refusal) => return faults.add(given.house.display(), refusal),
     };
     let mut start = 0.0;
     for (place, hour) in year.iter().enumerate() {
-        if let Err(refusal) = book.append(hour, version) {
+        if let Err(refusal) = book.append(hour, rule) {
             let at = format!("{}: {}", given.hours.display(), hour_name(place, start));
             return faults
                 .add(at, format_args!("{refusal}; the hours after it were not calculated"));

@@ -9,14 +9,19 @@ pub struct Command {
     pub help: &'static str,
 }
 
+/// What the value of an option is, where it is a number.
+pub const NUMBER: &str = "number";
+
 /// Options that take a value, and what it is.
 pub const VALUED: &[(&str, &str)] = &[
     ("csv", "file"),
     ("svg", "file"),
     ("name", "name"),
     ("head", "file"),
-    ("hour", "number"),
-    ("entry-version", "number"),
+    ("hour", NUMBER),
+    ("entry-version", NUMBER),
+    ("heating-limit", NUMBER),
+    ("cooling-limit", NUMBER),
 ];
 
 /// Options that take none.
@@ -34,13 +39,13 @@ pub const COMMANDS: &[Command] = &[
     Command {
         name: "check",
         places: &["HOUSE", "HOURS"],
-        options: &["entry-version"],
+        options: &["entry-version", "heating-limit", "cooling-limit"],
         help: CHECK,
     },
     Command {
         name: "run",
         places: &["HOUSE", "HOURS", "BOOK"],
-        options: &["entry-version"],
+        options: &["entry-version", "heating-limit", "cooling-limit"],
         help: RUN,
     },
     Command {
@@ -117,7 +122,7 @@ fault of the file is told, with line, column, value and range.
 ";
 
 const CHECK: &str = "\
-hem-year check HOUSE HOURS [--entry-version N]
+hem-year check HOUSE HOURS [--entry-version N] [--heating-limit W] [--cooling-limit W]
 
 Lists all faults of a house (HOUSE.toml or HEAD) and its hours (HOURS.csv or YEAR), a line each:
 the first 100, then their number. Where there are none, start-up and all hours are calculated, as
@@ -126,10 +131,12 @@ in a new book, and what the engine refuses is told. Nothing is written.
   --entry-version N
                the version of the entries that are calculated, as `hem-year help run` has it; without
                it that of new books, 2
+  --heating-limit W, --cooling-limit W
+               the plant's greatest heating and cooling, as `hem-year help run` has them
 ";
 
 const RUN: &str = "\
-hem-year run HOUSE HOURS BOOK [--entry-version N]
+hem-year run HOUSE HOURS BOOK [--entry-version N] [--heating-limit W] [--cooling-limit W]
 
 Begins BOOK for a house (HOUSE.toml or HEAD), or takes it up, and appends those of its hours
 (HOURS.csv or YEAR) that it does not hold yet. Every hour that is held is calculated again first
@@ -144,10 +151,17 @@ writing is left as it is. Where a part of it is good, `hem-year cut` keeps that 
   --entry-version N
                the version of the entries that are appended, which says how heating and cooling are
                shared between the air and the surfaces. 1: both by frac_convective_heat. 2: cooling
-               by frac_convective_cool. Without it they have that of the book's last entry, so a book
-               that `cut` took back to hours of version 1 goes on in 1; in a new book, or one that
-               holds no hour yet, 2. A book may pass from 1 to 2, never back. Hours that are held keep
-               their version
+               by frac_convective_cool. 3: as 2, with the limits of a plant, which have to be given.
+               Without it, and without limits, they have that of the book's last entry, in version 3
+               with its limits, so a book that `cut` took back to hours of version 1 goes on in 1; in a
+               new book, or one that holds no hour yet, 2. A book may pass to a higher version, never
+               back. Hours that are held keep their version
+  --heating-limit W, --cooling-limit W
+               the greatest heating and cooling of the plant, watts, 0 to 10,000,000, for the year with
+               the one that you mean to buy. An hour that asks for more gets the limit, and misses its
+               setpoint; its demand is told uncut. Either means version 3; one that is not given is
+               10,000,000, the greatest that there is. Hours that are held keep their limits; where
+               they are others, the run says so
 ";
 
 const REPORT: &str = "\
@@ -156,10 +170,13 @@ hem-year report BOOK [--csv FILE [--balance] [--nodes]] [--svg FILE]
 
 Calculates the hours of BOOK again and prints totals, kWh/m², a table of months, the ten hours of
 greatest heating and cooling load, how many entries are of which version, and the fingerprints
-(SHA-256) of head, conditions and book. Two prints with one fingerprint are of one book.
+(SHA-256) of head, conditions and book. Two prints with one fingerprint are of one book. Of hours
+with the limits of a plant it prints for how long each limit held, by month too, the ten hours that
+left most unmet, what was delivered, and how cold or warm it was in these hours.
 
   --csv FILE   writes the hours as a table: number, beginning, length, all that was given for the hour,
-               entry version, demand, air change rate and temperatures. Lines with # say what it is
+               entry version, demand, air change rate and temperatures; where hours have limits, these,
+               the power delivered, which limit held and the kWh left unmet. Lines with # say what it is
                of. The beginning is written with the year 2001, since hours have no year
   --balance    adds the heat balance's 25 columns, W
   --nodes      adds the temperature of each node, °C
@@ -169,8 +186,8 @@ greatest heating and cooling load, how many entries are of which version, and th
   --force      replaces FILE whatever it holds; without it, only a table or drawing of a report
 
 An hour that is damaged is found, because it is not what its conditions give. What cannot be found
-is a changed condition or entry version that has no effect in its hour (as a cooling setpoint in
-winter): that is another true book, and has another fingerprint.
+is a changed condition, entry version or limit that has no effect in its hour (as a cooling
+setpoint in winter): that is another true book, and has another fingerprint.
 ";
 
 const SHOW: &str = "\

@@ -51,10 +51,15 @@ fn first_hours(given: &Cut) -> Result<Book, Failure> {
         }
         None => Zone::from_head(&bytes).map_err(|r| Failure::refused(given.book, &r))?,
     };
-    let (head, entry) = (zone.layout().head_len(), zone.layout().entry_len());
-    let held = (bytes.len() - head) / entry;
-    if held < given.keep {
-        return Err(damage::too_few(given.book, held, given.keep));
+    let option = given.head.map_or(String::new(), damage::head_option);
+    match damage::end_of(&zone, &bytes, given.keep) {
+        Some(end) => damage::take_up_or(given.book, &bytes[..end], &option),
+        // Too few are held, or the bytes are damaged, so that their hours cannot be counted.
+        None => {
+            let held = damage::take_up_or(given.book, &bytes, &option)?.hours();
+            let text =
+                format!("holds {}, which is fewer than {}", hours(held), grouped(given.keep));
+            Err(Failure::file(given.book, text))
+        }
     }
-    damage::take_up(given.book, &bytes[..head + given.keep * entry])
 }

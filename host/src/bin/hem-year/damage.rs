@@ -3,16 +3,27 @@
 use crate::calendar::hour_name;
 use crate::failure::Failure;
 use crate::places::heads_differ;
-use crate::words::{first_hours, grouped, hours};
-use hem_zone::{Book, Refusal, Zone};
+use crate::words::{count, first_hours, hours};
+use hem_zone::{Book, Reason, Refusal, Zone, ENTRY_VERSION_1, MOST_ENTRIES};
 use std::path::Path;
 
 /// The book of a file's bytes.
 pub fn take_up(path: &Path, bytes: &[u8]) -> Result<Book, Failure> {
+    take_up_or(path, bytes, "")
+}
+
+/// The same where a cut of the file needs this option.
+pub fn take_up_or(path: &Path, bytes: &[u8], option: &str) -> Result<Book, Failure> {
     Book::take_up(bytes).map_err(|refusal| {
         let (fault, good) = (fault(bytes, &refusal), good_hours(bytes, &refusal));
-        Failure::Refused(format!("{}: {fault}{}; {LEFT}", path.display(), keep(path, good, "")))
+        let keep = good.map_or(String::new(), |good| format!("; {}", keep(path, good, option)));
+        Failure::Refused(format!("{}: {fault}{keep}; {LEFT}", path.display()))
     })
+}
+
+/// The option of a cut that takes this head.
+pub fn head_option(head: &Path) -> String {
+    format!(" --head {}", head.display())
 }
 
 const LEFT: &str = "the file is left as it is";
@@ -34,16 +45,17 @@ pub fn take_up_with_head(
         Err(refusal) => good_hours(&other, &refusal).unwrap_or(0),
     };
     let difference = difference(bytes, head, zone);
-    let keep = keep(path, (good > 0).then_some(good), &format!(" --head {}", head.display()));
+    let keep = || keep(path, good, &head_option(head));
     Err(match own {
         Ok(_) => Failure::file(
             path,
             format!("was begun with another head than {}: {difference}; {LEFT}", head.display()),
         ),
         Err(_) if good > 0 => Failure::Refused(format!(
-            "{}: its head is damaged: {difference}; with the head of {}{keep}; {LEFT}",
+            "{}: its head is damaged: {difference}; with the head of {} {}; {LEFT}",
             path.display(),
             head.display(),
+            keep(),
         )),
         Err(refusal) => Failure::Refused(format!(
             "{}: {}; its head is not that of {} either: {difference}; {LEFT}",
@@ -70,37 +82,66 @@ fn difference(book: &[u8], head: &Path, zone: &Zone) -> String {
 
 /// What the engine refused, with the name of the hour where it is one.
 fn fault(bytes: &[u8], refusal: &Refusal) -> String {
-    let Some(good) = good_hours(bytes, refusal) else { return refusal.to_string() };
-    let sentence = refusal.sentence();
+    let (Some(good), Ok(zone)) = (good_hours(bytes, refusal), Zone::from_head(bytes)) else {
+        return refusal.to_string();
+    };
+    let rest = bytes.len() - end_of(&zone, bytes, good).unwrap_or(bytes.len());
+    let (number, sentence) = (refusal.number(), refusal.sentence());
+    if refusal.reason() == Reason::BookFull {
+        return format!(
+            "behind its {}, as many as a book holds, stand {} (refusal {number})",
+            hours(good),
+            count(rest, "more byte")
+        );
+    }
     let own = sentence.strip_prefix(&format!("entry {good}: ")).unwrap_or(sentence);
-    format!("{}: {own} (refusal 18)", hour_name(good, start_of(bytes, good)))
+    match zone.layout().entry_len(ENTRY_VERSION_1) {
+        // Shorter than any hour, the rest was taken for one by its version byte alone.
+        Some(shortest) if rest < shortest => {
+            let behind = if good == 0 { "head".into() } else { hours(good) };
+            let version = own.strip_prefix("its version is ").unwrap_or(own);
+            format!(
+                "behind its {behind} stand {} that are no hour (their version byte is {version}) (refusal {number})",
+                count(rest, "byte")
+            )
+        }
+        _ => format!("{}: {own} (refusal {number})", hour_name(good, start_of(bytes, good))),
+    }
 }
 
-/// How many hours stand before the first false one, where the refusal is about an hour.
+/// How many hours stand before the first false one, or before what is more than a book holds.
 fn good_hours(bytes: &[u8], refusal: &Refusal) -> Option<usize> {
-    let is_hour = refusal.number() == 18 && Zone::from_head(bytes).is_ok();
-    is_hour.then_some(refusal.index() as usize)
+    Zone::from_head(bytes).ok()?;
+    match refusal.reason() {
+        Reason::FalseEntry => Some(refusal.index() as usize),
+        Reason::BookFull => Some(MOST_ENTRIES),
+        _ => None,
+    }
 }
 
 /// When an hour begins whose predecessors are good.
 fn start_of(bytes: &[u8], place: usize) -> f64 {
     let Ok(zone) = Zone::from_head(bytes) else { return 0.0 };
-    let end = zone.layout().head_len() + place * zone.layout().entry_len();
+    let end = end_of(&zone, bytes, place).unwrap_or(zone.layout().head_len());
     match Book::take_up(&bytes[..end]) {
         Ok(book) => book.entries().map(|entry| entry.conditions().delta_t_h).sum(),
         Err(_) => 0.0,
     }
 }
 
+/// Where the first hours of a book's bytes end, if there are as many.
+pub fn end_of(zone: &Zone, bytes: &[u8], hours: usize) -> Option<usize> {
+    match hours {
+        0 => Some(zone.layout().head_len()),
+        _ => zone.layout().entries(bytes).nth(hours - 1).map(|last| last.end),
+    }
+}
+
 /// How the good hours can be kept.
-fn keep(path: &Path, good: Option<usize>, option: &str) -> String {
-    let Some(good) = good else { return String::new() };
-    let lead = if option.is_empty() { "; " } else { " " };
+fn keep(path: &Path, good: usize, option: &str) -> String {
     match good {
-        0 => format!("{lead}no hour before it is held"),
-        _ => {
-            format!("{lead}its {} good, and {}", first_hours(good), cut_keeps(path, good, option))
-        }
+        0 => "no hour before it is held".into(),
+        _ => format!("its {} good, and {}", first_hours(good), cut_keeps(path, good, option)),
     }
 }
 
@@ -108,10 +149,4 @@ fn keep(path: &Path, good: Option<usize>, option: &str) -> String {
 pub fn cut_keeps(path: &Path, number: usize, option: &str) -> String {
     let them = if number == 1 { "it" } else { "them" };
     format!("`hem-year cut {} {number} NEW{option}` keeps {them}", path.display())
-}
-
-/// Says that a book holds fewer hours than were asked for.
-pub fn too_few(path: &Path, held: usize, asked: usize) -> Failure {
-    let text = format!("holds {}, which is fewer than {}", hours(held), grouped(asked));
-    Failure::file(path, text)
 }

@@ -1,5 +1,6 @@
 //! The days of a book, for a drawing: what lies in each by time, however long the hours are.
-use crate::figures::{HourFigures, Sums};
+use crate::figures::HourFigures;
+use crate::sums::Sums;
 
 /// The most parts that a drawing shows next to each other: the days of a leap year.
 const MOST: usize = 366;

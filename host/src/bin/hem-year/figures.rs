@@ -1,6 +1,7 @@
 //! The figures of a book's hours. An hour may have any length: what is summed or averaged over time
 //! here is weighted by lengths, never counted by entries.
 use crate::calendar::Moment;
+use crate::plant::PlantHour;
 use hem_zone::{AirChangesPerHour, Book, Conditions, Entry};
 use std::ops::Range;
 
@@ -29,6 +30,8 @@ pub struct HourFigures {
     pub cool_down: bool,
     /// Windows were opened beyond the required rate.
     pub windows: bool,
+    /// What a plant of limited power did, where the hour has limits.
+    pub plant: Option<PlantHour>,
 }
 
 impl HourFigures {
@@ -119,6 +122,7 @@ fn of_entry(place: usize, entry: &Entry, start: f64, before: &Before) -> HourFig
         warm_up: conditions.temp_setpnt_heat > before.setpoint_heat,
         cool_down: conditions.temp_setpnt_cool < before.setpoint_cool,
         windows: windows_used(&conditions, demand.ach_cooling),
+        plant: PlantHour::of(entry),
     }
 }
 
@@ -130,105 +134,12 @@ pub fn windows_used(conditions: &Conditions, rate: f64) -> bool {
     }
 }
 
-/// Sums, extremes and means of hours, or of the parts of hours that lie in a time.
-#[derive(Default)]
-pub struct Sums {
-    /// Time that is covered, hours.
-    pub length: f64,
-    /// Demand, kWh.
-    pub heating: f64,
-    pub cooling: f64,
-    /// Time with demand or with open windows, hours.
-    pub heated: f64,
-    pub cooled: f64,
-    pub windows: f64,
-    /// Greatest power, kW.
-    pub heating_peak: f64,
-    pub cooling_peak: f64,
-    pub external: Spread,
-    pub operative: Spread,
-}
-
-impl Sums {
-    /// Of all hours.
-    pub fn of(hours: &[HourFigures]) -> Self {
-        let mut sums = Self::default();
-        hours.iter().for_each(|hour| sums.add(hour, 1.0));
-        sums
-    }
-
-    /// Adds a part of an hour, from 0 to 1 of it.
-    pub fn add(&mut self, hour: &HourFigures, share: f64) {
-        if share <= 0.0 {
-            return;
-        }
-        let length = share * hour.length;
-        let time_if = |it: bool| if it { length } else { 0.0 };
-        self.length += length;
-        self.heating += share * hour.heating;
-        self.cooling += share * hour.cooling;
-        self.heated += time_if(hour.heating > 0.0);
-        self.cooled += time_if(hour.cooling > 0.0);
-        self.windows += time_if(hour.windows);
-        self.heating_peak = self.heating_peak.max(hour.heating_power());
-        self.cooling_peak = self.cooling_peak.max(hour.cooling_power());
-        self.external.add(hour.external, length);
-        self.operative.add(hour.operative, length);
-    }
-}
-
-/// Least, greatest and mean value over time.
-pub struct Spread {
-    pub low: f64,
-    pub high: f64,
-    sum: f64,
-    time: f64,
-}
-
-impl Default for Spread {
-    fn default() -> Self {
-        Self { low: f64::INFINITY, high: f64::NEG_INFINITY, sum: 0.0, time: 0.0 }
-    }
-}
-
-impl Spread {
-    fn add(&mut self, value: f64, time: f64) {
-        self.low = self.low.min(value);
-        self.high = self.high.max(value);
-        self.sum += time * value;
-        self.time += time;
-    }
-
-    pub fn mean(&self) -> f64 {
-        self.sum / self.time
-    }
-}
-
-/// Power and length of the loaded hours, the greatest power first.
-pub fn falling(hours: &[HourFigures], power: fn(&HourFigures) -> f64) -> Vec<(f64, f64)> {
-    let loaded = hours.iter().filter(|h| power(h) > 0.0);
-    let mut steps: Vec<_> = loaded.map(|h| (power(h), h.length)).collect();
-    steps.sort_by(|a, b| b.0.total_cmp(&a.0));
-    steps
-}
-
-/// The least power that is exceeded for no longer than a time.
-pub fn exceeded_for(falling: &[(f64, f64)], time: f64) -> f64 {
-    let mut passed = 0.0;
-    for (power, length) in falling {
-        passed += length;
-        if passed > time {
-            return *power;
-        }
-    }
-    0.0
-}
-
 #[cfg(test)]
-mod tests {
+pub mod tests {
     use super::*;
 
-    fn hour(start: f64, length: f64, heating: f64, operative: f64) -> HourFigures {
+    /// An hour of this demand, without cooling and without limits.
+    pub fn hour(start: f64, length: f64, heating: f64, operative: f64) -> HourFigures {
         HourFigures {
             number: 1,
             start,
@@ -244,19 +155,8 @@ mod tests {
             warm_up: false,
             cool_down: false,
             windows: false,
+            plant: None,
         }
-    }
-
-    #[test]
-    fn sums_go_by_length() {
-        let hours =
-            [hour(0.0, 0.25, 1.0, 10.0), hour(0.25, 2.0, 2.0, 20.0), hour(2.25, 0.75, 0.0, 30.0)];
-        let sums = Sums::of(&hours);
-        assert_eq!((sums.length, sums.heating, sums.heated), (3.0, 3.0, 2.25));
-        assert_eq!((sums.heating_peak, sums.cooled), (4.0, 0.0));
-        assert_eq!(sums.operative.mean(), (2.5 + 40.0 + 22.5) / 3.0);
-        assert_eq!(sums.external.mean(), (1.25 + 20.0 + 11.25) / 3.0);
-        assert_eq!((sums.operative.low, sums.operative.high), (10.0, 30.0));
     }
 
     #[test]
@@ -267,12 +167,5 @@ mod tests {
         // A beginning that is a rounded sum has no part in the day beside its own.
         assert_eq!(hour(24.0 - 1e-11, 0.1, 1.0, 20.0).share_in(&(0.0..24.0)), 0.0);
         assert_eq!(hour(23.0 + 1e-11, 1.0, 1.0, 20.0).share_in(&(24.0..48.0)), 0.0);
-    }
-
-    #[test]
-    fn a_load_is_exceeded_for_a_time() {
-        let steps = [(3.0, 0.5), (2.0, 0.5), (1.0, 4.0)];
-        let loads = [0.0, 0.4, 0.5, 0.9, 1.0, 4.9, 5.0].map(|time| exceeded_for(&steps, time));
-        assert_eq!(loads, [3.0, 3.0, 2.0, 2.0, 1.0, 1.0, 0.0]);
     }
 }

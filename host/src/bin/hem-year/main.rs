@@ -14,20 +14,27 @@ mod failure;
 mod figures;
 mod files;
 mod fingerprint;
+mod highest;
 mod hours;
 mod house;
 mod inputs;
 mod kind;
+mod load;
+mod monthly;
 mod output;
 mod places;
+mod plant;
+mod plant_text;
 mod print;
 mod progress;
 mod report;
+mod rule;
 mod run;
 mod sample;
 mod show;
 mod stop;
 mod store;
+mod sums;
 mod svg;
 mod table;
 mod terrace;
@@ -73,14 +80,14 @@ fn command(words: &Words) -> Result<(), Failure> {
         "check" => check::check(&check::Check {
             house: words.path(0),
             hours: words.path(1),
-            version: words.number_of("entry-version", u64::MAX)?,
+            rule: rule::named(words)?,
         }),
         "show" => show(words),
         "run" => run::run(&run::Run {
             house: words.path(0),
             hours: words.path(1),
             book: words.path(2),
-            version: words.number_of("entry-version", u64::MAX)?,
+            rule: rule::named(words)?,
         }),
         "cut" => cut::cut(&cut::Cut {
             book: words.path(0),

@@ -1,6 +1,7 @@
 //! What is told of a book: in words, as a table and as a drawing, from one reading of it.
-use crate::figures::{figures, HourFigures, Sums};
+use crate::figures::{figures, HourFigures};
 use crate::fingerprint::Fingerprints;
+use crate::sums::Sums;
 use crate::words::{count, length_of_time};
 use hem_zone::Book;
 
@@ -26,6 +27,11 @@ impl<'a> Print<'a> {
         // A name is one line in every print.
         let name = name.replace(char::is_control, " ");
         Self { name, elements, book, hours, sums, fingerprints }
+    }
+
+    /// Whether any hour has the limits of a plant. Versions never fall, so the last one tells.
+    pub fn has_limits(&self) -> bool {
+        self.book.last_rule().is_some_and(|rule| rule.limits().is_some())
     }
 
     /// Useful floor area, m².

@@ -1,13 +1,18 @@
 //! `hem-year report`: what a designer needs of a year.
-use crate::calendar::{months, Moment};
+use crate::calendar::Moment;
 use crate::damage;
 use crate::failure::Failure;
-use crate::figures::{exceeded_for, falling, HourFigures, Sums};
+use crate::figures::HourFigures;
 use crate::files;
+use crate::highest::highest;
 use crate::inputs::House;
 use crate::kind::Kind;
+use crate::load::{Load, COOLING, HEATING};
+use crate::monthly::monthly;
 use crate::output::{self, Output};
+use crate::plant_text;
 use crate::print::{Print, PROGRAM};
+use crate::sums::{exceeded_for, falling};
 use crate::svg;
 use crate::table::{self, Columns};
 use crate::version::held_by_version_and_rule;
@@ -17,8 +22,6 @@ use hem_zone::Book;
 use std::fmt::Write;
 use std::path::Path;
 
-/// How many of the highest hours are listed.
-const LISTED: usize = 10;
 /// The share of the time for which a design load may be exceeded.
 const EXCEEDED: f64 = 0.004;
 
@@ -93,17 +96,21 @@ fn targets_must_be_apart(given: &Report) -> Result<(), Failure> {
 fn text(path: &Path, print: &Print, torn: usize) -> String {
     let mut text = title(path, print);
     if torn > 0 {
-        let bytes = count(torn, "byte");
-        let _ = writeln!(text, "The last {bytes} are an unfinished hour, which is not counted.");
+        let last = match torn {
+            1 => "byte is".into(),
+            _ => format!("{} are", count(torn, "byte")),
+        };
+        let _ = writeln!(text, "The last {last} an unfinished hour, which is not counted.");
     }
     if !print.hours.is_empty() {
         text.push('\n');
         text += &totals(print);
         text += &extremes(&print.hours);
         let _ = writeln!(text, "Entries    {}", held_by_version_and_rule(print.book));
-        text += &monthly(&print.hours);
-        text += &highest("heating", &print.hours, &HEATING);
-        text += &highest("cooling", &print.hours, &COOLING);
+        text += &plant_text::plant(&print.hours);
+        text += &monthly(print);
+        text += &highest(print, &HEATING);
+        text += &highest(print, &COOLING);
         text +=
             "\nHours are named by their beginning; temperatures inside are those at their end.\n";
     }
@@ -136,23 +143,22 @@ fn title(path: &Path, print: &Print) -> String {
 }
 
 fn totals(print: &Print) -> String {
-    let sums = &print.sums;
-    let heating = falling(&print.hours, HourFigures::heating_power);
-    let cooling = falling(&print.hours, HourFigures::cooling_power);
-    total("Heating", print, sums.heating, sums.heated, &heating)
-        + &total("Cooling", print, sums.cooling, sums.cooled, &cooling)
-        + &format!("Windows    used in {}\n", length_of_time(sums.windows))
+    let windows = format!("Windows    used in {}\n", length_of_time(print.sums.windows));
+    total(print, &HEATING) + &total(print, &COOLING) + &windows
 }
 
-/// Energy, how long it was needed, and the powers, the greatest first.
-fn total(name: &str, print: &Print, energy: f64, time: f64, steps: &[(f64, f64)]) -> String {
-    let mut text = format!(
-        "{name} {energy:10.1} kWh ({:.1} kWh/m²) in {}",
-        energy / print.area(),
-        length_of_time(time)
-    );
+/// Energy, how long it was needed, and the greatest powers. Where a limit held, what was delivered goes
+/// before what was asked for.
+fn total(print: &Print, load: &Load) -> String {
+    let (asked, time) = (load.asked)(&print.sums);
+    let steps = falling(&print.hours, load.power);
+    let mut text = format!("{} {}", load.title, delivered(print, load, 10));
+    if load.was_short(&print.sums) {
+        let _ = write!(text, ", {asked:.1} kWh asked for");
+    }
+    let _ = write!(text, " in {}", length_of_time(time));
     if let Some((highest, _)) = steps.first() {
-        let design = exceeded_for(steps, EXCEEDED * print.sums.length);
+        let design = exceeded_for(&steps, EXCEEDED * print.sums.length);
         let percent = 100.0 * EXCEEDED;
         let _ = write!(
             text,
@@ -160,6 +166,14 @@ fn total(name: &str, print: &Print, energy: f64, time: f64, steps: &[(f64, f64)]
         );
     }
     text + "\n"
+}
+
+/// The energy of a load in all and by floor area, and that it is what was delivered, where that is less than
+/// what was asked for.
+pub fn delivered(print: &Print, load: &Load, width: usize) -> String {
+    let energy = load.delivered(&print.sums);
+    let word = if load.was_short(&print.sums) { " delivered" } else { "" };
+    format!("{energy:width$.1} kWh{word} ({:.1} kWh/m²)", energy / print.area())
 }
 
 fn extremes(hours: &[HourFigures]) -> String {
@@ -177,113 +191,4 @@ fn extremes(hours: &[HourFigures]) -> String {
         ),
         _ => String::new(),
     }
-}
-
-// ---- the months ----
-
-/// A line for each month that the book reaches, and one for what lies past the year.
-fn monthly(hours: &[HourFigures]) -> String {
-    let mut text = String::from(
-        "\n          Heating   highest   Cooling   highest   Windows  External  Operative\
-         \n              kWh        kW       kWh        kW         h   mean °C    mean °C\n",
-    );
-    let day = |number: u32| f64::from(number) * 24.0;
-    let later = ("later", day(365)..f64::MAX);
-    let times = months().map(|(name, first, end)| (name, day(first)..day(end))).chain([later]);
-    for (name, time) in times {
-        let mut sums = Sums::default();
-        hours.iter().for_each(|hour| sums.add(hour, hour.share_in(&time)));
-        if sums.length > 0.0 {
-            text += &month_line(name, &sums);
-        }
-    }
-    text
-}
-
-fn month_line(name: &str, sums: &Sums) -> String {
-    format!(
-        "{name:7} {:9.1} {:9.2} {:9.1} {:9.2} {:9.1} {:9.1} {:10.1}\n",
-        sums.heating,
-        sums.heating_peak,
-        sums.cooling,
-        sums.cooling_peak,
-        sums.windows,
-        sums.external.mean(),
-        sums.operative.mean(),
-    )
-}
-
-// ---- the highest hours ----
-
-/// How heating or cooling is told.
-struct Load {
-    power: fn(&HourFigures) -> f64,
-    setpoint: fn(&HourFigures) -> f64,
-    /// Whether the setpoint has just changed so that there is more to do.
-    after_setback: fn(&HourFigures) -> bool,
-    word: &'static str,
-    explained: &'static str,
-}
-
-const HEATING: Load = Load {
-    power: HourFigures::heating_power,
-    setpoint: |h| h.setpoint_heat,
-    after_setback: |h| h.warm_up,
-    word: "warm-up",
-    explained: "after a setback: the setpoint is higher than in the hour before",
-};
-
-const COOLING: Load = Load {
-    power: HourFigures::cooling_power,
-    setpoint: |h| h.setpoint_cool,
-    after_setback: |h| h.cool_down,
-    word: "cool-down",
-    explained: "after a setback: the setpoint is lower than in the hour before",
-};
-
-/// The hours of greatest power, the earlier first where they are equal; hours without any are left out.
-fn by_power<'a>(hours: &'a [HourFigures], load: &Load) -> Vec<&'a HourFigures> {
-    let power = load.power;
-    let mut loaded: Vec<&HourFigures> = hours.iter().filter(|h| power(h) > 0.0).collect();
-    loaded.sort_by(|a, b| power(b).total_cmp(&power(a)));
-    loaded
-}
-
-fn highest(name: &str, hours: &[HourFigures], load: &Load) -> String {
-    let loaded = by_power(hours, load);
-    if loaded.is_empty() {
-        return format!("\nHighest {name}: none\n");
-    }
-    let mut text =
-        format!("\nHighest {name}                   kW   external  setpoint  operative before\n");
-    for (row, hour) in loaded.iter().take(LISTED).enumerate() {
-        text += &highest_line(row + 1, hour, load);
-    }
-    text + &setback_note(&loaded, load)
-}
-
-fn highest_line(row: usize, hour: &HourFigures, load: &Load) -> String {
-    let note = if (load.after_setback)(hour) { load.word } else { "" };
-    let line = format!(
-        "{row:2}  hour {:4}  {:>15} {:6.2} {:8.1} °C {:6.1} °C {:14.1} °C  {note}",
-        hour.number,
-        hour.date(),
-        (load.power)(hour),
-        hour.external,
-        (load.setpoint)(hour),
-        hour.before,
-    );
-    line.trim_end().to_string() + "\n"
-}
-
-/// What the word behind an hour means, and the highest hour without it.
-fn setback_note(loaded: &[&HourFigures], load: &Load) -> String {
-    if !loaded.iter().take(LISTED).any(|hour| (load.after_setback)(hour)) {
-        return String::new();
-    }
-    let steady = loaded.iter().find(|hour| !(load.after_setback)(hour));
-    let steady = steady.map_or("no other hour has any".into(), |hour| {
-        format!("the highest other hour has {:.2} kW ({})", (load.power)(hour), hour.date().trim())
-    });
-    format!("    {}: {}; {steady}\n", load.word, load.explained)
 }

@@ -4,11 +4,12 @@ use crate::failure::Failure;
 use crate::files;
 use crate::inputs::{House, Year};
 use crate::places::conditions_differ;
+use crate::rule::limits_in_words;
 use crate::stop::Stop;
 use crate::store::Store;
 use crate::version::{self, another_book, held_by_version};
 use crate::words::{count, grouped, hours};
-use hem_zone::Book;
+use hem_zone::{Book, Rule};
 use std::path::Path;
 
 /// What is calculated, and into which book.
@@ -16,12 +17,11 @@ pub struct Run<'a> {
     pub house: &'a Path,
     pub hours: &'a Path,
     pub book: &'a Path,
-    /// The version of the entries that are appended, where it is given.
-    pub version: Option<u64>,
+    /// The rule of the entries that are appended, where it is given.
+    pub rule: Option<Rule>,
 }
 
 pub fn run(given: &Run) -> Result<(), Failure> {
-    version::must_be_known(given.version)?;
     must_be_apart(given)?;
     let house = House::read(given.house)?;
     let year = Year::read(given.hours, &house)?;
@@ -29,17 +29,18 @@ pub fn run(given: &Run) -> Result<(), Failure> {
     let mut store = Store::open(given.book, given.house, &house.zone)?;
     must_agree(given.book, &store.book, given.hours, &year)?;
     let held = Held::of(&store.book);
-    // A version has a meaning only where there is an hour to append.
-    let version = match held.hours < year.len() {
-        true => Some(version::to_append(given.book, &mut store.book, given.version)?),
+    // A rule has a meaning only where there is an hour to append.
+    let rule = match held.hours < year.len() {
+        true => Some(version::to_append(given.book, &mut store.book, given.rule)?),
         false => None,
     };
     let dropped = store.drop_torn_tail()?;
-    if let Some(version) = version {
-        store.append_missing(&year, version, &stop)?;
+    if let Some(rule) = rule {
+        store.append_missing(&year, rule, &stop)?;
     }
-    let text = summary(given.book, &held, dropped, &store.book);
-    files::print(&(text + &fewer(given.hours, &held, &year) + &unused(given, &store.book, &year)))
+    let text = summary(given, &held, dropped, &store.book);
+    let kept = kept(given, &held, &store.book, &year);
+    files::print(&(text + &fewer(given.hours, &held, &year) + &kept))
 }
 
 /// What a book held before the run.
@@ -85,21 +86,38 @@ fn must_agree(path: &Path, book: &Book, conditions: &Path, year: &Year) -> Resul
     Ok(())
 }
 
-fn summary(path: &Path, held: &Held, dropped: usize, book: &Book) -> String {
+fn summary(given: &Run, held: &Held, dropped: usize, book: &Book) -> String {
     let mut text = String::new();
     if dropped > 0 {
+        let verb = if dropped == 1 { "was" } else { "were" };
         text += &format!(
-            "{} of an hour that was not written to its end were dropped\n",
+            "{} of an hour that was not written to its end {verb} dropped\n",
             count(dropped, "byte")
         );
     }
     let appended = match book.hours() - held.hours {
         0 => "0 appended".into(),
-        more => format!("{} appended with entry version {}", grouped(more), book.last_version()),
+        more => format!(
+            "{} appended with entry version {}{}",
+            grouped(more),
+            book.last_version(),
+            of_limits(given, book)
+        ),
     };
-    let bytes = grouped(book.bytes().len());
-    text += &format!("{}: {}, {appended}, {bytes} bytes\n", path.display(), held_before(held));
+    let (path, bytes) = (given.book.display(), grouped(book.bytes().len()));
+    text += &format!("{path}: {}, {appended}, {bytes} bytes\n", held_before(held));
     text
+}
+
+/// The limits of the hours that were appended, where they have some, and where these come from.
+fn of_limits(given: &Run, book: &Book) -> String {
+    match (book.last_rule().and_then(|rule| rule.limits()), given.rule) {
+        (None, _) => String::new(),
+        (Some(limits), Some(_)) => format!(" ({})", limits_in_words(&limits)),
+        (Some(limits), None) => {
+            format!(" (the limits of the hour before: {})", limits_in_words(&limits))
+        }
+    }
 }
 
 fn held_before(held: &Held) -> String {
@@ -122,14 +140,17 @@ fn fewer(conditions: &Path, held: &Held, year: &Year) -> String {
     }
 }
 
-/// Said where the version that is given had no hour to be used for: the last of the hours that are given
-/// was held before, in another version.
-fn unused(given: &Run, book: &Book, year: &Year) -> String {
-    let last = year.len().checked_sub(1).and_then(|place| book.entry(place));
-    match (given.version, last) {
-        (Some(version), Some(last)) if last.version() != version => {
-            format!("the hours held keep their version; {}\n", another_book(version))
-        }
-        _ => String::new(),
+/// Said where an hour that was held has another rule than this run, of those that the run is given: they
+/// stay as they are.
+fn kept(given: &Run, held: &Held, book: &Book, year: &Year) -> String {
+    let of_appended = || book.last_rule().filter(|_| book.hours() > held.hours);
+    let Some(rule) = given.rule.or_else(of_appended) else { return String::new() };
+    let before = || book.entries().take(held.hours.min(year.len())).map(|entry| entry.rule());
+    if before().all(|before| before == rule) {
+        return String::new();
+    }
+    match before().chain([rule]).any(|rule| rule.limits().is_some()) {
+        true => "the hours held keep their version and limits; for one plant in all hours begin another book\n".into(),
+        false => format!("the hours held keep their version; {}\n", another_book(rule.version())),
     }
 }

@@ -12,7 +12,7 @@ use crate::output;
 use crate::progress::Progress;
 use crate::stop::Stop;
 use crate::words::hours;
-use hem_zone::{Book, Zone};
+use hem_zone::{Book, Rule, Zone};
 use rustix::fs::{flock, FlockOperation};
 use std::fs::{File, OpenOptions};
 use std::io::{self, ErrorKind, Read, Write};
@@ -45,7 +45,7 @@ impl<'a> Store<'a> {
         let mut bytes = vec![];
         file.read_to_end(&mut bytes).map_err(|e| Failure::io("be read", path, e))?;
         let book = damage::take_up_with_head(path, &bytes, head, zone)?;
-        // The hours that are found choose the version of those to come. They are stored first, so that
+        // The hours that are found choose the rule of those to come. They are stored first, so that
         // the same command finds them again after a power cut.
         file.sync_data().map_err(|e| Failure::io("be written", path, e))?;
         let end = book.entries().map(|e| e.conditions().delta_t_h).sum();
@@ -63,17 +63,12 @@ impl<'a> Store<'a> {
         Ok(torn)
     }
 
-    /// Appends the hours that the book does not hold yet, as entries of this version.
-    pub fn append_missing(
-        &mut self,
-        year: &Year,
-        version: u64,
-        stop: &Stop,
-    ) -> Result<(), Failure> {
+    /// Appends the hours that the book does not hold yet, by this rule.
+    pub fn append_missing(&mut self, year: &Year, rule: Rule, stop: &Stop) -> Result<(), Failure> {
         let mut progress = Progress::new(year.len());
         for place in self.book.hours()..year.len() {
             let done = match stop.asked() {
-                None => self.append(year.hour(place), version),
+                None => self.append(year.hour(place), rule),
                 Some(status) => Err(Failure::Stopped(self.stopped(), status)),
             };
             if let Err(failure) = done {
@@ -86,10 +81,10 @@ impl<'a> Store<'a> {
         self.sync()
     }
 
-    fn append(&mut self, conditions: &[u8], version: u64) -> Result<(), Failure> {
+    fn append(&mut self, conditions: &[u8], rule: Rule) -> Result<(), Failure> {
         let held = self.book.hours();
         let name = hour_name(held, self.end);
-        let entry = self.book.append(conditions, version).map_err(|refusal| {
+        let entry = self.book.append(conditions, rule).map_err(|refusal| {
             let text = format!("{name}: {refusal}; the book holds the {} before it", hours(held));
             Failure::Refused(text)
         })?;

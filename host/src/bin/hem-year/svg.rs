@@ -2,8 +2,13 @@
 use crate::calendar::{day_name, months, Moment};
 use crate::chart::{Anchor, Axis, Canvas, Frame, FAINT_INK, GRID};
 use crate::days::{self, Days};
-use crate::figures::{falling, HourFigures, Spread, Sums};
+use crate::figures::HourFigures;
+use crate::load::{self, Load};
+use crate::plant::Side;
+use crate::plant_text;
 use crate::print::{Print, PROGRAM};
+use crate::report::delivered;
+use crate::sums::{falling, Spread, Sums};
 use crate::version::held_by_version;
 
 const WIDTH: f64 = 1200.0;
@@ -44,19 +49,20 @@ fn heading(print: &Print) -> String {
 }
 
 fn title(canvas: &mut Canvas, print: &Print) {
-    let (sums, area) = (&print.sums, print.area());
     canvas.heading((LEFT, 48.0), 26, &heading(print));
     let words = format!(
-        "floor area {area} m²   ·   {}   ·   heating {:.1} kWh ({:.1} kWh/m²)   ·   cooling {:.1} kWh ({:.1} kWh/m²)",
+        "floor area {} m²   ·   {}   ·   heating {}   ·   cooling {}",
+        print.area(),
         print.length(),
-        sums.heating,
-        sums.heating / area,
-        sums.cooling,
-        sums.cooling / area,
+        delivered(print, &load::HEATING, 0),
+        delivered(print, &load::COOLING, 0),
     );
     canvas.text((LEFT, 74.0), Anchor::Start, 15, FAINT_INK, &words);
     let entries = format!("entries: {}", held_by_version(print.book));
     canvas.text((LEFT, 96.0), Anchor::Start, 15, FAINT_INK, &entries);
+    if let Some(limits) = plant_text::in_short(&print.hours) {
+        canvas.text((LEFT, 118.0), Anchor::Start, 15, FAINT_INK, &limits);
+    }
 }
 
 /// Which program drew it, and of what.
@@ -227,8 +233,27 @@ fn load_duration(canvas: &mut Canvas, hours: &[HourFigures]) {
     frame.draw_y(canvas, Axis::label);
     steps(canvas, &frame, &heating, HEATING);
     steps(canvas, &frame, &cooling, COOLING);
+    limit(canvas, &frame, hours, (&load::HEATING, HEATING), 0.0);
+    limit(canvas, &frame, hours, (&load::COOLING, COOLING), 200.0);
     let words = "hours in which the load is at least as high";
     canvas.text((frame.right(), frame.bottom() + 38.0), Anchor::End, 13, FAINT_INK, words);
+}
+
+/// A line at the limit of a plant, where one held that is the same in all hours in which it did: so it is
+/// below the highest load. Its words end so far from the right, above it in the lower half, else below.
+fn limit(
+    canvas: &mut Canvas,
+    frame: &Frame,
+    hours: &[HourFigures],
+    (load, colour): (&Load, &str),
+    from_right: f64,
+) {
+    let Some(limit) = Side::of(hours, load).and_then(|side| side.one_limit()) else { return };
+    let y = frame.py(limit / 1000.0);
+    canvas.line((frame.left, y), (frame.right(), y), colour);
+    let words = format!("{} limit {:.2} kW", load.name, limit / 1000.0);
+    let beside = if y > frame.top + frame.height / 2.0 { -6.0 } else { 16.0 };
+    canvas.text((frame.right() - from_right, y + beside), Anchor::End, 13, colour, &words);
 }
 
 /// The name of a load, with its highest hour where there is one.

@@ -3,10 +3,12 @@ use crate::calendar::Moment;
 use crate::failure::Failure;
 use crate::figures::{windows_used, HourFigures};
 use crate::kind::TABLE_MARK;
+use crate::load::{COOLING, HEATING};
 use crate::places::nodes_by_element;
+use crate::plant::PlantHour;
 use crate::print::{Print, PROGRAM};
 use crate::version::held_by_version;
-use hem_zone::{AirChangesPerHour, Conditions, Demand, Entry, HeatBalance, State};
+use hem_zone::{AirChangesPerHour, Conditions, Demand, Entry, HeatBalance, HeldLimit, State};
 
 /// Which columns are written beyond the usual ones.
 #[derive(Clone, Copy, Debug, Default)]
@@ -50,7 +52,7 @@ pub fn table(print: &Print, columns: &Columns) -> Result<Vec<u8>, Failure> {
         let mut row = Row::default();
         times(&mut row, hour);
         inputs(&mut row, &print.elements, &entry.conditions());
-        results(&mut row, hour, &entry);
+        results(&mut row, hour, &entry, print.has_limits());
         if columns.nodes {
             nodes(&mut row, &print.elements, &nodes_of, &entry.state());
         }
@@ -139,16 +141,39 @@ fn open_treatments(bits: u8) -> String {
     }
 }
 
-fn results(row: &mut Row, hour: &HourFigures, entry: &Entry) {
+fn results(row: &mut Row, hour: &HourFigures, entry: &Entry, limited: bool) {
     let Demand { ach_cooling: rate, ach_to_trigger_heating, .. } = entry.demand();
     row.text("entry_version", entry.version().to_string());
     row.number("heating_kWh", hour.heating);
     row.number("cooling_kWh", hour.cooling);
+    if limited {
+        plant(row, hour, entry);
+    }
     row.number("ach_chosen", rate);
     row.text("windows_used", u8::from(windows_used(&entry.conditions(), rate)).to_string());
     row.optional("ach_to_trigger_heating", ach_to_trigger_heating);
     row.number("temp_internal_air", hour.air);
     row.number("temp_operative", hour.operative);
+}
+
+/// The limits of an hour, where it has some, and what became of its demand.
+fn plant(row: &mut Row, hour: &HourFigures, entry: &Entry) {
+    let of = |value: fn(&PlantHour) -> f64| hour.plant.as_ref().map(value);
+    row.optional("heating_limit_W", of(|plant| plant.limits.heating));
+    row.optional("cooling_limit_W", of(|plant| plant.limits.cooling));
+    // −0 + 0 is 0: no cooling is no power.
+    row.number("delivered_W", entry.delivered() + 0.0);
+    let held = hour.plant.and_then(|plant| plant.held);
+    row.text("limit_held", held.map_or(String::new(), |side| side_name(side).into()));
+    row.optional("heating_unmet_kWh", of(|plant| plant.unmet(HeldLimit::Heating)));
+    row.optional("cooling_unmet_kWh", of(|plant| plant.unmet(HeldLimit::Cooling)));
+}
+
+fn side_name(side: HeldLimit) -> &'static str {
+    match side {
+        HeldLimit::Heating => HEATING.name,
+        HeldLimit::Cooling => COOLING.name,
+    }
 }
 
 /// The nodes of each element from the outer to the inner surface; the air is a column of its own.
@@ -172,7 +197,7 @@ fn start(print: &Print, columns: &Columns) -> Result<Option<State>, Failure> {
 
 /// The heat balance of an hour, which is calculated again; the state moves on.
 fn step(print: &Print, state: &mut State, entry: &Entry) -> Result<HeatBalance, Failure> {
-    let step = print.book.zone().hour_step(state, entry.conditions_bytes(), entry.version());
+    let step = print.book.zone().hour_step(state, entry.conditions_bytes(), entry.rule());
     let (after, _, balance) = step.map_err(|r| Failure::Refused(r.to_string()))?;
     *state = after;
     Ok(balance)

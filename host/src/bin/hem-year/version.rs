@@ -1,51 +1,30 @@
 //! The version of entries: the one that a run appends with, and how many of each a book holds.
 use crate::damage::cut_keeps;
 use crate::failure::Failure;
+use crate::rule::of_version;
 use crate::words::{first_hours, grouped};
 use hem_zone::{
-    entry_versions_to, samples, Book, Reason, Refusal, State, Zone, ENTRY_VERSION_1,
-    ENTRY_VERSION_2, NEWEST_ENTRY_VERSION,
+    entry_versions_to, Book, Refusal, Rule, ENTRY_VERSION_1, ENTRY_VERSION_2, ENTRY_VERSION_3,
+    NEWEST_ENTRY_VERSION,
 };
 use std::path::Path;
 
-/// The version of new books. They stay at 2 when a version with limits comes, since that one asks for
-/// more than the conditions of an hour.
+/// The version of new books. Version 3 asks for more than the conditions of an hour, so no book begins with
+/// it unless limits are given.
 pub const NEW_BOOK_VERSION: u64 = ENTRY_VERSION_2;
 
-// ---- the version that is given ----
+// ---- the rule that a run appends with ----
 
-/// Whether the engine turned a call away for the version that it named.
-fn of_version(refusal: &Refusal) -> bool {
-    refusal.reason() == Reason::FalseEntry
-}
-
-/// The version that is given must be one that hours have, before any file is read. The engine is asked by
-/// an hour of a sample house without temperatures, which it refuses in any case: for its version first.
-pub fn must_be_known(given: Option<u64>) -> Result<(), Failure> {
-    let Some(version) = given else { return Ok(()) };
-    let zone = Zone::new(&samples::house_p()).map_err(|r| Failure::Refused(r.to_string()))?;
-    match zone.hour_step(&State::new(&[]), &[], version) {
-        Err(refusal) if of_version(&refusal) => Err(Failure::Refused(format!(
-            "--entry-version is {version}, not {} (refusal {})",
-            entry_versions_to(NEWEST_ENTRY_VERSION, "or"),
-            refusal.number()
-        ))),
-        _ => Ok(()),
-    }
-}
-
-/// The version of the entries to append to a book that is not full: the one that is given, else that of
-/// the last entry; a book that holds no hour yet is a new one. The engine is asked by an append without
-/// conditions, which it refuses in any case and which leaves the book as it is.
-pub fn to_append(path: &Path, book: &mut Book, given: Option<u64>) -> Result<u64, Failure> {
-    let version = match (given, book.hours()) {
-        (Some(version), _) => version,
-        (None, 0) => NEW_BOOK_VERSION,
-        (None, _) => book.last_version(),
-    };
-    match book.append(&[], version) {
-        Err(refusal) if of_version(&refusal) => Err(goes_back(path, book, version, &refusal)),
-        _ => Ok(version),
+/// The rule of the entries to append to a book that is not full: the one that is given, else that of the
+/// last entry, its limits included; a book that holds no hour yet is a new one. The engine is asked by an
+/// append without conditions, which it refuses in any case and which leaves the book as it is.
+pub fn to_append(path: &Path, book: &mut Book, given: Option<Rule>) -> Result<Rule, Failure> {
+    let rule = given.or(book.last_rule()).unwrap_or(NEW_BOOK_VERSION.into());
+    match book.append(&[], rule) {
+        Err(refusal) if of_version(&refusal) => {
+            Err(goes_back(path, book, rule.version(), &refusal))
+        }
+        _ => Ok(rule),
     }
 }
 
@@ -81,10 +60,11 @@ pub fn held_by_version(book: &Book) -> String {
     listed(book, |_| "")
 }
 
-/// The same with what the version means for cooling.
+/// The same with what the version means.
 pub fn held_by_version_and_rule(book: &Book) -> String {
     listed(book, |version| match version {
         ENTRY_VERSION_1 => " (cooling by frac_convective_heat)",
+        ENTRY_VERSION_3 => " (cooling by frac_convective_cool, power with limits)",
         _ => " (cooling by frac_convective_cool)",
     })
 }

@@ -13,6 +13,15 @@ pub fn grouped(number: impl ToString) -> String {
     text
 }
 
+/// A power in watts, as `6,000 W` and `0.5 W`.
+pub fn watts(power: f64) -> String {
+    let whole = power.fract() == 0.0 && (0.0..1e15).contains(&power);
+    match whole {
+        true => format!("{} W", grouped(power as u64)),
+        false => format!("{power} W"),
+    }
+}
+
 /// A number of hours or other things, as `1 hour` and `8,760 hours`.
 pub fn count(number: usize, thing: &str) -> String {
     match number {
@@ -73,6 +82,10 @@ mod tests {
         assert_eq!(
             (length_of_time(1.0), length_of_time(0.25)),
             ("1 hour".into(), "0.25 hours".into())
+        );
+        assert_eq!(
+            [6000.0, -0.0, 2500.5, 1e7, -5.0, 1e20].map(watts),
+            ["6,000 W", "0 W", "2500.5 W", "10,000,000 W", "-5 W", "100000000000000000000 W"]
         );
     }
 }

@@ -1,5 +1,6 @@
-use Rattle.book.proofs.Calls.{append-hour}
-use Rattle.book.proofs.Laws.NextHour.{step-given}
+use Rattle.book.proofs.Calls.{append-hour, append-given}
+use denote.Floats.{passes}
+use denote.Ref.{now}
 use borrow.Author.Needs.{needs}
 use Rattle.book.proofs.book.append_hour.Statement.{statement}
 use Rattle.book.proofs.book.append_hour.Tie as tie
@@ -8,13 +9,15 @@ append-entry-requires : tie.Need-append-entry-requires
 append-entry-requires c κs =
     let h = c .before .before .before .before in
     let s = h .before .before .before .before in
-    (s .pre .0, s .pre .1, step-given _ (s .pre .0) _ _ (s .pre .2) _ _ (h .next-hour .ensures) _ (c .before .before .a2 .given .1) _)
+    let l = s .good .1 .1 .1 .1 .1 .1 .0 in
+    (s .pre .0, s .pre .1, append-given _ (s .args .given) _ _ _ (now (s .args .buf)) (s .pre .0) (s .pre .1) (s .pre .2) (passes _ (l .1 .1 .0 .1)) (passes _ (l .1 .1 .1 .0 .1)) _ (h .next-hour .ensures) _ (c .before .before .a2 .given .1))
 
 returns : tie.Need-returns
 returns c =
     let h = c .before .before .before .before in
     let s = h .before .before .before .before in
-    append-hour _ _ _ _ _ (s .pre .0) (s .pre .1) (s .pre .2) _ _ _ (c .refuse .ensures) _ (h .next-hour .ensures) (c .before .before .a .given .1)
+    let l = s .good .1 .1 .1 .1 .1 .1 .0 in
+    append-hour _ _ _ _ _ _ (s .pre .0) (s .pre .1) (s .pre .2) (passes _ (l .1 .1 .0 .1)) (passes _ (l .1 .1 .1 .0 .1)) _ (h .next-hour .ensures) _ _ _ (c .refuse .ensures) (c .before .before .a .given .1)
 
 pub append-hour-spec : {M : Type 1} → statement M
 append-hour-spec =

@@ -1,8 +1,7 @@
-use Rattle.book.proofs.TakeUp.{entry-not-next, entry-by-hour}
+use Rattle.book.proofs.TakeUp.{entry-known, entry-front, entry-not-next, entry-by-hour}
 use native.Mathlib.Omega.{arith}
 use Rattle.zone.specs.Format.Layout.{lengthSize}
 use mathlib.Core.Path.{refl, sym, _∙_}
-use borrow.Author.Needs.{needs}
 use Rattle.book.proofs.checked_entry.check_entry.Statement.{statement}
 use Rattle.book.proofs.checked_entry.check_entry.Tie as tie
 
@@ -11,7 +10,8 @@ check-hour-requires c κs =
     let t = c .before .before .before .before .before .before .before .before .before .before in
     let m = t .before in
     let s = m .before .before .before in
-    (s .pre .0, s .pre .1, s .pre .2, sym (m .may-follow .ensures) ∙ t .if1 .taken)
+    let follows = sym (m .may-follow .ensures) ∙ t .if1 .taken in
+    (s .pre .0, entry-known _ _ _ (s .pre .1) _ refl follows, s .pre .2, follows)
 
 returns : tie.Need-returns
 returns c = let e = c .check-hour .ensures in (entry-by-hour _ _ _ _ _ _ refl _ (e .0), e .1)
@@ -25,4 +25,4 @@ returns-2 c =
 pub check-entry-spec : {M : Type 1} → statement M
 check-entry-spec =
     tie.close
-    (tie.spec (λ c. search needs) (λ c. omega (arith, c .shared-slice-known2 .given lengthSize)) (λ c κs. tt) check-hour-requires returns (λ c κs. tt) returns-2)
+    (tie.spec (λ c. omega (arith, entry-front _ _ (c .before .before .pre .1))) (λ c. omega (arith, c .shared-slice-known2 .given lengthSize)) (λ c κs. tt) check-hour-requires returns (λ c κs. tt) returns-2)

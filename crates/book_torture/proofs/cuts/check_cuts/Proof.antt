@@ -6,10 +6,10 @@ use Rattle.book_torture.proofs.cuts.check_cuts.Statement.{statement}
 use Rattle.book_torture.proofs.cuts.check_cuts.Tie as tie
 
 abbrev Inv-loop : tie.InvT-loop
-Inv-loop z codes values whole wanted end change places count right₀ cut₀ counter₀ right cut counter = Unit {0}
+Inv-loop places z codes values whole wanted end plan count right₀ cut₀ counter₀ right cut counter = Unit {0}
 
 abbrev μ-loop : tie.MeasureT-loop
-μ-loop z codes values whole wanted end change places count right₀ cut₀ counter₀ right cut counter = count - counter
+μ-loop places z codes values whole wanted end plan count right₀ cut₀ counter₀ right cut counter = count - counter
 
 pub check-cuts-spec : {M : Type 1} → statement M
 check-cuts-spec =

@@ -6,13 +6,13 @@ use Rattle.book_torture.proofs.damage.check_damages.Statement.{statemen
 use Rattle.book_torture.proofs.damage.check_damages.Tie as tie
 
 abbrev Inv-loop : tie.InvT-loop
-Inv-loop z codes values whole places count t₀ place₀ counter₀ t place counter = Unit {0}
+Inv-loop places z codes values b₀ count t₀ place₀ counter₀ b t place counter = Unit {0}
 
 abbrev μ-loop : tie.MeasureT-loop
-μ-loop z codes values whole places count t₀ place₀ counter₀ t place counter = count - counter
+μ-loop places z codes values b₀ count t₀ place₀ counter₀ b t place counter = count - counter
 
 pub check-damages-spec : {M : Type 1} → statement M
 check-damages-spec =
     tie.close
-    (tie.spec Inv-loop μ-loop (λ c κs. search needs) (λ c. tt) (λ c κs. search needs) (λ c κs. search needs)
-    (λ c. search needs) (λ c. omega arith) (λ c. search needs) (λ c. search needs))
+    (tie.spec Inv-loop μ-loop (λ c. tt) (λ c κs. search needs) (λ c κs. search needs) (λ c. search needs)
+    (λ c. omega arith) (λ c. search needs) (λ c. search needs))

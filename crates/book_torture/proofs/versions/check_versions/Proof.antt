@@ -14,4 +14,5 @@ abbrev μ-loop : tie.MeasureT-loop
 pub check-versions-spec : {M : Type 1} → statement M
 check-versions-spec =
     tie.close
-    (tie.spec Inv-loop μ-loop (λ c κs. search needs) (λ c. tt) (λ c κs. search needs) (λ c. search needs) (λ c. omega arith) (λ c. search needs) (λ c. search needs))
+    (tie.spec Inv-loop μ-loop (λ c κs. search needs) (λ c. tt) (λ c κs. search needs) (λ c. search needs)
+    (λ c. omega arith) (λ c. search needs) (λ c. search needs))

@@ -16,5 +16,6 @@ abbrev μ-loop : tie.MeasureT-loop
 pub append-hours-spec : {M : Type 1} → statement M
 append-hours-spec =
     tie.close
-    (tie.spec Inv-loop μ-loop (λ c. refl) (λ c κs. search needs) (λ c κs. search needs) (λ c. search needs) (λ c. omega arith)
+    (tie.spec Inv-loop μ-loop (λ c. refl) (λ c κs. search needs) (λ c κs. search needs) (λ c. search needs)
+    (λ c. omega arith)
     (λ c. search needs) (λ c. search needs) (λ c. search needs))

@@ -9,7 +9,7 @@ abbrev Inv-loop : tie.InvT-loop
 Inv-loop t row₀ row = Unit {0}
 
 abbrev μ-loop : tie.MeasureT-loop
-μ-loop t row₀ row = 21 - row
+μ-loop t row₀ row = 25 - row
 
 pub print-table-spec : {M : Type 1} → statement M
 print-table-spec =

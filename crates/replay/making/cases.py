@@ -1,0 +1,104 @@
+"""data/cases: a sample of the oracle's cases, each with its answer."""
+import collections
+import os
+import struct
+import subprocess
+import sys
+import tempfile
+
+from making.layout import COOLING_FRACTION, HEATING_FRACTION, MILLION, elements_of, floats_at, node_count, record, u16
+from making.oracle import answered, in_version_2, number_of
+from making.limited_cases import LIMIT_CASES, LIMIT_KINDS, in_version_3
+
+PROFILES = ["house", "mild", "edge", "tight"]
+# seed, count, profile, operations, greatest number of elements, start-up limit
+SAMPLES = [
+    (1101, 130, "house", "1,2,3,4", 24, 1000),
+    (1102, 320, "house", "1,2,3,4", 5, 1000),
+    (1103, 30, "house", "3", 8, 3),
+    (1201, 130, "mild", "1,2,3,4", 24, 1000),
+    (1202, 320, "mild", "1,2,3,4", 5, 1000),
+    (1203, 30, "mild", "3", 8, 4),
+    (1301, 500, "edge", "1,2,3,4", 24, 1000),
+    (1302, 40, "edge", "3", 24, 2),
+    (1401, 250, "tight", "1,2,3,4", 24, 1000),
+]
+# cases that the versions answer differently, and how many there are at least
+COOLED_BY_TWO, COOLED = "op 5 cooled, fractions differ", 100
+
+
+def values_of(op, line, nodes):
+    """the answer's values as 64-bit numbers"""
+    words = line.split()
+    values = []
+    if op in (1, 4, 5, 6):
+        values = [int(w, 16) for w in words[:3]]
+        values += [0, 0] if words[3] == "none" else [1, int(words[3], 16)]
+        words = words[4:]
+    values += [int(w, 16) for w in words]
+    assert len(values) == {1: 5, 2: nodes + 25, 3: nodes}.get(op, 5 + nodes + 25)
+    return values
+
+
+def beyond(op, values, nodes):
+    start = 5 if op in (4, 5, 6) else 0
+    temps = [] if op == 1 else values[start:start + nodes]
+    return any(not abs(struct.unpack(">d", struct.pack(">Q", v))[0]) <= MILLION for v in temps)
+
+
+def fractions_differ(conditions):
+    return floats_at(conditions, HEATING_FRACTION, 1) != floats_at(conditions, COOLING_FRACTION, 1)
+
+
+def cover(seen, profile, op, head, conditions, number, values):
+    seen["%s op %d" % (profile, op)] += 1
+    seen["number %d" % number] += 1
+    seen["basis %d" % head[5]] += 1
+    seen["elements %2d" % head[6]] += 1
+    for i, (kind, t, p) in enumerate(elements_of(head)):
+        seen["kind %d" % kind] += 1
+        if t and conditions:
+            bits = conditions[113 + 41 * i + 40]
+            seen["treatment open"] += bin(bits).count("1")
+            seen["treatment closed"] += t - bin(bits).count("1")
+    if op in (1, 4, 5, 6) and number == 0:
+        seen["heating" if values[0] else "cooling" if values[1] % 2 ** 63 else "neither"] += 1
+        if op == 5 and values[1] % 2 ** 63 and fractions_differ(conditions):
+            seen[COOLED_BY_TWO] += 1
+        if conditions[96] == 1:
+            target = int.from_bytes(conditions[97:105], "big")
+            seen["windows used" if values[2] != target else "windows not used"] += 1
+        else:
+            seen["fixed rate"] += 1
+
+
+def make_cases(oracle, program, out):
+    seen, left_out, kept, total = collections.Counter(), 0, 0, 0
+    with tempfile.TemporaryDirectory() as d, open(out, "wb") as f:
+        cases, answers = os.path.join(d, "cases.bin"), os.path.join(d, "answers.txt")
+        for seed, count, profile, ops, most, limit in SAMPLES:
+            subprocess.run([sys.executable, os.path.join(oracle, "gen_cases.py"), str(seed), str(count), cases,
+                            "--profile", profile, "--ops", ops, "--max-elements", str(most),
+                            "--limit", str(limit)], check=True)
+            pairs = answered(program, cases, answers)
+            assert len(pairs) == count
+            pairs += in_version_2(program, cases, answers, pairs)
+            pairs += in_version_3(program, cases, answers, pairs, seen)
+            for (op, head, temps, conditions, own), line in pairs:
+                number, nodes = number_of(line), node_count(head)
+                values = values_of(op, line, nodes) if number == 0 else []
+                if beyond(op, values, nodes):
+                    left_out += 1
+                    continue
+                b = bytes([PROFILES.index(profile), op, number])
+                b += u16(len(head)) + head + u16(len(temps) // 8) + temps + u16(len(conditions)) + conditions + own
+                b += u16(len(values)) + b"".join(struct.pack(">Q", v) for v in values)
+                f.write(record(b))
+                kept += 1
+                cover(seen, profile, op, head, conditions, number, values)
+        total = f.tell()
+    for name in sorted(seen):
+        print("  %-29s %d" % (name, seen[name]))
+    assert COOLED <= seen[COOLED_BY_TWO]
+    assert all(LIMIT_CASES <= seen["limits " + kind] for kind in LIMIT_KINDS)
+    print("cases: %d kept, %d left out (beyond a million), %d bytes" % (kept, left_out, total))

@@ -1,0 +1,56 @@
+"""Numbers into bytes, and the places in a head and in an hour's conditions."""
+import struct
+
+NO_CONTROL = 1.4e32
+TRANSPARENT = 4
+MILLION = 1e6
+# places of the fractions in the conditions
+HEATING_FRACTION, COOLING_FRACTION = 32, 40
+GAINS_CONVECTIVE, GAINS_RADIATIVE = 80, 88
+# entry versions that hours have, the first with limits, and some that no hour has
+VERSIONS, LIMITS_VERSION, NO_VERSIONS = (1, 2, 3), 3, (0, 4, 257, 2 ** 64 - 1)
+# greatest limit, W
+MOST_LIMIT = 1e7
+
+
+def u16(n):
+    return struct.pack(">H", n)
+
+
+def u32(n):
+    return struct.pack(">I", n)
+
+
+def u64(n):
+    return struct.pack(">Q", n)
+
+
+def f64(*values):
+    return struct.pack(">%dd" % len(values), *values)
+
+
+def record(b):
+    return u32(len(b)) + b
+
+
+def put(b, at, new):
+    return b[:at] + new + b[at + len(new):]
+
+
+def floats_at(b, at, n):
+    return struct.unpack(">%dd" % n, b[at:at + 8 * n])
+
+
+def elements_of(head):
+    """kind, treatments and place of each element of a good head"""
+    found, p = [], 57
+    for _ in range(head[6]):
+        kind, t = head[p], head[p + 1]
+        found.append((kind, t, p))
+        p += 123 + 8 * t if kind == TRANSPARENT else 171
+    assert p == len(head)
+    return found
+
+
+def node_count(head):
+    return 1 + sum(2 if e[0] == TRANSPARENT else 5 for e in elements_of(head))
