@@ -53,6 +53,14 @@ static void append(void) {
 
 static void take_up(void) { accepted(hem_take_up(book, book_len, temps, &nodes, &count, &used, &last_version)); }
 
+static uint64_t found;
+
+static void first_above(void) { accepted(hem_first_above(book, book_len, 1000.0, &found)); }
+
+static void hours_within(void) { accepted(hem_hours_within(book, book_len, -1000.0, 1000.0, &found)); }
+
+static void nearest_hour(void) { accepted(hem_nearest_hour(book, book_len, 21.0, &found)); }
+
 struct call {
     const char *name;
     void (*make)(void);
@@ -82,7 +90,8 @@ static void measure_apart(struct call *call) {
 int main(int words, char **word) {
     struct call calls[] = {{"hem_head", head, 0},     {"hem_start_up", start_up, 0}, {"hem_operative", operative_of, 0},
                            {"hem_demand", demand, 0}, {"hem_update", update, 0},     {"hem_hour_step", hour_step, 0},
-                           {"hem_begin", begin, 0},   {"hem_append", append, 0},     {"hem_take_up", take_up, 0}};
+                           {"hem_begin", begin, 0},   {"hem_append", append, 0},     {"hem_take_up", take_up, 0},
+                           {"hem_first_above", first_above, 0}, {"hem_hours_within", hours_within, 0}, {"hem_nearest_hour", nearest_hour, 0}};
     if (words != 2) return 2;
     y = read_year();
     book_len = y.head_len + HOURS * HEM_ENTRY(y.elements, 5 * y.elements + 1);

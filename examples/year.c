@@ -12,6 +12,8 @@
    nothing, and 0 would deliver nothing. */
 #define HEATING_LIMIT HEM_LIMIT_MOST
 #define COOLING_LIMIT HEM_LIMIT_MOST
+/* When did it get warm? The operative temperature, deg C, above which the first hour is asked for. */
+#define WARM 26
 
 static void fail(const char *what, const char *why) {
     fprintf(stderr, "year: %s: %s\n", what, why);
@@ -43,7 +45,7 @@ int main(int argc, char **argv) {
     size_t head_len, year_len, room = HEM_HEAD_MOST;
     uint8_t *head = bytes_of(argv[1], &head_len), *year = bytes_of(argv[2], &year_len);
     double temps[HEM_TEMPS] = {0}, heating = 0, cooling = 0, highest = 0;
-    uint64_t nodes = 0, count = 0, used = 0, last_version = 0, hour = 0;
+    uint64_t nodes = 0, count = 0, used = 0, last_version = 0, hour = 0, warm = 0;
 
     uint8_t *book = calloc(room, 1);
     if (!book) fail(argv[3], "no memory");
@@ -70,6 +72,12 @@ int main(int argc, char **argv) {
     }
     printf("%llu hours: heating %.1f kWh, cooling %.1f kWh\n", (unsigned long long)count, heating, 0 - cooling);
     if (hour) printf("highest heating load: %.2f kW in hour %llu\n", highest, (unsigned long long)hour);
+
+    answer = hem_first_above(book, used, WARM, &warm); /* from 0 */
+    if (answer) return fprintf(stderr, "year: %s: refusal %u\n", argv[3], HEM_NUMBER(answer)), 1;
+    printf("first hour that goes above %d deg C: ", WARM);
+    if (warm == HEM_NONE) printf("none\n");
+    else printf("%llu\n", (unsigned long long)warm + 1);
 
     FILE *out = fopen(argv[3], "wbx"); /* x: an existing file stays as it is */
     if (!out || fwrite(book, 1, used, out) != used || fclose(out)) fail(argv[3], "cannot be written");

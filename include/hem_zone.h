@@ -42,8 +42,8 @@ extern "C" {
 #endif
 
 /* The version of this interface: 10000 * major + 100 * minor + patch, and as text. */
-#define HEM_ZONE_VERSION 300
-#define HEM_ZONE_VERSION_TEXT "0.3.0"
+#define HEM_ZONE_VERSION 400
+#define HEM_ZONE_VERSION_TEXT "0.4.0"
 /* The version byte of heads. */
 #define HEM_FORMAT 1
 /* The newest version of entries; hours have 1 to this one. It says how the power that heating or cooling
@@ -57,7 +57,8 @@ extern "C" {
 #define HEM_LIMITS_ENTRY_VERSION 3
 #define HEM_LIMIT_MOST 1e7
 
-/* The stack, in bytes, that suffices for every call (31 KB were measured, by hem_take_up; bench/stack). */
+/* The stack, in bytes, that suffices for every call (38 KB were measured, by hem_take_up and the
+   questions; bench/stack). */
 #define HEM_STACK 49152
 
 /* ---- sizes of arrays ---- */
@@ -94,10 +95,13 @@ extern "C" {
 
 /* ---- answers ---- */
 
-/* The number of a refusal, 1 to 19, and its index: for 4, 5 and 9 the element from 1 (0 if none), for 18
-   at a take-up the entry from 0, at an append the count held, at an hour step 0; otherwise 0. */
+/* The number of a refusal, 1 to 20, and its index: for 4, 5 and 9 the element from 1 (0 if none), for 18
+   at a take-up or a question the entry from 0, at an append the count held, at an hour step 0; otherwise
+   0. */
 #define HEM_NUMBER(answer) ((answer) & 255u)
 #define HEM_INDEX(answer) ((answer) >> 8)
+/* What is written in place of an hour where there is none. */
+#define HEM_NONE UINT64_MAX
 
 enum hem_number {
     HEM_ACCEPTED = 0,
@@ -122,7 +126,9 @@ enum hem_number {
     HEM_BOOK_FULL = 17,                 /* the book would hold more than 8,784 entries */
     HEM_FALSE_ENTRY = 18,               /* an entry is false: it is not what the hour step gives; or a version that no
                                            hour has, or that is below the last entry's */
-    HEM_LIMIT_VALUE = 19                /* a limit of version 3 is out of range: 0 to 1e7 W */
+    HEM_LIMIT_VALUE = 19,               /* a limit of version 3 is out of range: 0 to 1e7 W */
+    HEM_QUESTION_VALUE = 20             /* a value of a question is not finite or beyond +-1e6, or the lower end of a
+                                           band is above its upper */
 };
 
 /* ---- places in a head, from its first byte; floats have 8 bytes ---- */
@@ -333,6 +339,25 @@ uint32_t hem_append(const uint8_t *head, size_t head_len, uint8_t *buf, size_t b
    first false one, such as one whose version is below that of the entry before it. */
 uint32_t hem_take_up(const uint8_t *bytes, size_t bytes_len, double temps[HEM_TEMPS], uint64_t *nodes,
                      uint64_t *count, uint64_t *used, uint64_t *last_version);
+
+/* Questions about the hours of a book. Each takes up the bytes of the book as hem_take_up does, refuses what
+   that refuses, and then, also where the book holds no hour, with 20 a value that is not finite or beyond
+   +-1e6. Hours are numbered from 0; what is left behind the last whole entry is none. An hour's temperature
+   is the operative temperature after it, deg C, whatever the setpoints are of. */
+
+/* The first hour at which the temperature goes from at or below `value` to above it: the one before the
+   hour is at most `value`, its own is greater. Before hour 0 stands start-up's. Writes the hour, or
+   HEM_NONE where there is none, as in a book that is always above. */
+uint32_t hem_first_above(const uint8_t *bytes, size_t bytes_len, double value, uint64_t *hour);
+
+/* How many hours have a temperature from `lower` to `upper`, both included; start-up is no hour. Writes the
+   number, 0 where the book holds no hour. Refused with 20 also where `lower` is above `upper`. */
+uint32_t hem_hours_within(const uint8_t *bytes, size_t bytes_len, double lower, double upper,
+                          uint64_t *hours);
+
+/* The hour whose temperature is nearest to `value`: the magnitude of their difference, rounded once, is the
+   least; of equal ones the earlier hour. Writes the hour, or HEM_NONE where the book holds none. */
+uint32_t hem_nearest_hour(const uint8_t *bytes, size_t bytes_len, double value, uint64_t *hour);
 
 #ifdef __cplusplus
 }

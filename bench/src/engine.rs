@@ -188,4 +188,28 @@ impl Engine {
         });
         held.count
     }
+
+    /// The first hour above a value, the hours within a band and the hour nearest to a value: each takes the book up.
+    pub fn first_above(&self, bytes: &[u8], value: f64) -> u64 {
+        let mut hour = 0;
+        // SAFETY: the bytes are valid for their length.
+        accepted(unsafe { hem_first_above(bytes.as_ptr(), bytes.len(), value, &mut hour) });
+        hour
+    }
+
+    pub fn hours_within(&self, bytes: &[u8], lower: f64, upper: f64) -> u64 {
+        let mut hours = 0;
+        // SAFETY: the bytes are valid for their length.
+        accepted(unsafe {
+            hem_hours_within(bytes.as_ptr(), bytes.len(), lower, upper, &mut hours)
+        });
+        hours
+    }
+
+    pub fn nearest_hour(&self, bytes: &[u8], value: f64) -> u64 {
+        let mut hour = 0;
+        // SAFETY: the bytes are valid for their length.
+        accepted(unsafe { hem_nearest_hour(bytes.as_ptr(), bytes.len(), value, &mut hour) });
+        hour
+    }
 }

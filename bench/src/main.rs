@@ -4,6 +4,7 @@ mod engine;
 mod houses;
 
 use engine::{Engine, Held};
+use hem_zone::ffi::NONE;
 use std::io::Write;
 use std::process::ExitCode;
 use std::time::Instant;
@@ -51,12 +52,15 @@ fn for_each_house(mut show: impl FnMut(usize, &str, &Engine)) {
 }
 
 fn times(repetitions: usize) {
-    let figures: [(&str, Figure); 5] = [
+    let figures: [(&str, Figure); 8] = [
         ("head", head),
         ("update", update),
         ("hour_step", hour_step),
         ("append", append),
         ("take_up", take_up),
+        ("first_above", first_above),
+        ("hours_within", hours_within),
+        ("nearest_hour", nearest_hour),
     ];
     for (what, time) in figures {
         for_each_house(|elements, rate, engine| {
@@ -111,12 +115,41 @@ fn append(engine: &Engine, repetitions: usize) -> f64 {
     })
 }
 
-fn take_up(engine: &Engine, repetitions: usize) -> f64 {
+/// The bytes of the whole year's book.
+fn book(engine: &Engine) -> Vec<u8> {
     let mut buffer = engine.buffer();
     let begun = engine.begin(&mut buffer);
     let Held { used, .. } = engine.append_all(&mut buffer, begun);
+    buffer.truncate(used as usize);
+    buffer
+}
+
+fn take_up(engine: &Engine, repetitions: usize) -> f64 {
+    let book = book(engine);
     best(repetitions, || {
-        assert_eq!(engine.take_up(&buffer[..used as usize]), HOURS as u64);
+        assert_eq!(engine.take_up(&book), HOURS as u64);
+    })
+}
+
+/// No hour is so warm: each is looked at.
+fn first_above(engine: &Engine, repetitions: usize) -> f64 {
+    let book = book(engine);
+    best(repetitions, || {
+        assert_eq!(engine.first_above(&book, 1000.0), NONE);
+    })
+}
+
+fn hours_within(engine: &Engine, repetitions: usize) -> f64 {
+    let book = book(engine);
+    best(repetitions, || {
+        assert_eq!(engine.hours_within(&book, -1000.0, 1000.0), HOURS as u64);
+    })
+}
+
+fn nearest_hour(engine: &Engine, repetitions: usize) -> f64 {
+    let book = book(engine);
+    best(repetitions, || {
+        assert!(engine.nearest_hour(&book, 21.0) < HOURS as u64);
     })
 }
 

@@ -28,27 +28,31 @@ temperatures and the balance; demand, rate and trigger are the Rust's own, uncut
 must be that of version 2, which came another way. Numbers of the answers that are no values: see NUMBERS. Left out
 are cases whose values lie beyond a million (13 in the paper, a value in the Rust).
 
-data/refusals: rows made from the papers' rules alone (document 01, document 02's (a) for entry versions and (b) for
-limits). making/order.py has the papers' tests in the papers' order; the houses that give 12 to 15 are constructed, the
-entries of take-up rows are those of House P in balance, where every result is 0 and every temperature 20, or heated and
-cooled by hand, with and without a limit (making/houses.py, making/limit_rows.py). A row:
+data/refusals: rows made from the papers' rules alone (document 01, document 02's (a) for entry versions, (b) for limits
+and (c) for the three questions). making/order.py has the papers' tests in the papers' order; the houses that give 12 to
+15 are constructed, the entries of take-up rows are those of House P in balance, where every result is 0 and every
+temperature 20, or heated and cooled by hand, with and without a limit (making/houses.py, making/limit_rows.py). The
+books of questions have hours that are worked out in making/question_rows.py, of House P and of one with a second
+element. A row:
 
     u32   length of what follows
     u8    call (1 demand, 2 update, 3 start-up, 4 hour step, 5 begin, 6 append, 7 take-up, 8 the head alone,
-          structure and values, printed as read_head, 9 zone_test)
+          structure and values, printed as read_head, 9 zone_test, 10 first_above, 11 hours_within, 12 nearest_hour)
     u8    expected number (0: accepted), u16 expected index
-    u32   length, the head (of a take-up: the whole book)
+    u32   length, the head (of a take-up and of a question: the whole book)
     u8    change of the zone after its head is read (0 none, 1 count, 2 treatments of the first element,
           3 useful area, 4 area of the second element), u16 its value
     u16   the state's node count, u16 count of temperatures, the temperatures
     u16   length, the conditions
     3 f64 own floats: update's gains, fraction and rate; of an hour step or an append greatest heating, greatest cooling
-          and 0, also with versions that have no limits
+          and 0, also with versions that have no limits; of a question the value, or the lower and the upper end of
+          the band, and zeros
     u32   count of entries and u32 used length that the call is given, u32 length of the buffer
     u64   version that an hour step or an append names, u64 last version that a call on a book is given
     u16   count, the expected values of an accepted call, each 8 bytes: of an hour step as above; of a call on a book
           the count of entries, the used length, the last version and the node temperatures that it hands back, and
-          of an append the entry that it writes, four bytes in each value; none of a head or of a refused call
+          of an append the entry that it writes, four bytes in each value; of a question the hour or the count of hours; none of a
+          head, of a question that no hour answers or of a refused call
 """
 import os
 import random
@@ -63,6 +67,7 @@ from making.refusal_rows import make_books, make_calls, make_heads, make_solves
 from making.version_rows import (
     make_append_versions, make_book_versions, make_hour_versions, make_last_zero, make_rests)
 from making.limit_rows import make_limit_rooms, make_limit_values, make_limited, make_powered
+from making.question_rows import make_questions
 
 
 def make_refusals(out):
@@ -80,13 +85,14 @@ def make_refusals(out):
     make_limit_values(rows)
     make_limit_rooms(rows)
     make_last_zero(rows)
+    make_questions(rows)
     with open(out, "wb") as f:
         f.write(b"".join(rows.rows))
         total = f.tell()
     print("refusals: %d rows, %d bytes" % (len(rows.rows), total))
     print("  by number", dict(sorted(rows.numbers.items())))
     print("  by call  ", dict(sorted(rows.calls.items())))
-    assert all(rows.numbers[n] for n in range(1, 20))
+    assert all(rows.numbers[n] for n in range(1, 21))
     for version in VERSIONS:
         of_limits = (19,) if version == LIMITS_VERSION else ()
         assert all((4, version, n) in rows.versions for n in (*range(6, 15), *of_limits))

@@ -10,7 +10,7 @@ typedef struct {
     uint8_t *head, *hour, *book;
     size_t head_len, hour_len, book_len;
     double temps[HEM_TEMPS], out[HEM_OUT], balance[HEM_BALANCE];
-    uint64_t nodes, count, used, last;
+    uint64_t nodes, count, used, last, found;
     uint32_t answers;
 } Calls;
 
@@ -27,6 +27,9 @@ static void *every_call(void *given) {
     c->answers |= hem_append(c->head, c->head_len, c->book, c->book_len, c->temps, &c->nodes, &c->count, &c->used, &c->last, c->hour,
                              c->hour_len, HEM_NEWEST_ENTRY_VERSION, 0, 0);
     c->answers |= hem_take_up(c->book, c->book_len, c->temps, &c->nodes, &c->count, &c->used, &c->last);
+    c->answers |= hem_first_above(c->book, c->book_len, 20, &c->found);
+    c->answers |= hem_hours_within(c->book, c->book_len, 18, 26, &c->found);
+    c->answers |= hem_nearest_hour(c->book, c->book_len, 20, &c->found);
     return NULL;
 }
 

@@ -184,6 +184,70 @@ static void test_limits(const uint8_t *p, const uint8_t *warm) {
     free(temps);
 }
 
+/* Whether all three questions refuse these bytes and this value with this answer, and write nothing. */
+static int all_refuse(const uint8_t *bytes, size_t len, double value, uint32_t answer) {
+    uint64_t *hour = lent(sizeof *hour);
+    *hour = 99;
+    int refused = hem_first_above(bytes, len, value, hour) == answer && *hour == 99;
+    refused &= hem_hours_within(bytes, len, value, 30, hour) == answer && *hour == 99;
+    refused &= hem_hours_within(bytes, len, 10, value, hour) == answer && *hour == 99;
+    refused &= hem_nearest_hour(bytes, len, value, hour) == answer && *hour == 99;
+    free(hour);
+    return refused;
+}
+
+/* An hour of each version, at first warmer and then, with 5 W of heating, colder. */
+static void test_questions(const uint8_t *p, const uint8_t *warm) {
+    const size_t room = HEAD + 2 * ENTRY + ENTRY_3;
+    double *temps = lent(HEM_TEMPS * sizeof *temps), after[3] = {0, 0, 0};
+    uint64_t nodes = 0, count = 0, used = 0, last = 0, *hour = lent(sizeof *hour);
+    uint8_t *book = lent(room);
+    hem_begin(p, HEAD, book, room, temps, &nodes, &count, &used, &last);
+    for (uint64_t version = 1; version <= 3; version++) {
+        hem_append(p, HEAD, book, room, temps, &nodes, &count, &used, &last, warm, HOUR, version, 5, 0);
+        hem_operative(p, HEAD, temps, nodes, &after[version - 1]);
+    }
+    expect("a book of three versions", count == 3 && used == room && 20 < after[2] && after[2] < after[0] && after[0] < after[1]);
+
+    expect("first above start-up's temperature: hour 0", hem_first_above(book, room, 20, hour) == 0 && *hour == 0);
+    expect("first above the temperature of hour 0: hour 1", hem_first_above(book, room, after[0], hour) == 0 && *hour == 1);
+    expect("first above the warmest: none", hem_first_above(book, room, after[1], hour) == 0 && *hour == HEM_NONE);
+    *hour = 99;
+    expect("always above: none", hem_first_above(book, room, 19, hour) == 0 && *hour == HEM_NONE);
+    expect("within the temperatures of two hours, ends included",
+           hem_hours_within(book, room, after[0], after[1], hour) == 0 && *hour == 2);
+    expect("within one temperature", hem_hours_within(book, room, after[2], after[2], hour) == 0 && *hour == 1);
+    expect("within 0.0 to -0.0: no hour", hem_hours_within(book, room, 0.0, -0.0, hour) == 0 && *hour == 0);
+    expect("within all: three hours", hem_hours_within(book, room, -1e6, 1e6, hour) == 0 && *hour == 3);
+    expect("nearest to the temperature of an hour", hem_nearest_hour(book, room, after[0], hour) == 0 && *hour == 0);
+    const double middle = (after[0] + after[1]) / 2;
+    expect("equally near: the earlier hour",
+           middle - after[0] == after[1] - middle && hem_nearest_hour(book, room, middle, hour) == 0 && *hour == 0);
+    expect("nearest to 20: hour 2", hem_nearest_hour(book, room, 20, hour) == 0 && *hour == 2);
+    expect("one byte short: hour 2 is no part of the book",
+           hem_nearest_hour(book, room - 1, 20, hour) == 0 && *hour == 0 &&
+               hem_hours_within(book, room - 1, -1e6, 1e6, hour) == 0 && *hour == 2);
+    *hour = 99;
+    expect("no hours: none is first above", hem_first_above(p, HEAD, 20, hour) == 0 && *hour == HEM_NONE);
+    *hour = 99;
+    expect("no hours: 0 within", hem_hours_within(p, HEAD, 10, 30, hour) == 0 && *hour == 0);
+    *hour = 99;
+    expect("no hours: none is nearest", hem_nearest_hour(p, HEAD, 20, hour) == 0 && *hour == HEM_NONE);
+
+    expect("questions refused: 20, not finite", all_refuse(book, room, NAN, 20) && all_refuse(book, room, INFINITY, 20));
+    expect("questions refused: 20, beyond 1e6", all_refuse(book, room, 1e7, 20) && all_refuse(book, room, -1000001, 20));
+    expect("questions refused: 20, of no hours too", all_refuse(p, HEAD, NAN, 20));
+    *hour = 99;
+    expect("a band refused: 20, lower end above upper", hem_hours_within(book, room, 21, 20, hour) == 20 && *hour == 99);
+    expect("questions refused: 1, before 20", all_refuse(book, HEAD - 1, NAN, 1));
+    book[HEAD + ENTRY + 4] = 9;
+    expect("questions refused: 18 at entry 1, before 20",
+           all_refuse(book, room, NAN, 18 + 256) && all_refuse(book, room, 20, 18 + 256));
+    free(book);
+    free(hour);
+    free(temps);
+}
+
 static void test_index(uint8_t *p) {
     p[9 + 48 + 2] = 0xFF; /* the area of the first element: a NaN or beyond */
     uint32_t answer = hem_head(p, HEAD);
@@ -227,6 +291,7 @@ int main(int argc, char **argv) {
     test_operative(p);
     test_book(p, warm);
     test_limits(p, warm);
+    test_questions(p, warm);
     test_sizes();
     test_places();
     test_stack();

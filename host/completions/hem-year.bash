@@ -8,7 +8,11 @@ _hem_year() {
     elif [[ $before == '=' ]]; then
         before=${COMP_WORDS[COMP_CWORD - 2]}
     fi
-    local commands='sample house hours check run report show cut help'
+    # The second number of --within has the option before the first.
+    local earlier=''
+    ((COMP_CWORD > 2)) && earlier=${COMP_WORDS[COMP_CWORD - 2]}
+    [[ $earlier == '=' ]] && earlier=${COMP_WORDS[COMP_CWORD - 3]}
+    local commands='sample house hours check run report warm show cut help'
     for ((i = 1; i < COMP_CWORD; i++)); do
         if [[ ${COMP_WORDS[i]} != -* && " $commands " == *" ${COMP_WORDS[i]} "* ]]; then
             command=${COMP_WORDS[i]}
@@ -22,6 +26,7 @@ _hem_year() {
         hours) options+=' --head --force' ;;
         check | run) options+=' --entry-version --heating-limit --cooling-limit' ;;
         report) options+=' --csv --svg --balance --nodes --head --name --force' ;;
+        warm) options+=' --above --within --nearest' ;;
         show) options+=' --hour --hours --head' ;;
         cut) options+=' --head --force' ;;
         '' | help) options+=' --version' ;;
@@ -30,8 +35,12 @@ _hem_year() {
     COMPREPLY=()
     if [[ $before == --hour || $before == --name || $before == --heating-limit || $before == --cooling-limit ]]; then
         return
+    elif [[ $before == --above || $before == --nearest || $before == --within || $earlier == --within ]]; then
+        return
     elif [[ $word == --hour=* || $word == --name=* || $word == --entry-version=* || $word == --*-limit=* ]]; then
         return # where = ends no word, there is nothing to offer
+    elif [[ $word == --above=* || $word == --nearest=* || $word == --within=* ]]; then
+        return
     elif [[ $before == --entry-version ]]; then
         mapfile -t COMPREPLY < <(compgen -W '1 2 3' -- "$word")
     elif [[ $word == -* && $before != --csv && $before != --svg && $before != --head ]]; then

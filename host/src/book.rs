@@ -12,6 +12,15 @@ use crate::zone::{judge, State, Zone};
 /// The most entries that a book holds: the hours of a leap year.
 pub const MOST_ENTRIES: usize = ffi::ENTRIES;
 
+/// The refusal of a call that takes up the bytes of a book, which are given as the head that they begin with,
+/// or nothing where it was accepted.
+pub(crate) fn judge_taken_up(answer: u32, given: &Given) -> Result<(), Refusal> {
+    if answer & 255 == Reason::FalseEntry as u32 {
+        return Err(Refusal::of_entry(answer, |index| false_entry(given.head, index as usize)));
+    }
+    judge(answer, given)
+}
+
 /// A book that the engine began or took up: every entry in it is what the hour step gives.
 #[derive(Clone, Debug)]
 pub struct Book {
@@ -70,10 +79,7 @@ impl Book {
                 &mut last_version,
             )
         };
-        if answer & 255 == Reason::FalseEntry as u32 {
-            return Err(Refusal::of_entry(answer, |index| false_entry(bytes, index as usize)));
-        }
-        judge(answer, &Given { head: bytes, ..Given::default() })?;
+        judge_taken_up(answer, &Given { head: bytes, ..Given::default() })?;
         let zone = Zone::from_head(bytes)?;
         let bytes = bytes[..used as usize].to_vec();
         let ends = zone.layout().entries(&bytes).map(|entry| entry.end).collect();

@@ -4,7 +4,7 @@ use crate::bytes::{f64_at, length_at};
 use crate::conditions::{ElementHour, COMMON_SIZE, RATE_CODE};
 use crate::layout::{element_size, Layout, HEAD_COMMON};
 use crate::limits::Limits;
-use crate::ranges::{plain, FRACTION, GAINS, OPEN, POWER_LIMIT, RATE};
+use crate::ranges::{plain, FRACTION, GAINS, OPEN, POWER_LIMIT, QUESTION, RATE};
 use crate::refusal::Reason;
 use crate::values::{conditions_values, head_values, treatments_text, Value};
 use crate::versions::{entry_versions_to, is_known, NEWEST_ENTRY_VERSION};
@@ -23,6 +23,8 @@ pub(crate) struct Given<'a> {
     pub(crate) version: Option<NamedVersion>,
     /// The limits of an hour step or an append.
     pub(crate) limits: Option<Limits>,
+    /// The values of a question by name: one, or the lower and the upper end of a band.
+    pub(crate) asked: &'a [(&'static str, f64)],
 }
 
 /// An entry version that a call names or an entry has, and that of the entry before it, if there is one.
@@ -52,6 +54,7 @@ pub(crate) fn sentence(reason: Reason, index: u32, given: &Given) -> String {
         }
         Reason::NotSettled => passes(given.head),
         Reason::LimitValue => limits(given),
+        Reason::QuestionValue => question(given),
         Reason::FalseEntry => return named_version(given).unwrap_or_else(|| reason.to_string()),
         _ => None,
     };
@@ -209,6 +212,25 @@ fn limits(given: &Given) -> Option<String> {
     let values =
         both.map(|(name, value)| Value { index: 0, name: name.into(), value, range: POWER_LIMIT });
     first_fault(&values, 0)
+}
+
+fn question(given: &Given) -> Option<String> {
+    let value = |(name, value): &(&str, f64)| Value {
+        index: 0,
+        name: name.to_string(),
+        value: *value,
+        range: QUESTION,
+    };
+    let values: Vec<Value> = given.asked.iter().map(value).collect();
+    let crossed = || match values.as_slice() {
+        [low, high] => Some(format!(
+            "the band's lower end {} °C is above its upper end {} °C",
+            plain(low.value),
+            plain(high.value)
+        )),
+        _ => None,
+    };
+    first_fault(&values, 0).or_else(crossed)
 }
 
 /// Where the heating setpoint stands in the conditions of an hour; cooling and ventilation follow it.

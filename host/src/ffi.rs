@@ -14,6 +14,8 @@ pub const BALANCE: usize = 25;
 pub const ENTRIES: usize = 8784;
 /// The newest version of entries (`HEM_NEWEST_ENTRY_VERSION`).
 pub const NEWEST_ENTRY_VERSION: u64 = 3;
+/// What is written in place of an hour where there is none (`HEM_NONE`).
+pub const NONE: u64 = u64::MAX;
 
 #[allow(missing_docs)]
 unsafe extern "C" {
@@ -104,4 +106,16 @@ unsafe extern "C" {
         used: *mut u64,
         last_version: *mut u64,
     ) -> u32;
+
+    pub fn hem_first_above(bytes: *const u8, bytes_len: usize, value: f64, hour: *mut u64) -> u32;
+
+    pub fn hem_hours_within(
+        bytes: *const u8,
+        bytes_len: usize,
+        lower: f64,
+        upper: f64,
+        hours: *mut u64,
+    ) -> u32;
+
+    pub fn hem_nearest_hour(bytes: *const u8, bytes_len: usize, value: f64, hour: *mut u64) -> u32;
 }

@@ -12,6 +12,7 @@
 //! - An hour step and an entry have a version, by whose [`Rule`] heating and cooling are shared between air
 //!   and surfaces ([`ENTRY_VERSION_1`], [`ENTRY_VERSION_2`]) and may have the [`Limits`] of a plant
 //!   ([`ENTRY_VERSION_3`]).
+//! - [`first_above`], [`hours_within`] and [`nearest_hour`] say when it got warm.
 //! - `text` (feature `text`) reads and writes heads as TOML and hours as CSV.
 //! - [`Refusal`] says why a call was turned away: its [`Reason`], number and index, and one sentence.
 //!
@@ -43,6 +44,7 @@ mod layout;
 mod lent;
 mod limits;
 mod names;
+mod questions;
 mod ranges;
 mod refusal;
 pub mod samples;
@@ -62,6 +64,7 @@ pub use heat_balance::{
 pub use layout::Layout;
 pub use lent::{AsConditions, AsHead};
 pub use limits::{HeldLimit, Limits};
+pub use questions::{first_above, hours_within, nearest_hour};
 pub use refusal::{Reason, Refusal};
 pub use versions::{
     entry_versions_to, Rule, ENTRY_VERSION_1, ENTRY_VERSION_2, ENTRY_VERSION_3,

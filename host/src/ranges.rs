@@ -37,6 +37,8 @@ pub(crate) const HOUR_LENGTH: Range = from(0.001, 8_760.0);
 pub(crate) const LIMIT: Range = from(1.0, 10_000.0);
 /// The limit of a plant, W.
 pub(crate) const POWER_LIMIT: Range = from(0.0, Limits::GREATEST);
+/// A value of a question about a book, °C.
+pub(crate) const QUESTION: Range = from(-1e6, 1e6);
 /// The open byte of an element with 0 to 4 treatments.
 pub(crate) const OPEN: [Range; 5] =
     [from(0.0, 0.0), from(0.0, 1.0), from(0.0, 3.0), from(0.0, 7.0), from(0.0, 15.0)];

@@ -73,6 +73,10 @@ reasons! {
     FalseEntry = 18, "an entry is not what its hour gives, or its version is unknown or too low";
     /// A limit of heating or cooling is out of range.
     LimitValue = 19, "a limit of heating or cooling is out of range";
+    /// A value of a question about a book is not finite or beyond ±1e6, or the lower end of a band is above
+    /// its upper.
+    QuestionValue = 20,
+        "a temperature asked about is beyond ±1,000,000 °C, or a band's lower end is above its upper";
     /// A number that this crate does not know.
     Unknown = 255, "the engine refused the call";
 }
@@ -83,7 +87,7 @@ pub struct Refusal {
     number: u32,
     index: u32,
     sentence: String,
-    /// Whether the index is the place of an entry that there is: that of 18 at a take-up.
+    /// Whether the index is the place of an entry that there is: that of 18 at a take-up or a question.
     of_entry: bool,
 }
 
@@ -104,13 +108,13 @@ impl Refusal {
         Reason::of_number(self.number)
     }
 
-    /// The engine's number, 1 to 19; 0 where the engine was not called ([`Reason::FloatEnvironment`]).
+    /// The engine's number, 1 to 20; 0 where the engine was not called ([`Reason::FloatEnvironment`]).
     pub fn number(&self) -> u32 {
         self.number
     }
 
-    /// The engine's index: for 4, 5 and 9 the element from 1 (0 if none); for 18 at a take-up the entry
-    /// from 0, at an append the number of hours held, at an hour step 0.
+    /// The engine's index: for 4, 5 and 9 the element from 1 (0 if none); for 18 at a take-up or a question
+    /// the entry from 0, at an append the number of hours held, at an hour step 0.
     pub fn index(&self) -> u32 {
         self.index
     }
@@ -145,10 +149,10 @@ mod tests {
 
     #[test]
     fn each_number_has_its_own_reason() {
-        for number in 0..=19 {
+        for number in 0..=20 {
             assert_eq!(Reason::of_number(number) as u32, number);
             assert_eq!(Refusal::new(number, |_, _| String::new()).reason() as u32, number);
         }
-        assert_eq!(Reason::of_number(20), Reason::Unknown);
+        assert_eq!(Reason::of_number(21), Reason::Unknown);
     }
 }

@@ -1,4 +1,5 @@
-//! The nine functions of include/hem_zone.h, called as C calls them: once accepted, once refused.
+//! The functions of include/hem_zone.h, called as C calls them: once accepted, once refused. Its questions
+//! about a book are asked in c_questions.rs.
 #[path = "common/lent.rs"]
 mod lent;
 

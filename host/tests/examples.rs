@@ -29,9 +29,12 @@ fn hem_year(words: &[&str]) -> String {
     String::from_utf8(done.stdout).unwrap()
 }
 
-/// The lines of a README that are said to be of the report.
-fn shown(readme: &str) -> Vec<String> {
-    let after = readme.split("the report says, among other things:").nth(1).expect("the sentence");
+/// What a README says before lines of the report.
+const OF_THE_REPORT: &str = "the report says, among other things:";
+
+/// The lines that a README shows behind a sentence.
+fn shown(readme: &str, sentence: &str) -> Vec<String> {
+    let after = readme.split(sentence).nth(1).expect("the sentence");
     let block = after.lines().skip(1).skip_while(|line| line.is_empty());
     let block = block.take_while(|line| line.is_empty() || line.starts_with("    "));
     block.map(|line| line.trim().to_string()).filter(|line| !line.is_empty()).collect()
@@ -39,7 +42,7 @@ fn shown(readme: &str) -> Vec<String> {
 
 /// Every line that a README shows is one of the report, and there are at least so many.
 fn must_show(readme: &str, report: &str, least: usize) {
-    let lines = shown(&fs::read_to_string(top().join(readme)).unwrap());
+    let lines = shown(&fs::read_to_string(top().join(readme)).unwrap(), OF_THE_REPORT);
     assert!(lines.len() >= least, "{readme} shows {lines:?}");
     for line in lines {
         assert!(
@@ -86,6 +89,23 @@ fn the_plants_of_the_readme_are_those_of_the_sample() {
         "{six}"
     );
     must_show("README.md", &six, 4);
+}
+
+#[test]
+fn the_warm_hours_of_the_readme_are_those_of_the_sample() {
+    let folder = folder("warm_hours");
+    let book = folder.join("warm.book");
+    let book = book.to_str().unwrap();
+    let house = "examples/terrace.toml";
+    hem_year(&["run", house, "examples/terrace.csv", book, "--cooling-limit", "0"]);
+    let readme = fs::read_to_string(top().join("host/README.md")).unwrap();
+    let questions = ["--above", "26", "--within", "26", "28", "--nearest", "28"];
+    assert!(readme.contains(&format!("hem-year warm warm.book {}\n", questions.join(" "))));
+    let said = hem_year(&[&["warm", book], &questions[..]].concat()).replace(book, "warm.book");
+    assert_eq!(shown(&readme, "it says:"), said.lines().collect::<Vec<_>>());
+    let report = hem_year(&["report", book, "--head", house]);
+    let lines = shown(&readme, "and the report has for the whole year");
+    assert!(lines.len() == 1 && report.lines().any(|line| line == lines[0]), "{lines:?} {report}");
 }
 
 #[test]

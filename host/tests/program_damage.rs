@@ -18,7 +18,8 @@ fn folder(name: &str, hours: usize, words: &[&str]) -> Folder {
 fn refused(folder: &Folder, bytes: &[u8], words: &str) {
     folder.write("p.book", bytes);
     let words = format!("hem-year: p.book: {words}; the file is left as it is\n");
-    for command in [&["report", "p.book"][..], &["show", "p.book"], &Folder::RUN] {
+    let warm = ["warm", "p.book", "--above", "20"];
+    for command in [&["report", "p.book"][..], &warm, &["show", "p.book"], &Folder::RUN] {
         folder.call(command).failed(1, &words);
     }
     assert!(folder.read("p.book") == bytes);

@@ -96,7 +96,7 @@ fn months_account_for_every_hour_in_which_a_limit_held() {
         .take(3)
         .map(|line| line.split_whitespace().collect())
         .collect();
-    let first = "Heating highest Cooling highest Windows External Operative \
+    let first = "Heating highest Cooling highest Windows External Operative > 26 °C > 28 °C \
                  Heating Heating Cooling Cooling";
     assert_eq!(heading[0], first.split(' ').collect::<Vec<_>>());
     let second = "delivered asked for delivered asked for limit held unmet limit held unmet";
@@ -104,7 +104,7 @@ fn months_account_for_every_hour_in_which_a_limit_held() {
     for (name, hours) in [("Jan", 0..744), ("Feb", 744..1416), ("Mar", 1416..1500)] {
         let line = report.lines().find(|line| line.starts_with(&format!("{name}  "))).unwrap();
         let cells: Vec<&str> = line.split_whitespace().skip(1).collect();
-        for (limit, sign, energy, held) in [(HEATING, 1.0, 0, 7), (COOLING, -1.0, 2, 9)] {
+        for (limit, sign, energy, held) in [(HEATING, 1.0, 0, 9), (COOLING, -1.0, 2, 11)] {
             let (mut delivered, mut count, mut unmet) = (0.0, 0, 0.0);
             for entry in book.entries().skip(hours.start).take(hours.len()) {
                 let (kwh, power) = asked(&entry);
@@ -122,7 +122,7 @@ fn months_account_for_every_hour_in_which_a_limit_held() {
     let (folder, _) = with_limits("months", &year[..50 * HOUR], &BOTH[..1]);
     let report = folder.call(&["report", "p.book"]).done();
     let heading = report.lines().find(|line| line.contains("Windows  External")).unwrap();
-    assert!(heading.ends_with("Operative     Heating   Heating"), "{heading}");
+    assert!(heading.ends_with("> 28 °C     Heating   Heating"), "{heading}");
 }
 
 #[test]

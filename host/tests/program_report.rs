@@ -2,8 +2,9 @@
 mod common;
 
 use common::hours::{varied, with_year};
-use hem_zone::samples::hour_p;
-use hem_zone::Conditions;
+use common::Folder;
+use hem_zone::samples::{element_hour_p, hour_p, house_p};
+use hem_zone::{Book, Conditions, ElementHour, Head};
 
 /// The number before a word in a text.
 fn number_before(text: &str, word: &str) -> f64 {
@@ -58,19 +59,22 @@ fn one_hour_is_no_hours() {
     assert!(report.contains("useful floor area 36 m², 1 element, 3 nodes"), "{report}");
 }
 
+const MONTHS: [&str; 12] =
+    ["Jan", "Feb", "Mar", "Apr", "May", "Jun", "Jul", "Aug", "Sep", "Oct", "Nov", "Dec"];
+
+/// The numbers of a month in a report.
+fn month(report: &str, name: &str) -> Vec<f64> {
+    let numbers = line(report, &format!("{name} ")).split_whitespace().skip(1);
+    numbers.map(|number| number.parse().unwrap()).collect()
+}
+
 #[test]
 fn months_are_shared_out_by_time_and_sum_to_the_total() {
     // Steps of 30 hours cross the ends of months; the last begins on 30 December and ends next year.
     let (folder, book) = with_year("months", &varied(292, 30.125));
     let report = folder.call(&["report", "p.book"]).done();
-    let months = [
-        "Jan", "Feb", "Mar", "Apr", "May", "Jun", "Jul", "Aug", "Sep", "Oct", "Nov", "Dec", "later",
-    ];
-    let rows: Vec<Vec<f64>> = months
-        .map(|month| {
-            line(&report, month).split_whitespace().skip(1).map(|n| n.parse().unwrap()).collect()
-        })
-        .to_vec();
+    let rows: Vec<Vec<f64>> =
+        MONTHS.into_iter().chain(["later"]).map(|name| month(&report, name)).collect();
     let sum = |column: usize| rows.iter().map(|row| row[column]).sum::<f64>();
     let heating: f64 = book.entries().map(|entry| entry.demand().space_heat_demand).sum();
     assert!((sum(0) - heating).abs() < 0.7, "{} and {heating} in {report}", sum(0));
@@ -82,6 +86,93 @@ fn months_are_shared_out_by_time_and_sum_to_the_total() {
     let mean: f64 =
         book.entries().enumerate().map(|(i, e)| part(i) * e.conditions().temp_ext_air).sum();
     assert_eq!(format!("{:.1}", mean * 30.125 / 744.0), format!("{:.1}", rows[0][5]), "{report}");
+}
+
+// ---- how long it was warm ----
+
+/// The columns of the months that say for how long it was above 26 and 28 °C.
+const WARM: [(f64, usize); 2] = [(26.0, 7), (28.0, 8)];
+const DAYS: [usize; 12] = [31, 28, 31, 30, 31, 30, 31, 31, 30, 31, 30, 31];
+
+#[test]
+fn warm_hours_are_counted_by_month() {
+    let folder = Folder::new("warm");
+    folder.call(&["sample", "."]).done();
+    let run = ["run", "terrace.head", "terrace.year", "t.book", "--cooling-limit", "0"];
+    folder.call(&run).done();
+    let report = folder.call(&["report", "t.book", "--svg", "x.svg"]).done();
+    let book = Book::take_up(&folder.read("t.book")).unwrap();
+    let temperatures: Vec<f64> = book.entries().map(|entry| entry.temp_operative()).collect();
+    let mut first = 0;
+    for (name, days) in MONTHS.into_iter().zip(DAYS) {
+        let hours = &temperatures[first..first + 24 * days];
+        for (threshold, column) in WARM {
+            let count = hours.iter().filter(|t| **t > threshold).count();
+            assert_eq!(month(&report, name)[column], count as f64, "{name}, {threshold} °C");
+        }
+        first += hours.len();
+    }
+    let [above, far_above] =
+        WARM.map(|(threshold, _)| temperatures.iter().filter(|t| **t > threshold).count());
+    assert!(above > 50 && far_above > 1, "{above} {far_above}");
+    let words =
+        format!("Warm       above 26 °C in {above} hours, above 28 °C in {far_above} hours");
+    assert_eq!(line(&report, "Warm"), words);
+    let words = format!(">operative, {above} h above 26 °C, {far_above} h above 28 °C</tspan>");
+    assert!(folder.text("x.svg").contains(&words), "{words}");
+}
+
+#[test]
+fn warm_hours_go_by_length_and_are_shared_out_by_time() {
+    let (length, count) = (30.125, 292);
+    let (folder, book) = with_year("warm_steps", &varied(count, length));
+    let report = folder.call(&["report", "p.book"]).done();
+    let mut start = 0.0;
+    for (name, days) in MONTHS.into_iter().zip(DAYS) {
+        let end = start + 24.0 * days as f64;
+        for (threshold, column) in WARM {
+            let mut time = 0.0;
+            for (i, entry) in book.entries().enumerate() {
+                let (from, to) = (length * i as f64, length * (i + 1) as f64);
+                if entry.temp_operative() > threshold {
+                    time += (to.min(end) - from.max(start)).max(0.0);
+                }
+            }
+            let told = month(&report, name)[column];
+            assert!((told - time).abs() < 0.051, "{name}, {threshold} °C: {told} and {time}");
+        }
+        start = end;
+    }
+    let total = |threshold: f64| {
+        let warm = book.entries().filter(|entry| entry.temp_operative() > threshold);
+        warm.count() as f64 * length
+    };
+    let told = line(&report, "Warm").replace(',', "");
+    let words =
+        format!("above 26 °C in {} hours above 28 °C in {} hours", total(26.0), total(28.0));
+    assert!(total(28.0) > 0.0 && told.ends_with(&words), "{told}: {words}");
+}
+
+#[test]
+fn an_hour_at_26_degrees_is_not_above_them() {
+    // A house in which everything is at 26 °C and stays there.
+    let element = ElementHour { temp_ext: 26.0, ..element_hour_p() };
+    let mut head = Head { temp_ext_air_init: 26.0, temp_setpnt_init: 26.0, ..house_p() };
+    head.elements[0].first_hour = element;
+    let air = Conditions { temp_ext_air: 26.0, avg_air_supply_temp: 26.0, ..hour_p(20.0, 30.0) };
+    let hour = Conditions { elements: vec![element], ..air };
+    let folder = Folder::new("at_26");
+    folder.write("p.head", &head.to_bytes());
+    folder.write("p.year", &hour.to_bytes());
+    folder.run().done();
+    let book = Book::take_up(&folder.read("p.book")).unwrap();
+    assert_eq!(book.entry(0).unwrap().temp_operative(), 26.0);
+    let report = folder.call(&["report", "p.book"]).done();
+    assert_eq!(line(&report, "Warm"), "Warm       above 26 °C in 0 hours, above 28 °C in 0 hours");
+    assert_eq!(month(&report, "Jan")[7..], [0.0, 0.0]);
+    // Of no hours there is nothing to tell.
+    let report = folder.call(&["report", "p.head"]).done();
+    assert!(report.contains("no hours held") && !report.contains("Warm"), "{report}");
 }
 
 // ---- the highest hours ----

@@ -7,7 +7,8 @@ use std::fs;
 use std::path::Path;
 use std::process::Command;
 
-const COMMANDS: [&str; 8] = ["sample", "house", "hours", "check", "run", "report", "show", "cut"];
+const COMMANDS: [&str; 9] =
+    ["sample", "house", "hours", "check", "run", "report", "warm", "show", "cut"];
 
 fn folder(name: &str) -> Folder {
     let folder = Folder::with_house_p(name, 3);
@@ -55,6 +56,22 @@ fn a_usage_error_is_one_sentence_with_where_to_read_more() {
         ),
         (&["show", "a", "--hour", "x"], "show: --hour is \"x\", which is not a whole number"),
         (&["show", "a", "--hour=1", "--hours"], "show: --hours and --hour exclude each other; see"),
+        (&["warm", "--above", "20"], "warm: BOOK is missing; see `hem-year help warm`"),
+        (&["warm", "b"], "warm: --above, --within or --nearest is needed; see"),
+        (&["warm", "b", "c", "--above=1"], "warm: \"c\" is one word too many; see"),
+        (&["warm", "b", "--above"], "warm: --above needs a number; see"),
+        (&["warm", "b", "--above", "--nearest=1"], "warm: --above needs a number; see"),
+        (&["warm", "b", "--above", "-inf"], "warm: --above needs a number; see"),
+        (&["warm", "b", "--within"], "warm: --within needs 2 numbers, one behind the other; see"),
+        (&["warm", "b", "--within", "1"], "warm: --within needs 2 numbers, one behind the other"),
+        (&["warm", "b", "--within=1"], "warm: --within needs 2 numbers, one behind the other; see"),
+        (&["warm", "b", "--within", "1", "--above=2"], "warm: --within needs 2 numbers, one"),
+        (&["warm", "--within", "1", "b"], "warm: BOOK is missing; see"),
+        (&["warm", "b", "--within", "1", ""], "warm: the word for --within is empty; see"),
+        (&["warm", "b", "--above=1", "--above=2"], "warm: --above is given twice; see"),
+        (&["warm", "b", "--within", "1", "2", "--within=1", "2"], "warm: --within is given twice;"),
+        (&["warm", "b", "--head", "x"], "warm: --head is not an option of this command; see"),
+        (&["report", "b", "--above", "1"], "report: --above is not an option of this command; see"),
         (&["--csv"], "--csv needs a file; see `hem-year help`"),
     ] {
         folder.call(words).failed(2, sentence);
@@ -130,9 +147,19 @@ fn options(text: &str) -> Vec<String> {
 #[test]
 fn the_options_of_a_help_are_taken_and_no_others() {
     let folder = Folder::new("options");
-    let valued =
-        ["cooling-limit", "csv", "entry-version", "head", "heating-limit", "hour", "name", "svg"];
-    let all = [&valued[..], &["balance", "force", "hours", "nodes"]].concat();
+    let valued = [
+        "above",
+        "cooling-limit",
+        "csv",
+        "entry-version",
+        "head",
+        "heating-limit",
+        "hour",
+        "name",
+        "nearest",
+        "svg",
+    ];
+    let all = [&valued[..], &["balance", "force", "hours", "nodes", "within"]].concat();
     for command in COMMANDS {
         let help = folder.call(&["help", command]).done();
         let usage = help.split("\n\n").next().unwrap();
@@ -143,7 +170,8 @@ fn the_options_of_a_help_are_taken_and_no_others() {
                 true => format!("--{option}=1"),
                 false => format!("--{option}"),
             };
-            let errors = folder.call(&[command, &word]).errors();
+            let values: &[&str] = if *option == "within" { &["1", "2"] } else { &[] };
+            let errors = folder.call(&[&[command, &word], values].concat()).errors();
             let refused = errors.contains("is not an option of this command");
             assert_eq!(refused, !named.iter().any(|n| n == option), "{command} {option}: {errors}");
         }
@@ -225,4 +253,16 @@ fn the_completion_offers_commands_options_and_files() {
             assert!(completed(&folder, &[command, "p.head", &format!("{limit}=")]).is_empty());
         }
     }
+    for option in ["--above", "--within", "--nearest"] {
+        assert!(completed(&folder, &["warm", option, ""]).is_empty());
+        assert!(completed(&folder, &["warm", option, "=", ""]).is_empty());
+        assert!(completed(&folder, &["warm", &format!("{option}=")]).is_empty());
+    }
+    // A file comes behind one number, of --within behind two.
+    assert_eq!(completed(&folder, &["warm", "--above", "20", "p.b"]), ["p.book"]);
+    assert!(completed(&folder, &["warm", "--within", "20", "p.b"]).is_empty());
+    assert!(completed(&folder, &["warm", "--within", "=", "20", "p.b"]).is_empty());
+    assert_eq!(completed(&folder, &["warm", "--within", "20", "22", "p.b"]), ["p.book"]);
+    assert_eq!(completed(&folder, &["warm", "--within", "=", "20", "22", "p.b"]), ["p.book"]);
+    assert_eq!(completed(&folder, &["--within"]), Vec::<String>::new());
 }

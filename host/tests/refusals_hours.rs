@@ -138,6 +138,43 @@ fn n19_limits() {
 }
 
 #[test]
+fn n20_questions() {
+    let mut book = Book::begin(&house().to_bytes()).unwrap();
+    book.append(&hour().to_bytes(), ENTRY_VERSION_2).unwrap();
+    let (book, empty) = (book.bytes(), &house().to_bytes()[..]);
+    let range = "out of its range -1,000,000 to 1,000,000";
+    for bytes in [book, empty] {
+        is(first_above(bytes, f64::NAN), 20, 0, &format!("value is NaN, {range}"));
+        is(first_above(bytes, 1e7), 20, 0, &format!("value is 10,000,000, {range}"));
+        is(
+            nearest_hour(bytes, -1e6_f64.next_up()),
+            20,
+            0,
+            &format!("value is -1000000.0000000001, {range}"),
+        );
+        is(nearest_hour(bytes, f64::INFINITY), 20, 0, &format!("value is inf, {range}"));
+        is(hours_within(bytes, 30.0, -f64::INFINITY), 20, 0, &format!("upper is -inf, {range}"));
+        is(hours_within(bytes, 2e6, f64::NAN), 20, 0, &format!("lower is 2,000,000, {range}"));
+        let sentence = "the band's lower end 26.5 °C is above its upper end -1,000 °C";
+        is(hours_within(bytes, 26.5, -1000.0), 20, 0, sentence);
+    }
+    // What a take-up refuses comes first, in its own words.
+    let mut damaged = book.to_vec();
+    *damaged.last_mut().unwrap() ^= 1;
+    let sentence = "entry 0: its stored temperatures are not what the hour gives";
+    is(first_above(&damaged, f64::NAN), 18, 0, sentence);
+    is(hours_within(&damaged, 2.0, 1.0), 18, 0, sentence);
+    is(nearest_hour(&damaged, 1e7), 18, 0, sentence);
+    let refusal = nearest_hour(&damaged, 20.0).unwrap_err();
+    assert_eq!(refusal.to_string(), format!("{sentence} (refusal 18, entry 0)"));
+    let short = "the head has 3 bytes and not even its 4-byte length";
+    is(first_above(&book[..3], f64::NAN), 1, 0, short);
+    let refusal = first_above(book, -2e6).unwrap_err();
+    assert_eq!(refusal.to_string(), format!("value is -2,000,000, {range} (refusal 20)"));
+    assert_eq!(refusal.reason(), Reason::QuestionValue);
+}
+
+#[test]
 fn a_refusal_prints_its_number_and_place() {
     let refusal = head_with(|h| h.elements[2].area = -1.0).unwrap_err();
     assert_eq!(

@@ -1,7 +1,9 @@
 //! What the wrapper adds to the engine: records where bytes are taken, reasons by name, states of any
 //! length, and no call in a floating-point environment that would give other values.
 use hem_zone::samples::{hour_p, house_p};
-use hem_zone::{Book, Reason, Refusal, State, Zone, ENTRY_VERSION_2};
+use hem_zone::{
+    first_above, hours_within, nearest_hour, Book, Reason, Refusal, State, Zone, ENTRY_VERSION_2,
+};
 use std::arch::asm;
 
 fn zone() -> Zone {
@@ -74,6 +76,9 @@ fn every_call(zone: &Zone, book: &Book) -> Vec<Option<Refusal>> {
         Book::begin(zone).err(),
         Book::take_up(book.bytes()).err(),
         book.clone().append(&hour, ENTRY_VERSION_2).err(),
+        first_above(book.bytes(), 20.0).err(),
+        hours_within(book.bytes(), 20.0, 21.0).err(),
+        nearest_hour(book.bytes(), 20.0).err(),
     ]
 }
 
@@ -119,7 +124,7 @@ fn another_floating_point_environment_is_refused_by_every_call() {
             assert_eq!(refusal.to_string(), refusal.sentence());
         }
     }
-    assert_eq!(with_control(0, || every_call(&zone, &book)), vec![None; 9]);
+    assert_eq!(with_control(0, || every_call(&zone, &book)), vec![None; 12]);
 }
 
 #[test]

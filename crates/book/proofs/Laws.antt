@@ -10,3 +10,5 @@ pub mod Accepted
 pub mod Interface
 pub mod Heads
 pub mod NextHour
+pub mod Reader
+pub mod ReadBook

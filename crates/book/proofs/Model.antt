@@ -7,6 +7,7 @@ pub mod Caller
 pub mod Books
 pub mod Laws
 pub mod Agreement
+pub mod Contents
 pub mod AppendCut
 pub mod Whole
 pub mod Sessions

@@ -9,21 +9,24 @@ use crate::numbers::BOOK_FULL;
 use crate::record::Record;
 use crate::record::record_in;
 use crate::versions::NO_ENTRY_VERSION;
+use zone::Head;
 use zone::State;
 use zone::Verdict;
 use zone::ZoneFront;
 use zone::read_head;
 use zone::start_up_lent;
 ghost use mathlib.Core.Path.{_≡_};
-ghost use Prim.Native.Nat.{_≤_};
+ghost use Prim.Native.Nat.{ℕ, _≤_};
 ghost use lib.ListN.{length, drop};
-ghost use Rattle.zone.specs.Promise.{ok};
+ghost use Rattle.zone.specs.Promise.{ok, refused};
 ghost use Rattle.zone.specs.Inner.Lent.{zoneIn};
+ghost use Rattle.zone.specs.Inner.Head.{structuredHead, headIn, RefusedHead};
 ghost use Rattle.zone.specs.Check.ZoneTest.{zoneTest};
 ghost use Rattle.zone.specs.Inner.Kept.{arrays, held, Kept};
 ghost use Rattle.book.specs.Model.Calls as Book;
 ghost use Rattle.book.specs.Year.{carried, noEntryVersion, yearInterface};
 ghost use Rattle.book.specs.Answers.{givenOf, replyIn};
+ghost use Rattle.book.specs.Inner.Reader.{startIn};
 
 // The whole entries behind the head's n bytes, in order, as `record_in` finds them; a rest that it drops ends the book. The factored matrix is kept from entry to entry.
 fn check_entries(
@@ -99,18 +102,40 @@ fn check_entries(
     }
 }
 
-// A book in bytes: its head, and whole entries that are what the hour step gives.
-pub fn take_up(given: BookState, bytes: &[u8]) -> Reply
-    ensures { λ r. ⌜ r ≡ replyIn (Book.takeUp yearInterface (givenOf given) (now (bytes .entry))) ⌝ }
+// A book that is read: its head, whose zone stands in the lent arrays, the state of its start-up, and what a take-up replies.
+pub struct ReadBook {
+    pub head: Head,
+    pub start: State,
+    pub reply: Reply,
+}
+
+fn refused_book(head: Head, given: BookState, number: u32, index: usize) -> ReadBook
+    ensures { λ r. ⌜ r ≡ record { head = head; start = given .state; reply = replyIn (Book.refusedWith number index (givenOf given)) } ⌝ }
 {
-    let mut codes = [0; 72];
-    let mut values = [0.0; 600];
-    let h = read_head(bytes, &mut codes, &mut values);
-    let v = h.verdict;
+    let start = given.state;
+    let reply = refuse(given, number, index);
+    ReadBook { head, start, reply }
+}
+
+// A book in bytes, with what a tool reads it by: its head, into arrays that are lent, and start-up's state beside the reply. Where head or start-up is
+// refused, `start` is the state that was given.
+pub fn read_book(
+    given: BookState,
+    bytes: &[u8],
+    codes: &mut [u8; 72],
+    values: &mut [f64; 600],
+) -> ReadBook
+    ensures { λ r. ⌜ (headIn (r .head) (now (codes .exit)) (now (values .exit)) ≡ structuredHead (now (bytes .entry)))
+        × ((number index : ℕ) → structuredHead (now (bytes .entry)) ≡ refused number index → RefusedHead (r .head) (now (codes .entry)) (now (values .entry)) (now (codes .exit)) (now (values .exit)))
+        × (r .start ≡ startIn (given .state) (now (bytes .entry)))
+        × (r .reply ≡ replyIn (Book.takeUp yearInterface (givenOf given) (now (bytes .entry)))) ⌝ }
+{
+    let head = read_head(bytes, codes, values);
+    let v = head.verdict;
     match v {
-        Verdict::Refused { number, index } => refuse(given, number, index),
+        Verdict::Refused { number, index } => refused_book(head, given, number, index),
         Verdict::Accepted => {
-            let z = h.zone;
+            let z = head.zone;
             let mut flags = [false; 2];
             let mut numbers = [0.0; 3];
             let mut key = [0; 48];
@@ -123,8 +148,8 @@ pub fn take_up(given: BookState, bytes: &[u8]) -> Reply
             let mut column = [0.0; 25];
             let s = start_up_lent(
                 z,
-                &codes,
-                &values,
+                codes,
+                values,
                 &mut flags,
                 &mut numbers,
                 &mut key,
@@ -138,27 +163,41 @@ pub fn take_up(given: BookState, bytes: &[u8]) -> Reply
             );
             let w = s.verdict;
             match w {
-                Verdict::Refused { number, index } => refuse(given, number, index),
-                Verdict::Accepted => check_entries(
-                    z,
-                    &codes,
-                    &values,
-                    s.state,
-                    h.length,
-                    given,
-                    bytes,
-                    &mut flags,
-                    &mut numbers,
-                    &mut key,
-                    &mut two_nodes,
-                    &mut diag,
-                    &mut next,
-                    &mut prev,
-                    &mut dense,
-                    &mut interchanges,
-                    &mut column,
-                ),
+                Verdict::Refused { number, index } => refused_book(head, given, number, index),
+                Verdict::Accepted => {
+                    let start = s.state;
+                    let reply = check_entries(
+                        z,
+                        codes,
+                        values,
+                        start,
+                        head.length,
+                        given,
+                        bytes,
+                        &mut flags,
+                        &mut numbers,
+                        &mut key,
+                        &mut two_nodes,
+                        &mut diag,
+                        &mut next,
+                        &mut prev,
+                        &mut dense,
+                        &mut interchanges,
+                        &mut column,
+                    );
+                    ReadBook { head, start, reply }
+                }
             }
         }
     }
+}
+
+// A book in bytes: its head, and whole entries that are what the hour step gives. What is handed back of it.
+pub fn take_up(given: BookState, bytes: &[u8]) -> Reply
+    ensures { λ r. ⌜ r ≡ replyIn (Book.takeUp yearInterface (givenOf given) (now (bytes .entry))) ⌝ }
+{
+    let mut codes = [0; 72];
+    let mut values = [0.0; 600];
+    let book = read_book(given, bytes, &mut codes, &mut values);
+    book.reply
 }

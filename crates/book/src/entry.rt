@@ -40,7 +40,7 @@ ghost use Rattle.book.specs.Inner.Replace.{replaceAt};
 ghost use Rattle.book.specs.Inner.Sizes.{triggerSize, demandSize, longestFollowing, longestEntry};
 
 // N, the air's node included.
-fn nodes_of(z: ZoneFront, codes: &[u8; 72], values: &[f64; 600]) -> usize
+pub fn nodes_of(z: ZoneFront, codes: &[u8; 72], values: &[f64; 600]) -> usize
     requires { ⌜ z .count ≤ 24 ⌝ }
     ensures { λ r. ⌜ (r ≡ nodeCount (zoneIn z (now (codes .entry)) (now (values .entry)))) × (r ≤ 121) ⌝ }
 {

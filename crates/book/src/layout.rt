@@ -3,6 +3,8 @@
 // A leap year's hours.
 pub const MOST_ENTRIES: usize = 8784;
 
+pub const MOST_ELEMENTS: usize = 24;
+
 pub const FLOAT_SIZE: usize = 8;
 
 // Of each record: the length of what follows.

@@ -9,6 +9,7 @@ use crate::cuts::each_byte;
 use crate::cuts::spread;
 use crate::full_changes::print_damage;
 use crate::full_hours::print_hours;
+use crate::full_questions::print_questions;
 use crate::house::conditions;
 use crate::house::head;
 use crate::house::limits_at;
@@ -255,6 +256,7 @@ pub fn print_year() {
     let held = print_hours(z, &codes, &values, &b);
     print_one_more(z, &codes, &values, end, &mut b);
     print_take_up(end, &mut b);
+    print_questions(z, &codes, &values, &b);
     print_cuts(z, &codes, &values, end, &mut b);
     print_many_cuts(z, &codes, &values, end, &mut b);
     print_damage(held, &mut b);

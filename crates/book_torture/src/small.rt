@@ -26,6 +26,7 @@ use crate::print::numbered;
 use crate::print::of;
 use crate::print::text;
 use crate::small_changes::print_changes;
+use crate::small_questions::print_questions;
 use crate::tally::Tally;
 use crate::year::begin_and_append;
 use crate::year::is_accepted;
@@ -212,6 +213,7 @@ fn print_book(z: ZoneFront, codes: &[u8; 72], values: &[f64; 600], h: &[u8]) {
     let end = fill(z, codes, values, h, small_plan(), &mut whole);
     print_held(z, codes, values, &whole);
     print_cuts(z, codes, values, &whole, end);
+    print_questions(z, codes, values, &whole);
     print_in_one(z, codes, values, h);
     print_passes(z, codes, values, h, &whole);
     print_changes(z, codes, values, h, &mut whole);

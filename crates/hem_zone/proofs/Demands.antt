@@ -16,6 +16,8 @@ use Rattle.book.proofs.PlantLimits.{plant-claims, limits-apart}
 use Rattle.book.proofs.HouseP.{begin-of-p, books-of-p}
 use Rattle.book.proofs.Refusals.{book-refusals}
 use Rattle.book.proofs.VersionOrder as Order
+use Rattle.tools.proofs.Claims.{question-claims}
+use Rattle.tools.proofs.Refusals.{question-refusals}
 use Rattle.hem_zone.specs.Demands.{Demands}
 use Rattle.hem_zone.proofs.Claims.{claims}
 use Rattle.hem_zone.proofs.ToldApart.{told-apart}
@@ -70,4 +72,6 @@ demands =
       rows = claim;
       begin-of-p = begin-of-p;
       books-of-p = books-of-p;
+      questions = question-claims;
+      question-refusals = question-refusals;
     }

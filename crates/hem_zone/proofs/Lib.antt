@@ -3,6 +3,7 @@
 pub mod Laws
 pub mod Cases
 pub mod BookCases
+pub mod QuestionCases
 pub mod Claims
 pub mod ToldApart
 pub mod BookTypes

@@ -1,10 +1,11 @@
--- The contracts of the nine functions, tied to their definitions. A contract speaks of references: a has the arguments as they were given, e what
+-- The contracts of the twelve functions, tied to their definitions. A contract speaks of references: a has the arguments as they were given, e what
 -- was lent as the call left it, each by its place among the parameters; `now` is what stands behind a reference.
 use contract.Lifetimes.{Lfts}
 use denote.Ref.{now}
 use borrow.Author.Needs.{needs}
 use Rattle.hem_zone.specs.Zone.{hemHead, hemStartUp, hemOperative, hemDemand, hemUpdate, hemHourStep}
 use Rattle.hem_zone.specs.Book.{cBookState, hemBegin, hemAppend, hemTakeUp}
+use Rattle.hem_zone.specs.Questions.{hemFirstAbove, hemHoursWithin, hemNearestHour}
 use Rattle.hem_zone.specs.Ties.{Tied}
 use Rattle.hem_zone.proofs.head.hem_head.Reads as head-reads
 use Rattle.hem_zone.proofs.step.hem_start_up.Reads as start-up-reads
@@ -15,6 +16,9 @@ use Rattle.hem_zone.proofs.step.hem_hour_step.Reads as hour-step-reads
 use Rattle.hem_zone.proofs.book_calls.hem_begin.Reads as begin-reads
 use Rattle.hem_zone.proofs.book_calls.hem_append.Reads as append-reads
 use Rattle.hem_zone.proofs.book_calls.hem_take_up.Reads as take-up-reads
+use Rattle.hem_zone.proofs.questions.hem_first_above.Reads as first-above-reads
+use Rattle.hem_zone.proofs.questions.hem_hours_within.Reads as hours-within-reads
+use Rattle.hem_zone.proofs.questions.hem_nearest_hour.Reads as nearest-hour-reads
 
 -- each for the lifetimes κs of its references. The record stands in proofs/, since specs/ cannot name a function's contract; its form is in specs/Ties.antt
 pub record Ties : Type 0 where
@@ -60,6 +64,21 @@ pub record Ties : Type 0 where
       (κs : Lfts 6) → Tied (take-up-reads.Pre κs) (take-up-reads.Post κs)
       (λ r e. (r, cBookState (now (e .1 .0)) (now (e .1 .1 .0)) (now (e .1 .1 .1 .0)) (now (e .1 .1 .1 .1 .0)) (now (e .1 .1 .1 .1 .1 .0))))
       (λ a. hemTakeUp (now (a .0)) (cBookState (now (a .1 .0)) (now (a .1 .1 .0)) (now (a .1 .1 .1 .0)) (now (a .1 .1 .1 .1 .0)) (now (a .1 .1 .1 .1 .1 .0))))
+  -- fn hem_first_above(bytes, value, hour)
+  pub «hem_first_above» :
+      (κs : Lfts 2) → Tied (first-above-reads.Pre κs) (first-above-reads.Post κs)
+      (λ r e. (r, now (e .1 .1 .0)))
+      (λ a. hemFirstAbove (now (a .0)) (a .1 .0) (now (a .1 .1 .0)))
+  -- fn hem_hours_within(bytes, lower, upper, hours)
+  pub «hem_hours_within» :
+      (κs : Lfts 2) → Tied (hours-within-reads.Pre κs) (hours-within-reads.Post κs)
+      (λ r e. (r, now (e .1 .1 .1 .0)))
+      (λ a. hemHoursWithin (now (a .0)) (a .1 .0) (a .1 .1 .0) (now (a .1 .1 .1 .0)))
+  -- fn hem_nearest_hour(bytes, value, hour)
+  pub «hem_nearest_hour» :
+      (κs : Lfts 2) → Tied (nearest-hour-reads.Pre κs) (nearest-hour-reads.Post κs)
+      (λ r e. (r, now (e .1 .1 .0)))
+      (λ a. hemNearestHour (now (a .0)) (a .1 .0) (now (a .1 .1 .0)))
 
 pub ties : Ties
 ties =
@@ -73,4 +92,7 @@ ties =
       «hem_begin» = λ κs. record { asks-nothing = λ a. search needs; is-definition = λ a r e p. p };
       «hem_append» = λ κs. record { asks-nothing = λ a. search needs; is-definition = λ a r e p. p };
       «hem_take_up» = λ κs. record { asks-nothing = λ a. search needs; is-definition = λ a r e p. p };
+      «hem_first_above» = λ κs. record { asks-nothing = λ a. search needs; is-definition = λ a r e p. p };
+      «hem_hours_within» = λ κs. record { asks-nothing = λ a. search needs; is-definition = λ a r e p. p };
+      «hem_nearest_hour» = λ κs. record { asks-nothing = λ a. search needs; is-definition = λ a r e p. p };
     }

@@ -19,6 +19,9 @@ use Rattle.book.specs.Refusals.{BeginRefusal, AppendRefusal, TakeUpRefusal}
 use Rattle.hem_zone.specs.Code.{refusalCode}
 use Rattle.hem_zone.specs.Arrays.{stateIn, demandOut, limitsOf}
 use Rattle.hem_zone.specs.Zone.{withZone, hemHead, startUpOut, hemStartUp, hemOperative, hemDemand, updateOut, hemUpdate, hourOut, hemHourStep}
+use Rattle.tools.specs.Questions.{firstAboveIn, hoursWithinIn, nearestHourIn}
+use Rattle.tools.specs.Refusals.{QuestionRefusal}
+use Rattle.hem_zone.specs.Questions.{hourOrNone, hemFirstAbove, hemHoursWithin, hemNearestHour}
 use Rattle.hem_zone.specs.Book.{CBookState, bookStateOf, cBookStateOf, bookOut, hemBegin, hemAppend, hemTakeUp}
 
 -- the head is read first, 1 to 5; then what the call is refused with
@@ -29,7 +32,7 @@ pub data AfterHead (P : (number index : ℕ) → Type 0) : (number index : ℕ) 
 -- a number of the papers, and an index for which the 32 bits of an answer have room beside it
 pub record InAnswer (number index : ℕ) : Type 0 where
   pub from-1 : 1 ≤ number
-  pub to-19 : number ≤ 19
+  pub to-20 : number ≤ 20
   pub room : index < 16777216
 
 -- Replies are told apart: no refusal is returned as acceptance is, and two that are returned as one number are one refusal
@@ -91,3 +94,9 @@ pub record Claims : Type 0 where
       (withZone head λ z. Book.appendRes yearInterface z (bookStateOf held) (hourItem version conditions (limitsOf «heating_limit» «cooling_limit»)) buf)
       (hemAppend head buf held conditions version «heating_limit» «cooling_limit»)
   pub «hem_take_up» : (bytes : List ℕ) (held : CBookState) → Answered TakeUpRefusal cBookStateOf held (Book.takeUpRes yearInterface bytes) (hemTakeUp bytes held)
+  pub «hem_first_above» :
+      (bytes : List ℕ) (value : Float) (hour : ℕ) → Answered QuestionRefusal hourOrNone hour (firstAboveIn bytes value) (hemFirstAbove bytes value hour)
+  pub «hem_hours_within» :
+      (bytes : List ℕ) (lower upper : Float) (hours : ℕ) → Answered QuestionRefusal (λ n. n) hours (hoursWithinIn bytes lower upper) (hemHoursWithin bytes lower upper hours)
+  pub «hem_nearest_hour» :
+      (bytes : List ℕ) (value : Float) (hour : ℕ) → Answered QuestionRefusal hourOrNone hour (nearestHourIn bytes value) (hemNearestHour bytes value hour)

@@ -1,4 +1,4 @@
--- The three demands for the engine as a whole: for the nine functions that C calls. A call returns and leaves what its function's definition says
+-- The three demands for the engine as a whole: for the twelve functions that C calls. A call returns and leaves what its function's definition says
 -- (specs/Zone.antt, specs/Book.antt): that is the contract's, which the check proves, as it proves that the call ends, and `Ties` (proofs/Ties.antt) says it of each contract. So the
 -- demands are stated of the definitions. Each line is a type that is proved elsewhere.
 use mathlib.Core.Path.{_≡_}
@@ -32,6 +32,8 @@ use Rattle.book.specs.VersionOrder as Order
 use Rattle.book.specs.Rests.{RestClaims}
 use Rattle.book.specs.PlantLimits.{PlantClaims, LimitsApart}
 use Rattle.book.specs.Year.{Carried, hourItem, yearInterface}
+use Rattle.tools.specs.Claims.{QuestionClaims}
+use Rattle.tools.specs.Refusals.{QuestionRefusals}
 use Rattle.hem_zone.specs.Arrays.{limitsOf}
 use Rattle.hem_zone.specs.Claims.{Claims, ToldApart}
 use Rattle.hem_zone.specs.Book.{CBookState, bookStateOf, hemBegin, hemAppend, hemTakeUp}
@@ -116,3 +118,6 @@ pub record Demands (Ties : Type 0) : Type 1 where
   pub rows : allHold table ≡ true
   pub begin-of-p : BeginOfP
   pub books-of-p : BooksOfP
+  -- the questions over an accepted book, and what they are refused with
+  pub questions : QuestionClaims
+  pub question-refusals : QuestionRefusals

@@ -59,14 +59,17 @@ class Rows:
         self.rows, self.numbers, self.calls, self.versions = [], collections.Counter(), collections.Counter(), set()
 
     def add(self, call, expected, head=b"", change=(0, 0), nodes=None, temps=(), conditions=b"", own=(0.0, 0.0, 0.0),
-            count=0, used=0, room=0, version=1, last=1, limits=None, demand=(0.0, 0.0), after=BALANCE):
-        """`room` may go by the version; `own` are update's floats, `limits` those of a call that names a version"""
+            count=0, used=0, room=0, version=1, last=1, limits=None, demand=(0.0, 0.0), after=BALANCE,
+            values=None):
+        """`room` may go by the version; `own` are the floats of an update or a question, `limits` those of a call that
+        names a version"""
         number, index = expected
         nodes = len(temps) if nodes is None else nodes
         room = room(version) if callable(room) else room
         limits = usual_limits(version) if limits is None else limits
         own = (*limits, 0.0) if call in (4, 6) else own
-        values = [] if number else values_after(call, head, conditions, count, used, version, limits, demand, after)
+        if values is None:
+            values = [] if number else values_after(call, head, conditions, count, used, version, limits, demand, after)
         b = bytes([call, number]) + u16(index) + u32(len(head)) + head + bytes([change[0]]) + u16(change[1])
         b += u16(nodes) + u16(len(temps)) + f64(*temps) + u16(len(conditions)) + conditions + f64(*own)
         b += u32(count) + u32(used) + u32(room) + u64(version) + u64(last)

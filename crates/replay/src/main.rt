@@ -1,11 +1,13 @@
 // Replays a sample of the oracle's answers and compares every value, bit by bit (zeros of either sign are equal); then
-// the refusals, each with its number and index. How the data were made: make_data.py.
+// the refusals and the questions over a book, each with its number and index or its answer. How the data were made:
+// make_data.py.
 mod answer;
 mod book_calls;
 mod bytes;
 mod calls;
 mod cases;
 mod print;
+mod question_calls;
 mod records;
 mod refusals;
 mod report;

@@ -8,6 +8,7 @@ use crate::bytes::limits_at;
 use crate::bytes::part;
 use crate::bytes::state_at;
 use crate::calls;
+use crate::question_calls;
 use crate::records;
 use crate::records::next_record;
 use crate::records::record;
@@ -103,6 +104,9 @@ fn run_row(r: Row, b: &[u8]) -> Answer {
     match call {
         5 => book_calls::begin(r, s, b),
         7 => book_calls::take_up(r, s, b),
+        10 => question_calls::first_above(r, b),
+        11 => question_calls::hours_within(r, b),
+        12 => question_calls::nearest_hour(r, b),
         _ => run_head(r, b),
     }
 }

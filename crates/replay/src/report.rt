@@ -75,7 +75,7 @@ fn print_number(numbers: [u64; COUNTS], number: usize) {
 }
 
 fn print_numbers(numbers: [u64; COUNTS]) {
-    for number in 1..20usize {
+    for number in 1..21usize {
         print_number(numbers, number);
     }
 }
@@ -115,7 +115,10 @@ fn print_call(call: usize) {
         6 => text(b"append       "),
         7 => text(b"take-up      "),
         8 => text(b"read_head    "),
-        _ => text(b"zone_test    "),
+        9 => text(b"zone_test    "),
+        10 => text(b"first_above  "),
+        11 => text(b"hours_within "),
+        _ => text(b"nearest_hour "),
     }
 }
 
@@ -126,7 +129,7 @@ fn print_count(calls: [u64; COUNTS], call: usize) {
 }
 
 fn print_calls(calls: [u64; COUNTS]) {
-    for call in 1..10usize {
+    for call in 1..13usize {
         print_count(calls, call);
     }
 }

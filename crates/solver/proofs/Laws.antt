@@ -17,6 +17,8 @@ pub mod Loads
 pub mod Fill
 pub mod Signs
 pub mod Signed
+pub mod Order
+pub mod Fits
 pub mod Sums
 pub mod Result
 pub mod Solver

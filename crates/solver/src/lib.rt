@@ -8,6 +8,7 @@ mod rows;
 mod sums;
 mod system;
 
+pub use closeness::abs;
 pub use closeness::close_in_demand;
 pub use closeness::close_in_windows_test;
 pub use closeness::isclose;

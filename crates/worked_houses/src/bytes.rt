@@ -70,6 +70,16 @@ pub fn read_u32_be(s: &[u8], at: usize) -> u64 {
     read_u16_be(s, at) << 16 | read_u16_be(s, wrapping_add_usize(at, 2))
 }
 
+// The `count` bytes from `from` on, or none where they are not all there.
+pub fn part(s: &[u8], from: usize, count: usize) -> &[u8] {
+    if from <= s.len() {
+        if count <= s.len() - from {
+            return &s[from..from + count];
+        }
+    }
+    &s[..0]
+}
+
 // At how many places from `from` to `to` - 1 two strings of bytes differ.
 pub fn differing(a: &[u8], b: &[u8], from: usize, to: usize) -> u64 {
     let mut n = 0;

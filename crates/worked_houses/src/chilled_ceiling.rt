@@ -5,5 +5,6 @@ pub mod limit_books;
 pub mod limit_entries;
 pub mod limit_values;
 pub mod limited;
+pub mod questions;
 pub mod room;
 pub mod unknown;

@@ -3,4 +3,5 @@ pub mod book_rows;
 pub mod house;
 pub mod limited;
 pub mod met;
+pub mod questions;
 pub mod rows;

@@ -6,6 +6,9 @@
 // ceiling: a warm hour is asked, and met in version 1 and in version 2. By the heating fraction the room is left too warm, by
 // the cooling fraction it keeps its cooling setpoint. A cold hour is the same in both. Then the entries of these hours in
 // books, versions that no hour has, and the room in version 3: hours with limits, limits out of range, entries and books.
+// At the end of each house books of it are asked when it got warm: the first hour above a value, the hours within a band and the
+// hour nearest to a value.
+mod answers;
 mod bytes;
 mod chilled_ceiling;
 mod house_p;
@@ -18,10 +21,12 @@ use chilled_ceiling::hours;
 use chilled_ceiling::limit_books;
 use chilled_ceiling::limit_values;
 use chilled_ceiling::limited;
+use chilled_ceiling::questions;
 use chilled_ceiling::room;
 use chilled_ceiling::unknown;
 use house_p::book_rows;
 use house_p::limited as limited_hours;
+use house_p::questions as hours_asked;
 use house_p::rows;
 
 fn print_house_p() {
@@ -31,6 +36,7 @@ fn print_house_p() {
     rows::print_rates();
     book_rows::print_book();
     limited_hours::print_limited();
+    hours_asked::print_questions();
 }
 
 fn print_chilled_ceiling() {
@@ -50,6 +56,7 @@ fn print_chilled_ceiling() {
     limited::print_earlier(z, &codes, &values, start);
     limit_values::print_values(z, &codes, &values, &h, start);
     limit_books::print_books(z, &codes, &values, &h, start);
+    questions::print_questions(z, &codes, &values, &h);
 }
 
 fn main() {

@@ -13,7 +13,7 @@ pub fn heading(house: &[u8]) {
     text(b"asked                                          came          expected\n");
 }
 
-fn verdict(ok: bool) {
+pub fn verdict(ok: bool) {
     if ok {
         text(b"  ok\n");
     } else {
@@ -27,7 +27,7 @@ fn hex(n: u64) {
 }
 
 // A number in a column of eighteen.
-fn column(n: u64) {
+pub fn column(n: u64) {
     text(b"            ");
     if n < 100000 {
         text(b" ");

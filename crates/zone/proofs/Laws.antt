@@ -47,6 +47,8 @@ pub mod NextKept
 pub mod FirstHours
 pub mod StartUp
 pub mod Accepted
+pub mod Whole
+pub mod Fits
 pub mod Answers
 pub mod Limits
 pub mod Refusals

@@ -16,4 +16,5 @@ pub mod Solves
 pub mod Hour
 pub mod Check
 pub mod Format
+pub mod Temperatures
 pub mod Record

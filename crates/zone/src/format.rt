@@ -8,3 +8,4 @@ pub mod head;
 pub mod layout;
 pub mod limits;
 pub mod read_conditions;
+pub mod temperatures;

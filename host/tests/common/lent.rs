@@ -189,6 +189,25 @@ pub fn limited_append(
     }
 }
 
+/// A question about a book: what it answers, and what stands in the place of the hour after it.
+pub fn first_above(bytes: &[u8], value: f64) -> (u32, u64) {
+    let mut hour = MARK_COUNT;
+    let answer = unsafe { hem_first_above(bytes.as_ptr(), bytes.len(), value, &mut hour) };
+    (answer, hour)
+}
+
+pub fn hours_within(bytes: &[u8], lower: f64, upper: f64) -> (u32, u64) {
+    let mut hours = MARK_COUNT;
+    let answer = unsafe { hem_hours_within(bytes.as_ptr(), bytes.len(), lower, upper, &mut hours) };
+    (answer, hours)
+}
+
+pub fn nearest_hour(bytes: &[u8], value: f64) -> (u32, u64) {
+    let mut hour = MARK_COUNT;
+    let answer = unsafe { hem_nearest_hour(bytes.as_ptr(), bytes.len(), value, &mut hour) };
+    (answer, hour)
+}
+
 pub fn take_up(bytes: &[u8], lent: &mut Lent) -> u32 {
     unsafe {
         hem_take_up(

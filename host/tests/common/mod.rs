@@ -3,6 +3,7 @@
 pub mod hours;
 pub mod plant;
 pub mod table;
+pub mod warm;
 
 use hem_zone::samples::{hour_p, house_p};
 use std::fs;

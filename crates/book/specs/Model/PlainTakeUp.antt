@@ -8,7 +8,7 @@ use Rattle.zone.specs.Promise.{Result, ok, refused, bind}
 use Rattle.book.specs.Numbers.{bookFull, falseEntry}
 use Rattle.book.specs.Model.Bytes.{fromOption, equalBytes, firstBelow}
 use Rattle.book.specs.Model.Interface.{Interface, Written}
-use Rattle.book.specs.Model.Plain.{Plain, book, entriesOf, lastState}
+use Rattle.book.specs.Model.Plain.{Plain, empty, book, Contents, entriesOf, contentsOf, lastState}
 
 module _ (L : Interface) (z : L .Zone) where
   -- the length of the whole entry with which a rest begins; 0 where it begins with none
@@ -70,3 +70,12 @@ module _ (L : Interface) where
       bind (L .startUp (h .zone)) λ s.
       bind (testEntries L (h .zone) s (drop (h .length) bytes)) λ _.
       ok (book (take (h .length) bytes) (itemsIn L (h .zone) (drop (h .length) bytes)))
+
+  -- what belongs to the plain book that bytes are taken up as: its zone, start-up's state, and its items with their entries and the states after them
+  -- (a take-up gives no empty one, which has no head)
+  abbrev pub contentsHeld : Plain (L .Item) → Result (Contents L)
+  contentsHeld empty = contentsOf L [] []
+  contentsHeld (book head is) = contentsOf L head is
+
+  unfoldable pub contentsIn : (bytes : List ℕ) → Result (Contents L)
+  contentsIn bytes = bind (takeUpPlain bytes) contentsHeld

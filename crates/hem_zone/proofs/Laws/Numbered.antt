@@ -1,16 +1,17 @@
--- Every refusal of the papers has a number from 1 to 19 and an index of at most 8,783: family by family.
+-- Every refusal of the papers has a number from 1 to 20 and an index of at most 8,783: family by family.
 use Prim.Native.Nat.{ℕ, _≤_}
 use borrow.Author.Needs.{needs}
 use Rattle.zone.specs.Promise.{SolveRefusal, solveDivisor, solveTemperature}
 use Rattle.zone.specs.Claims.HeadRefusals as Head
 use Rattle.zone.specs.Claims.Refusals as Zone
 use Rattle.book.specs.Refusals as Book
+use Rattle.tools.specs.Refusals.{QuestionRefusal, questionTakeUp, questionInvalid}
 use Rattle.hem_zone.specs.Claims.{AfterHead, ofHead, ofCall}
 
 -- a refusal of the papers
 pub record Numbered (number index : ℕ) : Type 0 where
   pub from-1 : 1 ≤ number
-  pub to-19 : number ≤ 19
+  pub to-20 : number ≤ 20
   pub few : index ≤ 8783
 
 solve-numbered : (n i : ℕ) → SolveRefusal n i → Numbered n i
@@ -85,6 +86,10 @@ take-up-numbered n i (Book.takeUpHead p) = head-numbered n i p
 take-up-numbered n i (Book.takeUpStartUp p) = start-up-numbered n i p
 take-up-numbered n i Book.takeUpBookFull = search needs
 take-up-numbered n i (Book.takeUpFalseEntry entry h) = search needs
+
+pub question-numbered : (n i : ℕ) → QuestionRefusal n i → Numbered n i
+question-numbered n i (questionTakeUp p) = take-up-numbered n i p
+question-numbered n i questionInvalid = search needs
 
 pub after-head-numbered : {P : ℕ → ℕ → Type 0} → ((n i : ℕ) → P n i → Numbered n i) → (n i : ℕ) → AfterHead P n i → Numbered n i
 after-head-numbered numbered n i (ofHead p) = head-numbered n i p

@@ -23,6 +23,21 @@ module _ {A : Type 0} where
       let e : a + (b - a) ≡ b = omega arith in
       rw e at (keeps P f (b - a) a s (λ j t u v q. step j t u (omega arith) q) p)
 
+  -- what every turn keeps, whatever its number
+  module _ (P : A → Type 0) (f : ℕ → A → A) (turn : (j : ℕ) (s : A) → P s → P (f j s)) where
+    stays : (n i : ℕ) (s : A) → P s → P (repeatOf n i f s)
+    unfolding repeatOf
+    stays zero i s p = p
+    stays (suc n) i s p = stays n (suc i) (f i s) (turn i s p)
+
+    pub repeat-stays : (a b : ℕ) (s : A) → P s → P (repeat a b f s)
+    repeat-stays a b s p = stays (b - a) a s p
+
+    pub down-stays : (n : ℕ) (s : A) → P s → P (repeatDown n f s)
+    unfolding repeatDown
+    down-stays zero s p = p
+    down-stays (suc n) s p = down-stays n (f n s) (turn n s p)
+
   -- the last turn apart
   last-of : (f : ℕ → A → A) (n i : ℕ) (s : A) → repeatOf (suc n) i f s ≡ f (i + n) (repeatOf n i f s)
   unfolding repeatOf

@@ -31,7 +31,7 @@ use Rattle.zone.proofs.Laws.Zones.{node-count-le}
 use Rattle.solver.specs.Numbers as SolveNumber
 
 -- a test of every number of a range, at one of them
-all-at : (n i : ℕ) (test : ℕ → Bool) → allOf n i test ≡ true → (k : ℕ) → i ≤ k → k < i + n → test k ≡ true
+pub all-at : (n i : ℕ) (test : ℕ → Bool) → allOf n i test ≡ true → (k : ℕ) → i ≤ k → k < i + n → test k ≡ true
 unfolding allOf
 all-at zero i test e k l m = absurd (omega arith)
 all-at (suc n) i test e k l m =
@@ -67,7 +67,7 @@ within count twoNodes t h =
       air = both .0;
     }
 
-at-most-twice : (n : ℕ) → atMost24 (atMost24 n) ≡ atMost24 n
+pub at-most-twice : (n : ℕ) → atMost24 (atMost24 n) ≡ atMost24 n
 at-most-twice n = let h = at-most-24-le n in rw (le-ltb 24 (atMost24 n) h) refl
 
 -- an accepted step keeps the bound

@@ -55,7 +55,7 @@ module _ (twoNodes : List Bool) where
   pub nodes-are : (e : ℕ) → nodesAt twoNodes e ≡ cond (getD twoNodes e false) 2 5
   nodes-are e = nodes-by e (getD twoNodes e false)
 
-  slot-le : (e : ℕ) → outerSlot twoNodes e ≤ 5 * e + 3
+  pub slot-le : (e : ℕ) → outerSlot twoNodes e ≤ 5 * e + 3
   slot-le e = slot-by e (getD twoNodes e false)
 
   pub nodes-le : (e : ℕ) → nodesAt twoNodes e ≤ 5
@@ -148,7 +148,7 @@ module _ (twoNodes : List Bool) where
     unfolding toNodes
     to-nodes-length s = simp length-set (nodes-length s)
 
-    to-nodes-behind : (s : List Float) (q : ℕ) → firstNode twoNodes (atMost24 count) < q → q < 121
+    pub to-nodes-behind : (s : List Float) (q : ℕ) → firstNode twoNodes (atMost24 count) < q → q < 121
         → getD (toNodes count twoNodes s) q nan ≡ zero64
     unfolding toNodes
     to-nodes-behind s q h hq =

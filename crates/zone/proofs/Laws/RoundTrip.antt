@@ -1,18 +1,21 @@
--- Bytes that were read, written again.
+-- Bytes that were read, written again; and values that were written, read back.
 use Prim.Native.Nat.{ℕ, suc, zero, _+_, _*_, _/_, _%_, _^_, _<_, _≤_}
 use mathlib.Core.Path.{_≡_, refl, ap, _∙_}
 use mathlib.Core.Bool.{Bool, true, false, not, _&&_}
-use mathlib.Core.List.{List, [], _∷_, _++_}
+use mathlib.Core.List.{List, [], _∷_, _++_, append-assoc}
 use native.Mathlib.Omega.{arith, pow-step}
+use native.Mathlib.Nat.{div-add-mod'}
 use lib.Dec.{T}
-use lib.ListN.{take, drop, length, getD, length-drop}
-use lib.Seq.{take-suc, getD-drop, take-add, drop-drop, drop-cons}
-use lib.Ieee.{Float, nan, inf, fin, binary64, isNan, le, lt, eq}
-use lib.Ieee.Bits.{toBits-ofBits}
-use Rattle.zone.specs.Format.Bytes.{Bytes, bigEndianFrom, bigEndian, numAt, floatAt, bytesOf}
+use lib.ListN.{take, drop, length, getD, length-append, length-drop}
+use lib.Seq.{take-at, drop-at, take-suc, getD-drop, take-add, drop-drop, drop-cons}
+use lib.Ieee.{Float, nan, inf, fin, binary64, isNan, le, lt, eq, ofBits, toBits, fits}
+use lib.Ieee.Bits.{toBits-ofBits, ofBits-toBits, toBits-lt}
+use Rattle.zone.specs.Format.Bytes.{Bytes, bigEndianFrom, bigEndian, numAt, floatAt, bytesOf, floatSize}
 use Rattle.zone.specs.Format.Decode.{floatsAt}
 use Rattle.zone.specs.Format.Encode.{floatBytes, rowBytes}
 use Rattle.solver.proofs.Laws.Tests.{and-true}
+use Rattle.solver.proofs.Laws.Fits.{AllFit}
+use Rattle.zone.proofs.Claims.ForBook.{length-bytesOf}
 
 pub bigEndian-snoc : (n : ℕ) (bs : List ℕ) (b : ℕ) → bigEndianFrom n (bs ++ (b ∷ [])) ≡ bigEndianFrom n bs * 256 + b
 unfolding bigEndianFrom
@@ -81,3 +84,36 @@ row-part s b at zero h x = refl
 row-part s b at (suc k) h x =
     let e : 8 * suc k ≡ 8 + 8 * k = omega arith in
     rw (e, part-add s at 8 (8 * k), float-part s b at (omega arith) (x .0), row-part s b (at + 8) k (omega arith) (x .1))
+
+-- ---- and back
+
+-- a number that its bytes hold is read back
+pub number-back : (k n : ℕ) → n < 256 ^ k → bigEndian (bytesOf k n) ≡ n
+unfolding bigEndianFrom bytesOf
+number-back zero n h = omega arith
+number-back (suc k) n h =
+    let small : n / 256 < 256 ^ k = omega (arith, pow-step 256 k) in
+    bigEndian-snoc 0 (bytesOf k (n / 256)) (n % 256) ∙ ap (λ (m : ℕ). m * 256 + n % 256) (number-back k (n / 256) small) ∙ div-add-mod' n 256
+
+-- and so is a float, a NaN too, behind any bytes and before any
+pub float-back : (front rest : List ℕ) (at : ℕ) (x : Float) → length front ≡ at → T (fits binary64 x) → floatAt (front ++ (floatBytes x ++ rest)) at ≡ x
+float-back front rest at x l h =
+    ap (λ (bs : List ℕ). ofBits binary64 (bigEndian (take floatSize bs))) (drop-at front (floatBytes x ++ rest) at l)
+    ∙ ap (λ (bs : List ℕ). ofBits binary64 (bigEndian bs)) (take-at (floatBytes x) rest floatSize (length-bytesOf floatSize (toBits binary64 x)))
+    ∙ ap (ofBits binary64) (number-back floatSize (toBits binary64 x) (toBits-lt binary64 x h))
+    ∙ ofBits-toBits binary64 x h
+
+-- and floats one after the other
+pub row-back : (front : List ℕ) (xs : List Float) (rest : List ℕ) (at : ℕ) → length front ≡ at → AllFit xs
+    → floatsAt (front ++ (rowBytes xs ++ rest)) at (length xs) ≡ xs
+unfolding floatsAt rowBytes
+row-back front [] rest at l h = refl
+row-back front (x ∷ xs) rest at l h =
+    let bs = floatBytes x in
+    let whole : front ++ ((bs ++ rowBytes xs) ++ rest) ≡ front ++ (bs ++ (rowBytes xs ++ rest)) = rw (append-assoc bs (rowBytes xs) rest) refl in
+    let moved : front ++ (bs ++ (rowBytes xs ++ rest)) ≡ (front ++ bs) ++ (rowBytes xs ++ rest) = rw (append-assoc front bs (rowBytes xs ++ rest)) refl in
+    let long : length (front ++ bs) ≡ at + floatSize = omega (arith, length-append front bs, length-bytesOf floatSize (toBits binary64 x)) in
+    rw whole
+    (ap (λ (y : Float). y ∷ floatsAt (front ++ (bs ++ (rowBytes xs ++ rest))) (at + floatSize) (length xs)) (float-back front (rowBytes xs ++ rest) at x l (h 0))
+    ∙ ap (λ (b : List ℕ). x ∷ floatsAt b (at + floatSize) (length xs)) moved
+    ∙ ap (λ (ys : List Float). x ∷ ys) (row-back (front ++ bs) xs rest (at + floatSize) long (λ i. h (suc i))))

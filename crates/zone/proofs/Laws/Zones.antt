@@ -94,7 +94,7 @@ module _ (z : Zone) where
       let same : nodesOf (take (z .count) (z .«building_elements»)) ≡ nodesOf (take (atMost24 (z .count)) (z .«building_elements»)) = rw e refl in
       omega (arith, k, same)
 
-module _ (z : Zone) (whole : length (z .«building_elements») ≡ 24) where
+module _ (z : Zone) (whole : atMost24 (z .count) ≤ length (z .«building_elements»)) where
   first-is : (e : ℕ) → e ≤ atMost24 (z .count) → firstNode (zoneTwoNodes z) e ≡ nodesOf (take e (z .«building_elements»))
   unfolding firstNode nodesOf numberOfNodes
   first-is zero h = refl

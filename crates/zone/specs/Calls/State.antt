@@ -37,8 +37,12 @@ slotsOf z s = toSlots (z .count) (zoneTwoNodes z) (s .temps)
 unfoldable pub stateOf : Zone → List Float → State
 stateOf z t = record { nodes = nodeCount z; temps = toNodes (z .count) (zoneTwoNodes z) t }
 
+-- the operative temperature of node temperatures, whatever they are
+unfoldable pub operativeOf : Zone → (temps : List Float) → Float
+operativeOf z temps = tempOperative z (toSlots (z .count) (zoneTwoNodes z) temps)
+
 -- `temp_operative`, of a state that passes the tests
 unfoldable pub operative : Zone → State → Result Float
 operative z s =
     bind (zoneAndStateTest z s) λ _.
-    ok (tempOperative z (slotsOf z s))
+    ok (operativeOf z (s .temps))

@@ -1,9 +1,8 @@
 // The operative temperature of a state.
 use crate::calls::state::OperativeReply;
 use crate::calls::state::State;
-use crate::calls::state::slots_of;
 use crate::check::arguments::zone_and_state_test;
-use crate::physics::operative::temp_operative;
+use crate::physics::operative::operative_of;
 use crate::record::zone_record::Verdict;
 use crate::record::zone_record::ZoneFront;
 ghost use mathlib.Core.Path.{_≡_};
@@ -24,8 +23,8 @@ impl State {
         match verdict {
             Verdict::Refused { number, index } => OperativeReply::Refused { number, index },
             Verdict::Accepted => {
-                let t = slots_of(z, codes, values, self);
-                OperativeReply::Accepted(temp_operative(z, codes, values, &t))
+                let t = self.temps;
+                OperativeReply::Accepted(operative_of(z, codes, values, &t))
             }
         }
     }

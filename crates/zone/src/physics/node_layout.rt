@@ -12,8 +12,8 @@ ghost use Rattle.zone.specs.Physics.Slots.{withTerms};
 ghost use Rattle.zone.specs.Physics.System.{twoNodesOf, zoneTwoNodes};
 ghost use Rattle.zone.specs.Physics.NodeLayout.{copyNodes, toSlots, toNodes};
 
-fn nodes_of(two_nodes: bool) -> usize
-    ensures { λ r. ⌜ (r ≡ cond «two_nodes» 2 5) × (r ≤ 5) ⌝ }
+pub fn nodes_of(two_nodes: bool) -> usize
+    ensures { λ r. ⌜ (r ≡ cond «two_nodes» 2 5) × (r ≤ 5) × (1 ≤ r) ⌝ }
 {
     if two_nodes { 2 } else { 5 }
 }

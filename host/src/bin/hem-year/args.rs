@@ -1,6 +1,6 @@
 //! The words of a command line. Options may stand anywhere, with their value behind a space or `=`;
 //! `--` ends them. What each command takes is told by `commands.rs`.
-use crate::commands::{Command, COMMANDS, FLAGS, NUMBER, VALUED};
+use crate::commands::{Command, Valued, COMMANDS, FLAGS, NUMBER, VALUED};
 use crate::failure::Failure;
 use crate::words::grouped;
 use hem_zone::text::read_number;
@@ -28,7 +28,7 @@ pub struct Words {
 /// The options as they are given, without their hyphens.
 #[derive(Default)]
 struct Options {
-    values: Vec<(&'static str, OsString)>,
+    values: Vec<(&'static str, Vec<OsString>)>,
     flags: Vec<&'static str>,
     help: bool,
     version: bool,
@@ -93,9 +93,9 @@ fn split(args: Vec<OsString>) -> Result<(Vec<OsString>, Options), Failure> {
             Arg::Short(letter) => return Err(no_option(&places, &format!("-{letter}"))),
             Arg::Long(name) => match known(name) {
                 Some(Known::Flag(name)) => options.flags.push(name),
-                Some(Known::Valued(name, what)) => {
-                    let value = value_of(&mut parser, &places, name, what)?;
-                    options.values.push((name, value));
+                Some(Known::Valued(option)) => {
+                    let values = values_of(&mut parser, &places, option)?;
+                    options.values.push((option.name, values));
                 }
                 None => return Err(no_option(&places, &format!("--{name}"))),
             },
@@ -106,30 +106,38 @@ fn split(args: Vec<OsString>) -> Result<(Vec<OsString>, Options), Failure> {
 
 enum Known {
     Flag(&'static str),
-    Valued(&'static str, &'static str),
+    Valued(&'static Valued),
 }
 
 fn known(name: &str) -> Option<Known> {
     let flag = FLAGS.iter().find(|flag| **flag == name).map(|flag| Known::Flag(flag));
-    let valued = || VALUED.iter().find(|(valued, _)| *valued == name);
-    flag.or_else(|| valued().map(|(valued, what)| Known::Valued(valued, what)))
+    let valued = || VALUED.iter().find(|valued| valued.name == name);
+    flag.or_else(|| valued().map(Known::Valued))
 }
 
-/// The value of an option: behind `=`, or the next word unless that looks like an option. A number below 0
-/// does not, where a number is asked for.
-fn value_of(
+/// The values of an option: the first behind `=`, each other the next word unless that looks like an option.
+/// A number below 0 does not, where a number is asked for.
+fn values_of(
     parser: &mut lexopt::Parser,
     places: &[OsString],
-    name: &str,
-    what: &str,
-) -> Result<OsString, Failure> {
-    if let Some(value) = parser.optional_value() {
-        return Ok(value);
+    Valued { name, what, count }: &Valued,
+) -> Result<Vec<OsString>, Failure> {
+    let mut values: Vec<OsString> = parser.optional_value().into_iter().collect();
+    while values.len() < *count {
+        match parser.value() {
+            Ok(word) if !is_option(&word) || *what == NUMBER && is_below_0(&word) => {
+                values.push(word)
+            }
+            _ if *count == 1 => {
+                return Err(wrong(named(places), format_args!("--{name} needs a {what}")));
+            }
+            _ => {
+                let text = format!("--{name} needs {count} {what}s, one behind the other");
+                return Err(wrong(named(places), text));
+            }
+        }
     }
-    match parser.value() {
-        Ok(word) if !is_option(&word) || what == NUMBER && is_below_0(&word) => Ok(word),
-        _ => Err(wrong(named(places), format_args!("--{name} needs a {what}"))),
-    }
+    Ok(values)
 }
 
 fn is_option(word: &OsStr) -> bool {
@@ -137,7 +145,7 @@ fn is_option(word: &OsStr) -> bool {
 }
 
 fn is_below_0(word: &OsStr) -> bool {
-    matches!(word.as_encoded_bytes(), [b'-', b'0'..=b'9', ..])
+    matches!(word.as_encoded_bytes(), [b'-', b'0'..=b'9' | b'.', ..])
 }
 
 fn named(places: &[OsString]) -> Option<&'static Command> {
@@ -188,7 +196,9 @@ impl Words {
         }
         let words = expected.iter().map(|name| name.to_string()).zip(&self.places);
         let options = self.options.values.iter();
-        let values = options.map(|(name, value)| (format!("--{name}"), value));
+        let values = options.flat_map(|(name, values)| {
+            values.iter().map(move |value| (format!("--{name}"), value))
+        });
         match words.chain(values).find(|(_, word)| word.is_empty()) {
             Some((name, _)) => Err(self.wrong(format_args!("the word for {name} is empty"))),
             None => Ok(()),
@@ -217,9 +227,18 @@ impl Words {
 
     /// The number of an option, a decimal.
     pub fn decimal_of(&self, option: &str) -> Result<Option<f64>, Failure> {
-        let Some(word) = self.value(option) else { return Ok(None) };
+        self.value(option).map(|word| self.decimal(option, word)).transpose()
+    }
+
+    /// The two numbers of an option, decimals.
+    pub fn two_decimals_of(&self, option: &str) -> Result<Option<[f64; 2]>, Failure> {
+        let [first, second] = self.values(option) else { return Ok(None) };
+        Ok(Some([self.decimal(option, first)?, self.decimal(option, second)?]))
+    }
+
+    fn decimal(&self, option: &str, word: &OsStr) -> Result<f64, Failure> {
         let fault = match word.to_str().and_then(read_number) {
-            Some(number) if number.is_finite() => return Ok(Some(number)),
+            Some(number) if number.is_finite() => return Ok(number),
             Some(_) => "beyond every number that can be held",
             None => "which is not a number",
         };
@@ -242,8 +261,13 @@ impl Words {
 
     /// The value of an option.
     pub fn value(&self, option: &str) -> Option<&OsStr> {
+        self.values(option).first().map(OsString::as_os_str)
+    }
+
+    /// The values of an option, none where it is not given.
+    fn values(&self, option: &str) -> &[OsString] {
         let found = self.options.values.iter().find(|(name, _)| *name == option);
-        found.map(|(_, value)| value.as_os_str())
+        found.map_or(&[], |(_, values)| values)
     }
 
     /// The file of an option.
@@ -261,6 +285,17 @@ impl Words {
         match self.has(flag) && self.value(option).is_none() {
             true => Err(self.wrong(format_args!("--{flag} is of use only with --{option}"))),
             false => Ok(()),
+        }
+    }
+
+    /// At least one of these options must be given.
+    pub fn needs_one_of(&self, options: [&str; 3]) -> Result<(), Failure> {
+        match options.iter().any(|option| self.value(option).is_some()) {
+            true => Ok(()),
+            false => {
+                let [a, b, c] = options;
+                Err(self.wrong(format_args!("--{a}, --{b} or --{c} is needed")))
+            }
         }
     }
 

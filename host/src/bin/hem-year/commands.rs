@@ -12,16 +12,32 @@ pub struct Command {
 /// What the value of an option is, where it is a number.
 pub const NUMBER: &str = "number";
 
-/// Options that take a value, and what it is.
-pub const VALUED: &[(&str, &str)] = &[
-    ("csv", "file"),
-    ("svg", "file"),
-    ("name", "name"),
-    ("head", "file"),
-    ("hour", NUMBER),
-    ("entry-version", NUMBER),
-    ("heating-limit", NUMBER),
-    ("cooling-limit", NUMBER),
+/// An option that takes values.
+pub struct Valued {
+    pub name: &'static str,
+    /// What each value is.
+    pub what: &'static str,
+    /// How many there are.
+    pub count: usize,
+}
+
+const fn valued(name: &'static str, what: &'static str) -> Valued {
+    Valued { name, what, count: 1 }
+}
+
+/// Options that take values.
+pub const VALUED: &[Valued] = &[
+    valued("csv", "file"),
+    valued("svg", "file"),
+    valued("name", "name"),
+    valued("head", "file"),
+    valued("hour", NUMBER),
+    valued("entry-version", NUMBER),
+    valued("heating-limit", NUMBER),
+    valued("cooling-limit", NUMBER),
+    valued("above", NUMBER),
+    Valued { name: "within", what: NUMBER, count: 2 },
+    valued("nearest", NUMBER),
 ];
 
 /// Options that take none.
@@ -54,6 +70,12 @@ pub const COMMANDS: &[Command] = &[
         options: &["csv", "svg", "name", "head", "balance", "nodes", "force"],
         help: REPORT,
     },
+    Command {
+        name: "warm",
+        places: &["BOOK"],
+        options: &["above", "within", "nearest"],
+        help: WARM,
+    },
     Command { name: "show", places: &["FILE"], options: &["hour", "hours", "head"], help: SHOW },
     Command {
         name: "cut",
@@ -70,6 +92,7 @@ hem-year: the heating and cooling of a house, hour by hour
   hem-year check HOUSE HOURS         lists all faults of a house and its hours
   hem-year run HOUSE HOURS BOOK      calculates the hours of a year into a book
   hem-year report BOOK               prints its totals and highest loads, as text, table and drawing
+  hem-year warm BOOK                 says when it got warm, and for how many hours
   hem-year cut BOOK HOURS NEW        keeps the first hours of a book
   hem-year house HOUSE.toml HEAD     makes the bytes of a house
   hem-year hours HOURS.csv YEAR      makes the bytes of its hours
@@ -169,10 +192,11 @@ hem-year report BOOK [--csv FILE [--balance] [--nodes]] [--svg FILE]
                      [--head HOUSE] [--name NAME] [--force]
 
 Calculates the hours of BOOK again and prints totals, kWh/m², a table of months, the ten hours of
-greatest heating and cooling load, how many entries are of which version, and the fingerprints
-(SHA-256) of head, conditions and book. Two prints with one fingerprint are of one book. Of hours
-with the limits of a plant it prints for how long each limit held, by month too, the ten hours that
-left most unmet, what was delivered, and how cold or warm it was in these hours.
+greatest heating and cooling load, for how long the operative temperature was above 26 and 28 °C, how
+many entries are of which version, and the fingerprints (SHA-256) of head, conditions and book. Two
+prints with one fingerprint are of one book. Of hours with the limits of a plant it prints for how
+long each limit held, by month too, the ten hours that left most unmet, what was delivered, and how
+cold or warm it was in these hours.
 
   --csv FILE   writes the hours as a table: number, beginning, length, all that was given for the hour,
                entry version, demand, air change rate and temperatures; where hours have limits, these,
@@ -188,6 +212,22 @@ left most unmet, what was delivered, and how cold or warm it was in these hours.
 An hour that is damaged is found, because it is not what its conditions give. What cannot be found
 is a changed condition, entry version or limit that has no effect in its hour (as a cooling
 setpoint in winter): that is another true book, and has another fingerprint.
+";
+
+const WARM: &str = "\
+hem-year warm BOOK [--above T] [--within LOW HIGH] [--nearest T]
+
+Calculates the hours of BOOK again and says when it got warm, by their operative temperature, °C. At
+least one of the three is needed; each is answered, in this order.
+
+  --above T    the first hour in which the temperature goes from at or below T to above it, with the
+               temperatures before the hour and at its end; before the first hour stands start-up
+  --within LOW HIGH
+               how many hours end within LOW to HIGH, both included, and of how many
+  --nearest T  the hour that ends nearest to T, the earlier of two that are equally near
+
+Hours are named by their number, from 1, and their beginning. T, LOW and HIGH are -1,000,000 to
+1,000,000, below 0 as well (--above -5), and LOW is not above HIGH: others are refused.
 ";
 
 const SHOW: &str = "\

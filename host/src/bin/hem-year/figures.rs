@@ -63,6 +63,11 @@ impl HourFigures {
     }
 }
 
+/// Whether every hour has the length of one, so that hours can be counted by entries.
+pub fn all_an_hour_long(hours: &[HourFigures]) -> bool {
+    hours.iter().all(|hour| hour.length == 1.0)
+}
+
 /// What was before an hour.
 struct Before {
     operative: f64,

@@ -39,6 +39,8 @@ mod svg;
 mod table;
 mod terrace;
 mod version;
+mod warm;
+mod warmth;
 mod weather;
 mod words;
 
@@ -97,6 +99,7 @@ fn command(words: &Words) -> Result<(), Failure> {
             force: words.has("force"),
         }),
         "report" => report(words),
+        "warm" => warm(words),
         other => Err(Failure::usage(format!("{other:?} is not a command"))),
     }
 }
@@ -105,6 +108,16 @@ fn show(words: &Words) -> Result<(), Failure> {
     words.excludes("hours", "hour")?;
     let (hour, hours) = (words.number_of("hour", usize::MAX)?, words.has("hours"));
     show::show(words.path(0), show::Show { hour, hours, house: words.file("head") })
+}
+
+fn warm(words: &Words) -> Result<(), Failure> {
+    words.needs_one_of(["above", "within", "nearest"])?;
+    warm::warm(&warm::Warm {
+        book: words.path(0),
+        above: words.decimal_of("above")?,
+        within: words.two_decimals_of("within")?,
+        nearest: words.decimal_of("nearest")?,
+    })
 }
 
 fn report(words: &Words) -> Result<(), Failure> {

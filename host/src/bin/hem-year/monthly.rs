@@ -3,6 +3,7 @@ use crate::calendar::months;
 use crate::load::{Load, COOLING, HEATING};
 use crate::print::Print;
 use crate::sums::Sums;
+use crate::warmth::THRESHOLDS;
 
 /// A column: three lines of heading, how wide it is, its decimals, and its value.
 struct Column {
@@ -45,11 +46,14 @@ fn columns(sums: &Sums) -> Vec<Column> {
         column(["External", "", "mean °C"], 1, |sums| sums.external.mean()),
         column(["Operative", "", "mean °C"], 1, |sums| sums.operative.mean()),
     ];
+    let warm = THRESHOLDS.iter().enumerate().map(|(place, threshold)| {
+        column([threshold.heading, "", "h"], 1, move |sums| sums.warm[place])
+    });
     let loads = of(&HEATING, |sums| sums.heating_peak)
         .into_iter()
         .chain(of(&COOLING, |sums| sums.cooling_peak));
     let short = [short(&HEATING), short(&COOLING)].into_iter().flatten().flatten();
-    loads.chain(conditions).chain(short).collect()
+    loads.chain(conditions).chain(warm).chain(short).collect()
 }
 
 /// A line for each month that the book reaches, and one for what lies past the year.

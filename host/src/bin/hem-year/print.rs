@@ -1,5 +1,5 @@
 //! What is told of a book: in words, as a table and as a drawing, from one reading of it.
-use crate::figures::{figures, HourFigures};
+use crate::figures::{all_an_hour_long, figures, HourFigures};
 use crate::fingerprint::Fingerprints;
 use crate::sums::Sums;
 use crate::words::{count, length_of_time};
@@ -43,7 +43,7 @@ impl<'a> Print<'a> {
     /// not all an hour long.
     pub fn length(&self) -> String {
         let all = length_of_time(self.sums.length);
-        match self.hours.iter().all(|hour| hour.length == 1.0) {
+        match all_an_hour_long(&self.hours) {
             true => all,
             false => format!("{all} in {}", count(self.hours.len(), "step")),
         }

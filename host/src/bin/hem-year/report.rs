@@ -16,7 +16,8 @@ use crate::sums::{exceeded_for, falling};
 use crate::svg;
 use crate::table::{self, Columns};
 use crate::version::held_by_version_and_rule;
-use crate::words::{count, length_of_time};
+use crate::warmth;
+use crate::words::{count, length_of_time, unfinished};
 use hem_zone::text::Plan;
 use hem_zone::Book;
 use std::fmt::Write;
@@ -95,17 +96,12 @@ fn targets_must_be_apart(given: &Report) -> Result<(), Failure> {
 
 fn text(path: &Path, print: &Print, torn: usize) -> String {
     let mut text = title(path, print);
-    if torn > 0 {
-        let last = match torn {
-            1 => "byte is".into(),
-            _ => format!("{} are", count(torn, "byte")),
-        };
-        let _ = writeln!(text, "The last {last} an unfinished hour, which is not counted.");
-    }
+    text += &unfinished(torn);
     if !print.hours.is_empty() {
         text.push('\n');
         text += &totals(print);
         text += &extremes(&print.hours);
+        let _ = writeln!(text, "Warm       {}", warmth::in_words(&print.sums));
         let _ = writeln!(text, "Entries    {}", held_by_version_and_rule(print.book));
         text += &plant_text::plant(&print.hours);
         text += &monthly(print);

@@ -2,6 +2,7 @@
 //! by the number of entries.
 use crate::figures::HourFigures;
 use crate::plant::PlantHour;
+use crate::warmth::THRESHOLDS;
 use hem_zone::HeldLimit;
 
 /// Sums, extremes and means of hours, or of the parts of hours that lie in a time.
@@ -21,6 +22,8 @@ pub struct Sums {
     pub cooling_peak: f64,
     pub external: Spread,
     pub operative: Spread,
+    /// Time above each threshold of warmth, hours.
+    pub warm: [f64; THRESHOLDS.len()],
     /// Where a plant of limited power was too small.
     pub heating_short: Short,
     pub cooling_short: Short,
@@ -51,6 +54,9 @@ impl Sums {
         self.cooling_peak = self.cooling_peak.max(hour.cooling_power());
         self.external.add(hour.external, length);
         self.operative.add(hour.operative, length);
+        for (time, threshold) in self.warm.iter_mut().zip(&THRESHOLDS) {
+            *time += time_if(hour.operative > threshold.temperature);
+        }
         if let Some(plant) = &hour.plant {
             self.heating_short.add(plant, HeldLimit::Heating, length, share);
             self.cooling_short.add(plant, HeldLimit::Cooling, length, share);
@@ -136,6 +142,13 @@ mod tests {
         assert_eq!(sums.operative.mean(), (2.5 + 40.0 + 22.5) / 3.0);
         assert_eq!(sums.external.mean(), (1.25 + 20.0 + 11.25) / 3.0);
         assert_eq!((sums.operative.low, sums.operative.high), (10.0, 30.0));
+    }
+
+    #[test]
+    fn an_hour_at_a_threshold_is_not_above_it() {
+        let temperatures = [26.0, 26.0_f64.next_up(), 28.0, 28.0_f64.next_up(), -30.0];
+        let hours = temperatures.map(|operative| hour(0.0, 0.5, 0.0, operative));
+        assert_eq!(Sums::of(&hours).warm, [1.5, 0.5]);
     }
 
     #[test]

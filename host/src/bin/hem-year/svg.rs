@@ -10,6 +10,7 @@ use crate::print::{Print, PROGRAM};
 use crate::report::delivered;
 use crate::sums::{falling, Spread, Sums};
 use crate::version::held_by_version;
+use crate::warmth;
 
 const WIDTH: f64 = 1200.0;
 const HEIGHT: f64 = 1332.0;
@@ -38,7 +39,7 @@ pub fn draw(print: &Print) -> String {
     let (days, shown) = (Days::of(&print.hours), days_shown(&print.hours) as f64);
     title(&mut canvas, print);
     demand(&mut canvas, &days, shown);
-    temperature(&mut canvas, &days, shown);
+    temperature(&mut canvas, print, &days, shown);
     load_duration(&mut canvas, &print.hours);
     footer(&mut canvas, print);
     canvas.finish(WIDTH, HEIGHT, &heading(print))
@@ -133,7 +134,7 @@ fn bar(canvas: &mut Canvas, frame: &Frame, across: (f64, f64), value: f64, colou
 
 /// For outside and operative temperature the mean of each day, on the band from its lowest to its
 /// highest hour.
-fn temperature(canvas: &mut Canvas, days: &Days, shown: f64) {
+fn temperature(canvas: &mut Canvas, print: &Print, days: &Days, shown: f64) {
     let spreads = || days.held().flat_map(|(_, d)| [&d.external, &d.operative]);
     let low = spreads().map(|s| s.low).fold(f64::INFINITY, f64::min);
     let high = spreads().map(|s| s.high).fold(f64::NEG_INFINITY, f64::max);
@@ -141,7 +142,11 @@ fn temperature(canvas: &mut Canvas, days: &Days, shown: f64) {
         true => Axis::covering(low, high, 8.0),
         false => Axis::covering(0.0, 30.0, 8.0),
     };
-    let keys = [(INSIDE, "operative"), (OUTSIDE, "outside")];
+    let inside = match print.hours.is_empty() {
+        true => "operative".into(),
+        false => format!("operative, {}", warmth::in_short(&print.sums)),
+    };
+    let keys = [(INSIDE, inside.as_str()), (OUTSIDE, "outside")];
     let heading = match days.together {
         1 => "Temperature, °C: mean, lowest and highest hour of each day".into(),
         together => format!("Temperature, °C: mean, lowest and highest hour of {together} days"),

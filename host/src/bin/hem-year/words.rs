@@ -43,6 +43,16 @@ pub fn first_hours(number: usize) -> String {
     }
 }
 
+/// What is said of bytes behind the last whole hour of a book, where there are some.
+pub fn unfinished(bytes: usize) -> String {
+    let last = match bytes {
+        0 => return String::new(),
+        1 => "byte is".into(),
+        _ => format!("{} are", count(bytes, "byte")),
+    };
+    format!("The last {last} an unfinished hour, which is not counted.\n")
+}
+
 /// A length of time in hours, to the thousandth, as `1,227.5`.
 pub fn length(hours: f64) -> String {
     let thousandths = (hours * 1000.0).round() as u64;

@@ -9,7 +9,7 @@ abbrev Inv-loop : tie.InvT-loop
 Inv-loop calls call₀ call = Unit {0}
 
 abbrev μ-loop : tie.MeasureT-loop
-μ-loop calls call₀ call = 10 - call
+μ-loop calls call₀ call = 13 - call
 
 pub print-calls-spec : {M : Type 1} → statement M
 print-calls-spec =

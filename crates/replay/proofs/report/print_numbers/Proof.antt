@@ -9,7 +9,7 @@ abbrev Inv-loop : tie.InvT-loop
 Inv-loop numbers number₀ number = Unit {0}
 
 abbrev μ-loop : tie.MeasureT-loop
-μ-loop numbers number₀ number = 20 - number
+μ-loop numbers number₀ number = 21 - number
 
 pub print-numbers-spec : {M : Type 1} → statement M
 print-numbers-spec =
