@@ -2,11 +2,11 @@
 use Prim.Native.Nat.{ℕ, zero, suc, _-_, _<_}
 use mathlib.Core.Path.{_≡_, refl, sym, ap, _∙_}
 use mathlib.Core.Bool.{Bool, true, false, not, _&&_}
-use mathlib.Core.List.{List}
+use mathlib.Core.List.{List, [], _∷_, map}
 use mathlib.Core.Option.{none, some}
 use native.Mathlib.Omega.{arith}
-use lib.ListN.{length, length-map}
-use lib.Ieee.{Float, neg, le, lt}
+use lib.ListN.{length, length-map, getD}
+use lib.Ieee.{Float, nan, neg, le, lt}
 use Rattle.solver.specs.F64.{decimal}
 use Rattle.solver.specs.Closeness.{withinStateBound}
 use Rattle.zone.specs.Promise.{ok}
@@ -176,9 +176,18 @@ valid-value : (value : Float) → valueValid value ≡ (le (neg (decimal 1000000
 unfolding withinStateBound
 valid-value value = refl
 
+-- an entry of a list, and what is made of it
+map-at : {A B : Type 0} (f : A → B) (l : List A) (i : ℕ) → i < length l → (b : B) (a : A) → getD (map f l) i b ≡ f (getD l i a)
+map-at f [] i h b a = absurd (omega arith)
+map-at f (x ∷ l) zero h b a = refl
+map-at f (x ∷ l) (suc i) h b a = map-at f l i (omega arith) b a
+
 pub question-claims : QuestionClaims
 question-claims =
     record {
+      after-hour = λ c i h a. map-at _ (c .entries) i h nan a;
+      before-first = λ c. refl;
+      before-next = λ c i. refl;
       valid-value = valid-value;
       valid-band = λ lower upper. refl;
       accepted = contents-accepted;

@@ -5,13 +5,14 @@ use mathlib.Core.Logic.{_↔_}
 use mathlib.Core.Bool.{Bool, true, false, not, cond, _&&_}
 use mathlib.Core.List.{List, _++_}
 use mathlib.Core.Option.{none, some}
-use lib.ListN.{length}
+use lib.ListN.{length, getD}
 use lib.Ieee.{Float, neg, lt, le}
 use Rattle.solver.specs.F64.{_-ᶠ_, decimal}
 use Rattle.solver.specs.Closeness.{abs}
 use Rattle.zone.specs.Promise.{ok, refused}
+use Rattle.zone.specs.Calls.State.{operativeOf}
 use Rattle.book.specs.Model.Calls.{BookState, takeUpRes}
-use Rattle.book.specs.Model.Plain.{Contents, lastState, usedBytes, WellFormed}
+use Rattle.book.specs.Model.Plain.{Entry, Contents, lastState, usedBytes, WellFormed}
 use Rattle.book.specs.Model.PlainTakeUp.{contentsIn}
 use Rattle.book.specs.Year.{Carried, entryLength, yearInterface}
 use Rattle.tools.specs.Questions.{hourTemperatures, startTemperature, after, before, valueValid, bandValid, firstAboveIn, hoursWithinIn, nearestHourIn}
@@ -75,6 +76,12 @@ module _ (c : Contents yearInterface) where
 -- ---- of any bytes
 
 pub record QuestionClaims : Type 0 where
+  -- The temperature after an hour is the operative one of the state after its entry; before the first entry "stand the start-up's temperatures", before any
+  -- other the one after the hour before it.
+  pub after-hour : (c : Contents yearInterface) (i : ℕ) → i < hoursHeld c → (none-there : Entry yearInterface)
+      → temperature c i ≡ operativeOf (c .zone) (getD (c .entries) i none-there .after .state .temps)
+  pub before-first : (c : Contents yearInterface) → temperatureBefore c 0 ≡ operativeOf (c .zone) (c .start .state .temps)
+  pub before-next : (c : Contents yearInterface) (i : ℕ) → temperatureBefore c (suc i) ≡ temperature c i
   -- "a value not finite or outside ±1e6 or a band whose lower end is above its upper"
   pub valid-value : (value : Float) → valueValid value ≡ (le (neg (decimal 1000000 0)) value && le value (decimal 1000000 0))
   pub valid-band : (lower upper : Float) → bandValid lower upper ≡ (valueValid lower && valueValid upper && not (lt upper lower))
