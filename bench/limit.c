@@ -78,12 +78,17 @@ static uint32_t demand(const struct hour *h, const struct rate *r, double temp_f
 /* ---- the heat balance ---- */
 
 static void add_element(const struct hour *h, const struct temps *t, size_t e, double *balance) {
+    static const int by_direction[3] = {[HORIZONTAL] = HEM_INT_FABRIC_INT_AIR_CONVECTIVE_HORIZONTAL,
+                                        [UPWARDS] = HEM_INT_FABRIC_INT_AIR_CONVECTIVE_UPWARDS,
+                                        [DOWNWARDS] = HEM_INT_FABRIC_INT_AIR_CONVECTIVE_DOWNWARDS};
     static const int by_kind[6] = {HEM_EXT_OPAQUE_FABRIC_EXT, HEM_EXT_ZTC_FABRIC_EXT,         HEM_EXT_ZTU_FABRIC_EXT,
                                    HEM_EXT_GROUND_FABRIC_EXT, HEM_EXT_TRANSPARENT_FABRIC_EXT, HEM_EXT_ZTU_FABRIC_EXT};
     const double area = h->z.el.area[e], h_ce = h->z.el.h_ce[e], difference = h->c.el.temp_ext[e] - t->node[0][e];
     const double radiative = area * h->z.el.h_re[e] * difference, sky = area * -h->z.el.therm_rad_to_sky[e];
     const double sol = area * h->z.el.solar_absorption_coeff[e] * i_sol(&h->c, e);
-    balance[HEM_INT_FABRIC_INT_AIR_CONVECTIVE] += area * (h->s.h_ci[e] * (t->air - t->node[INNER][e]));
+    const double convective = area * (h->s.h_ci[e] * (t->air - t->node[INNER][e]));
+    balance[HEM_INT_FABRIC_INT_AIR_CONVECTIVE] += convective;
+    balance[by_direction[h->s.direction[e]]] += convective;
     balance[HEM_EXT_FABRIC_EXT_AIR_CONVECTIVE] += area * h_ce * difference;
     balance[HEM_EXT_FABRIC_EXT_AIR_RADIATIVE] += radiative;
     balance[HEM_EXT_FABRIC_EXT_SOL] += sol;
@@ -99,9 +104,10 @@ static void heat_balance(const struct hour *h, double h_ve, double gains, double
     const double bridges = h->z.front.tb_heat_trans_coeff * (t->air - h->c.front.temp_ext_air);
     const double ventilation = h_ve * (t->air - h->c.front.avg_air_supply_temp);
     const double fabric = (solar + internal + system + change) - (bridges + ventilation);
-    const double front[16] = {
+    const double front[19] = {
         solar, internal, system, change, -bridges, -ventilation, -fabric,                                /* air node */
         0.0, (1.0 - 0.1) * gains_solar, (1.0 - 0.4) * gains_internal, (1.0 - fraction) * gains,          /* internal */
+        0.0, 0.0, 0.0, /* internal, by direction of heat flow */
         gains_solar, gains_internal, gains, -bridges, -ventilation};                                     /* external */
     memset(balance, 0, HEM_BALANCE * sizeof *balance);
     memcpy(balance, front, sizeof front);

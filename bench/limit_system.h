@@ -6,11 +6,15 @@
 
 enum { ROWS = MOST + 1 };
 
+/* In which direction heat flows at an inner surface. */
+enum direction { HORIZONTAL, UPWARDS, DOWNWARDS };
+
 /* The equations of an hour. Neighbouring nodes are coupled by -h_pli either way; that sign is taken into the sums
    below, which changes no bit. `dense` has the equations of the inner surfaces and of the air by columns, but for the
    air's own column, in which alone the rate is. */
 struct system {
     double area_el_total, convective, c_int_per_delta_t;
+    enum direction direction[MOST];
     double h_ci[MOST], diag[NODES][MOST], b[NODES][MOST];
     double inner[MOST]; /* what the last step of each chain adds to the inner surface's right side */
     double dense[MOST][ROWS];
@@ -59,17 +63,20 @@ static int valid_divisor(double x) { return (x != 0.0) & (fabs(x) < INFINITY); }
 
 /* ---- the system of an hour ---- */
 
-/* By the direction of heat flow: BS EN ISO 13789, Table 8. */
-static double h_ci_of(double pitch, double temp_int_air, double temp_int_surface) {
-    if (60.0 <= pitch && pitch <= 120.0) return 2.5;
+static enum direction direction_of(double pitch, double temp_int_air, double temp_int_surface) {
+    if (60.0 <= pitch && pitch <= 120.0) return HORIZONTAL;
     const int inwards = temp_int_air < temp_int_surface;
-    return ((120.0 < pitch) & inwards) | ((pitch < 60.0) & !inwards) ? 5.0 : 0.7;
+    return ((120.0 < pitch) & inwards) | ((pitch < 60.0) & !inwards) ? UPWARDS : DOWNWARDS;
 }
+
+/* The coefficient of each direction: BS EN ISO 13789, Table 8. */
+static const double h_ci_of[3] = {[HORIZONTAL] = 2.5, [UPWARDS] = 5.0, [DOWNWARDS] = 0.7};
 
 static void sum_surfaces(struct hour *h) {
     struct sum2 area = {0.0, 0.0}, convective = {0.0, 0.0};
     for (size_t e = 0; e < h->z.n; e++) {
-        h->s.h_ci[e] = h_ci_of(h->z.el.pitch[e], h->before.air, h->before.node[INNER][e]);
+        h->s.direction[e] = direction_of(h->z.el.pitch[e], h->before.air, h->before.node[INNER][e]);
+        h->s.h_ci[e] = h_ci_of[h->s.direction[e]];
         area = sum2_add(area, h->z.el.area[e]);
         convective = sum2_add(convective, h->z.el.area[e] * h->s.h_ci[e]);
     }

@@ -42,8 +42,8 @@ extern "C" {
 #endif
 
 /* The version of this interface: 10000 * major + 100 * minor + patch, and as text. */
-#define HEM_ZONE_VERSION 400
-#define HEM_ZONE_VERSION_TEXT "0.4.0"
+#define HEM_ZONE_VERSION 500
+#define HEM_ZONE_VERSION_TEXT "0.5.0"
 /* The version byte of heads. */
 #define HEM_FORMAT 1
 /* The newest version of entries; hours have 1 to this one. It says how the power that heating or cooling
@@ -71,8 +71,8 @@ extern "C" {
 #define HEM_ENTRIES 8784
 /* The values of a demand. */
 #define HEM_OUT 5
-/* The values of a heat balance: air node 7, internal boundary 4, external boundary 14. */
-#define HEM_BALANCE 25
+/* The values of a heat balance: air node 7, internal boundary 4 + 3, external boundary 14. */
+#define HEM_BALANCE 28
 
 /* ---- sizes in bytes ---- */
 
@@ -252,23 +252,30 @@ enum hem_balance {
     HEM_INT_FABRIC_INT_SOL = 8,
     HEM_INT_FABRIC_INT_INT_GAINS = 9,
     HEM_INT_FABRIC_INT_HEAT_COOL = 10,
+    /* the terms of HEM_INT_FABRIC_INT_AIR_CONVECTIVE, one for each element, by the direction in which heat
+       flowed at its inner surface before the step: horizontal at pitches of 60 to 120 degrees; upwards at a
+       ceiling (below 60) unless the air was colder than the surface, at a floor (above 120) only if it was;
+       else downwards */
+    HEM_INT_FABRIC_INT_AIR_CONVECTIVE_HORIZONTAL = 11,
+    HEM_INT_FABRIC_INT_AIR_CONVECTIVE_UPWARDS = 12,
+    HEM_INT_FABRIC_INT_AIR_CONVECTIVE_DOWNWARDS = 13,
     /* across the zone's outer boundary */
-    HEM_EXT_SOLAR_GAINS = 11,
-    HEM_EXT_INTERNAL_GAINS = 12,
-    HEM_EXT_HEATING_OR_COOLING_SYSTEM_GAINS = 13,
-    HEM_EXT_THERMAL_BRIDGES = 14,
-    HEM_EXT_INFILTRATION_VENTILATION = 15,
-    HEM_EXT_FABRIC_EXT_AIR_CONVECTIVE = 16,
-    HEM_EXT_FABRIC_EXT_AIR_RADIATIVE = 17,
-    HEM_EXT_FABRIC_EXT_SOL = 18,
-    HEM_EXT_FABRIC_EXT_SKY = 19,
+    HEM_EXT_SOLAR_GAINS = 14,
+    HEM_EXT_INTERNAL_GAINS = 15,
+    HEM_EXT_HEATING_OR_COOLING_SYSTEM_GAINS = 16,
+    HEM_EXT_THERMAL_BRIDGES = 17,
+    HEM_EXT_INFILTRATION_VENTILATION = 18,
+    HEM_EXT_FABRIC_EXT_AIR_CONVECTIVE = 19,
+    HEM_EXT_FABRIC_EXT_AIR_RADIATIVE = 20,
+    HEM_EXT_FABRIC_EXT_SOL = 21,
+    HEM_EXT_FABRIC_EXT_SKY = 22,
     /* the same four sums once more, by kind of element (ztc: adjacent conditioned space; ztu: adjacent
        unconditioned space and party walls) */
-    HEM_EXT_OPAQUE_FABRIC_EXT = 20,
-    HEM_EXT_TRANSPARENT_FABRIC_EXT = 21,
-    HEM_EXT_GROUND_FABRIC_EXT = 22,
-    HEM_EXT_ZTC_FABRIC_EXT = 23,
-    HEM_EXT_ZTU_FABRIC_EXT = 24
+    HEM_EXT_OPAQUE_FABRIC_EXT = 23,
+    HEM_EXT_TRANSPARENT_FABRIC_EXT = 24,
+    HEM_EXT_GROUND_FABRIC_EXT = 25,
+    HEM_EXT_ZTC_FABRIC_EXT = 26,
+    HEM_EXT_ZTU_FABRIC_EXT = 27
 };
 
 /* ---- functions ---- */

@@ -16,8 +16,9 @@ greatest number of elements and the start-up limit that stand there. A case and 
     3 f64 own floats: update's gains, fraction and rate; of an hour step of version 3 greatest heating, greatest
           cooling and 0; of the other operations zeros
     u16   count, the values of the answer, each 8 bytes: of a demand heating, cooling, rate, trigger (0 or 1 as an
-          integer), trigger rate; of an update the node temperatures and the 25 values of the heat balance; of
-          start-up the node temperatures; of an hour step all of these
+          integer), trigger rate; of an update the node temperatures and the 28 values of the heat balance (7 of the
+          air node, 4 and 3 of the internal boundary, 14 of the external boundary); of start-up the node
+          temperatures; of an hour step all of these
 
 The Rust's hour is version 1's. Each hour step that it answers with values is also kept as one of version 2, with the
 answer that `in_version_2` (making/oracle.py) gets from the Rust. At least COOLED of them are cooled with two
@@ -27,6 +28,13 @@ limits leave, the total gains with it and their share are calculated there, and 
 temperatures and the balance; demand, rate and trigger are the Rust's own, uncut. Where no limit holds, the answer
 must be that of version 2, which came another way. Numbers of the answers that are no values: see NUMBERS. Left out
 are cases whose values lie beyond a million (13 in the paper, a value in the Rust).
+
+Of the 28 values of a heat balance 25 are the Rust's. The other three, the terms of its convective total summed by
+direction of heat flow (document 02 (d)), are worked out by making/convection.py from the head and from the Rust's own
+node temperatures before and after the step, with the operations in the papers' order; all terms together must give the
+Rust's total, bit for bit. How many cases hold each direction, all three, elements whose direction would be another by
+the temperatures after the step, pitches of 60 and 120, and sums that another order of their terms would change, is
+printed, and there are at least as many of each as HELD (making/direction_cases.py) says.
 
 data/refusals: rows made from the papers' rules alone (document 01, document 02's (a) for entry versions, (b) for limits
 and (c) for the three questions). making/order.py has the papers' tests in the papers' order; the houses that give 12 to

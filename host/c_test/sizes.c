@@ -61,7 +61,8 @@ static int results_stand(House *h, uint64_t nodes, size_t n, uint64_t version, i
     return good;
 }
 
-/* The seven values of the air node add up to zero; the fabric by kind is the fabric by cause. */
+/* The seven values of the air node add up to zero; the fabric by kind is the fabric by cause; what reaches the inner
+   surfaces, all of them upright, does so horizontally. */
 static int balances(const House *h, uint64_t nodes) {
     double temps[HEM_TEMPS], out[HEM_OUT], b[HEM_BALANCE], air = 0, cause = 0, kind = 0;
     for (int i = 0; i < HEM_TEMPS; i++) temps[i] = 20;
@@ -71,7 +72,10 @@ static int balances(const House *h, uint64_t nodes) {
     for (int i = HEM_AIR_SOLAR_GAINS; i <= HEM_AIR_FABRIC_HEAT_LOSS; i++) air += b[i];
     for (int i = HEM_EXT_FABRIC_EXT_AIR_CONVECTIVE; i <= HEM_EXT_FABRIC_EXT_SKY; i++) cause += b[i];
     for (int i = HEM_EXT_OPAQUE_FABRIC_EXT; i <= HEM_EXT_ZTU_FABRIC_EXT; i++) kind += b[i];
-    return fabs(air) < 1e-6 && fabs(cause - kind) < 1e-6 && b[HEM_EXT_OPAQUE_FABRIC_EXT] != 0 &&
+    const int horizontal = b[HEM_INT_FABRIC_INT_AIR_CONVECTIVE_HORIZONTAL] == b[HEM_INT_FABRIC_INT_AIR_CONVECTIVE] &&
+                           b[HEM_INT_FABRIC_INT_AIR_CONVECTIVE] != 0 && b[HEM_INT_FABRIC_INT_AIR_CONVECTIVE_UPWARDS] == 0 &&
+                           b[HEM_INT_FABRIC_INT_AIR_CONVECTIVE_DOWNWARDS] == 0;
+    return horizontal && fabs(air) < 1e-6 && fabs(cause - kind) < 1e-6 && b[HEM_EXT_OPAQUE_FABRIC_EXT] != 0 &&
            b[HEM_EXT_TRANSPARENT_FABRIC_EXT] != 0 && b[HEM_EXT_SOLAR_GAINS] == 100 && b[HEM_EXT_INTERNAL_GAINS] == 300;
 }
 

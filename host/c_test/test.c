@@ -295,6 +295,7 @@ int main(int argc, char **argv) {
     test_sizes();
     test_places();
     test_stack();
+    test_convection();
     if (argc > 1) write_year(argv[1], p, warm);
     test_index(p);
     free(p);

@@ -32,5 +32,7 @@ void give_back(House h);
 void test_sizes(void);
 void test_places(void);
 void test_stack(void);
+/* The convective heat to the inner surfaces by direction. */
+void test_convection(void);
 
 #endif

@@ -9,12 +9,21 @@
 //! as 16 hexadecimal digits, or the original's error. The original shares all power by the heating
 //! fraction, as version 1 does; its answer to 6 is the one that it gives where a cooled hour has the
 //! cooling fraction in the place of the heating fraction, and its answer to 7 that with the limit in the
-//! place of a power beyond it. An answer of the original that the engine refuses with 12 or 13 is no
-//! difference: the original tests for less. Signs of zeros are counted for themselves.
+//! place of a power beyond it. The original's heat balance has 25 values; the convective heat by direction
+//! is worked out from the temperatures of its answer. An answer of the original that the engine refuses with
+//! 12 or 13 is no difference: the original tests for less. Signs of zeros are counted for themselves.
+#[path = "../tests/common/convection.rs"]
+mod convection;
+
+use convection::{by_direction, terms};
 use hem_zone::{
-    Demand, HeatBalance, Limits, Refusal, Rule, State, Zone, ENTRY_VERSION_1, ENTRY_VERSION_2,
+    Demand, Head, HeatBalance, Limits, Refusal, Rule, State, Zone, ENTRY_VERSION_1, ENTRY_VERSION_2,
 };
 use std::process::ExitCode;
+
+/// Values of the original's heat balance, and those of them that stand behind the internal boundary.
+const BALANCE: usize = 25;
+const EXTERNAL: usize = 14;
 
 struct Case<'a> {
     call: u8,
@@ -65,6 +74,19 @@ impl<'a> Case<'a> {
             (7, &[heating, cooling]) => Limits { heating, cooling }.into(),
             _ => ENTRY_VERSION_2.into(),
         }
+    }
+
+    /// What the original answered, in the engine's order.
+    fn stored(&self, line: &str) -> Result<Vec<f64>, &'static [u32]> {
+        let mut values = stored(self.call, line)?;
+        let (before, end) = (self.state.temps(), values.len());
+        let has_balance = matches!(self.call, 2 | 4 | 6 | 7) && end >= before.len() + BALANCE;
+        if let (true, Ok(head)) = (has_balance, Head::from_bytes(self.head)) {
+            let after = &values[end - BALANCE - before.len()..end - BALANCE];
+            let sums = by_direction(&terms(&head, before, after));
+            values.splice(end - EXTERNAL..end - EXTERNAL, sums);
+        }
+        Ok(values)
     }
 
     /// The engine's values, in the order of the answers; a trigger that is absent is a NaN.
@@ -141,8 +163,9 @@ fn same_values(a: &[f64], b: &[f64]) -> bool {
 }
 
 impl Tally {
-    fn add(&mut self, place: usize, engine: Result<Vec<f64>, Refusal>, line: &str, call: u8) {
-        let kind = match (&engine, stored(call, line)) {
+    fn add(&mut self, place: usize, case: &Case, line: &str) {
+        let (engine, call) = (case.ask(), case.call);
+        let kind = match (&engine, case.stored(line)) {
             (Ok(a), Ok(b)) if same_bits(a, &b) => &mut self.same,
             (Ok(a), Ok(b)) if same_values(a, &b) => &mut self.zero_signs,
             (Err(r), Err(numbers)) if numbers.contains(&r.number()) => &mut self.refused_by_both,
@@ -161,7 +184,7 @@ fn replay(cases: &[u8], answers: &str) -> Option<Tally> {
     let mut place = 0;
     while !rest.is_empty() {
         let case = Case::read(&mut rest)?;
-        tally.add(place, case.ask(), lines.next()?, case.call);
+        tally.add(place, &case, lines.next()?);
         place += 1;
     }
     Some(tally)

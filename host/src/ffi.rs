@@ -1,6 +1,6 @@
 //! The C interface as it stands in `include/hem_zone.h`, where each function is described.
 //!
-//! Every pointer must be aligned and valid for the length beside it (121 for `temps`, 5 for `out`, 25
+//! Every pointer must be aligned and valid for the length beside it (121 for `temps`, 5 for `out`, 28
 //! for `balance`), what it leads to must be initialised, and what a call writes may overlap nothing else
 //! that it is given. The calling thread rounds to nearest with denormal numbers, and has 48 KB of stack.
 
@@ -9,7 +9,7 @@ pub const TEMPS: usize = 121;
 /// Length of the array of a demand (`HEM_OUT`).
 pub const OUT: usize = 5;
 /// Length of the array of a heat balance (`HEM_BALANCE`).
-pub const BALANCE: usize = 25;
+pub const BALANCE: usize = 28;
 /// The most entries that a book holds (`HEM_ENTRIES`).
 pub const ENTRIES: usize = 8784;
 /// The newest version of entries (`HEM_NEWEST_ENTRY_VERSION`).

@@ -1,4 +1,5 @@
-//! The heat balance of an hour, W, with the original's names in the original's order.
+//! The heat balance of an hour, W, with the original's names in the original's order; behind the original's
+//! four at the internal boundary the convective total by direction of heat flow.
 use crate::ffi::BALANCE;
 
 macro_rules! balance_part {
@@ -15,7 +16,7 @@ macro_rules! balance_part {
             }
 
             fn read(values: &mut impl Iterator<Item = f64>) -> Self {
-                let mut next = || values.next().expect("25 values");
+                let mut next = || values.next().expect("a value of the balance");
                 Self { $($field: next()),* }
             }
         }
@@ -36,12 +37,16 @@ balance_part!(
 );
 
 balance_part!(
-    /// Heat across the inner surfaces.
+    /// Heat into the inner surfaces. The last three are the terms of the first, one for each element, by the
+    /// direction in which heat flowed at its inner surface before the hour.
     HeatBalanceInternalBoundary {
         fabric_int_air_convective,
         fabric_int_sol,
         fabric_int_int_gains,
         fabric_int_heat_cool,
+        fabric_int_air_convective_horizontal,
+        fabric_int_air_convective_upwards,
+        fabric_int_air_convective_downwards,
     }
 );
 
@@ -97,8 +102,12 @@ mod tests {
         assert_eq!(balance.air_node.solar_gains, 0.0);
         assert_eq!(balance.air_node.fabric_heat_loss, 6.0);
         assert_eq!(balance.internal_boundary.fabric_int_air_convective, 7.0);
-        assert_eq!(balance.external_boundary.solar_gains, 11.0);
-        assert_eq!(balance.external_boundary.ztu_fabric_ext, 24.0);
-        assert_eq!(balance.external_boundary.named()[13], ("ztu_fabric_ext", 24.0));
+        assert_eq!(balance.internal_boundary.fabric_int_heat_cool, 10.0);
+        assert_eq!(balance.internal_boundary.fabric_int_air_convective_horizontal, 11.0);
+        assert_eq!(balance.internal_boundary.fabric_int_air_convective_upwards, 12.0);
+        assert_eq!(balance.internal_boundary.fabric_int_air_convective_downwards, 13.0);
+        assert_eq!(balance.external_boundary.solar_gains, 14.0);
+        assert_eq!(balance.external_boundary.ztu_fabric_ext, 27.0);
+        assert_eq!(balance.external_boundary.named()[13], ("ztu_fabric_ext", 27.0));
     }
 }

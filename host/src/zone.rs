@@ -207,7 +207,7 @@ impl Zone {
         let conditions = &*conditions.conditions_bytes();
         let mut after = before.clone();
         let mut balance = [0.0; ffi::BALANCE];
-        // SAFETY: byte strings are valid for their lengths, the arrays have 121 and 25 floats, and
+        // SAFETY: byte strings are valid for their lengths, the arrays have 121 and 28 floats, and
         // what is written is borrowed from nowhere else.
         let answer = unsafe {
             ffi::hem_update(
@@ -245,7 +245,7 @@ impl Zone {
         let mut after = before.clone();
         let mut out = [0.0; ffi::OUT];
         let mut balance = [0.0; ffi::BALANCE];
-        // SAFETY: byte strings are valid for their lengths, the arrays have 121, 5 and 25 floats,
+        // SAFETY: byte strings are valid for their lengths, the arrays have 121, 5 and 28 floats,
         // and what is written is borrowed from nowhere else.
         let answer = unsafe {
             ffi::hem_hour_step(

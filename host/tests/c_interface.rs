@@ -43,6 +43,10 @@ fn update_of_house_p() {
     assert_eq!((lent.nodes, lent.temps[2]), (3, 21.0));
     assert!(lent.balance.iter().all(|v| *v != MARK));
     assert_eq!(lent.balance[2], 144.0);
+    // The convective heat to the one upright surface, as a whole and by direction.
+    let heat = 2.5 * (21.0 - lent.temps[1]);
+    assert_eq!(lent.balance[7], heat);
+    assert_eq!(lent.balance[11..14], [heat, 0.0, 0.0]);
     refused(Lent::at_twenty(0), 9, |lent| update(&p(), &hour(20.0, 24.0), [0.0, 1.5, 0.0], lent));
 }
 

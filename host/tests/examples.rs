@@ -40,9 +40,9 @@ fn shown(readme: &str, sentence: &str) -> Vec<String> {
     block.map(|line| line.trim().to_string()).filter(|line| !line.is_empty()).collect()
 }
 
-/// Every line that a README shows is one of the report, and there are at least so many.
-fn must_show(readme: &str, report: &str, least: usize) {
-    let lines = shown(&fs::read_to_string(top().join(readme)).unwrap(), OF_THE_REPORT);
+/// Every line that a README shows behind a sentence is one of the report, and there are at least so many.
+fn must_show(readme: &str, sentence: &str, report: &str, least: usize) {
+    let lines = shown(&fs::read_to_string(top().join(readme)).unwrap(), sentence);
     assert!(lines.len() >= least, "{readme} shows {lines:?}");
     for line in lines {
         assert!(
@@ -67,7 +67,8 @@ fn the_drawing_and_the_lines_of_the_readme_are_those_of_the_sample() {
         drawn == kept,
         "examples/terrace.svg is not what ./run draws (target/sample/terrace.svg)"
     );
-    must_show("README.md", &report, 4);
+    must_show("README.md", OF_THE_REPORT, &report, 4);
+    must_show("host/README.md", "Of the sample house it says", &report, 9);
 }
 
 #[test]
@@ -81,14 +82,14 @@ fn the_plants_of_the_readme_are_those_of_the_sample() {
         hem_year(&["report", book, "--head", house])
     };
     let pump = report("3200");
-    must_show("host/README.md", &pump, 9);
+    must_show("host/README.md", OF_THE_REPORT, &pump, 9);
     // Six kilowatts are more than any hour asks for, so the year is the one that the first README shows.
     let six = report("6000");
     assert!(
         six.contains("\nHeating    at most 6,000 W: 2673.5 kWh delivered, 0.0 kWh unmet\n"),
         "{six}"
     );
-    must_show("README.md", &six, 4);
+    must_show("README.md", OF_THE_REPORT, &six, 4);
 }
 
 #[test]

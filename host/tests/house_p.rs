@@ -68,4 +68,13 @@ fn an_hour_ends_at_its_setpoint() {
     assert_eq!(demand.space_heat_demand, 0.144);
     assert_eq!(after.temp_internal_air(), 21.0);
     assert_eq!(balance.air_node.heating_or_cooling_system_gains, 144.0);
+    // The window stands upright: what the air gives to it flows horizontally.
+    let (heat, inside) = (2.5 * (21.0 - after.temps()[1]), balance.internal_boundary);
+    assert_eq!(
+        (inside.fabric_int_air_convective, inside.fabric_int_air_convective_horizontal),
+        (heat, heat)
+    );
+    let others =
+        [inside.fabric_int_air_convective_upwards, inside.fabric_int_air_convective_downwards];
+    assert_eq!(others.map(f64::to_bits), [0; 2]);
 }

@@ -95,7 +95,7 @@ fn no_power_is_0_and_not_minus_0() {
 
 // ---- the drawing ----
 
-const HEIGHT: f64 = 1332.0;
+const HEIGHT: f64 = 1606.0;
 /// Top and bottom of the panel of loads.
 const PANEL: (f64, f64) = (906.0, 1186.0);
 

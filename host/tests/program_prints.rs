@@ -66,7 +66,10 @@ fn the_table_has_every_value_to_the_bit() {
         let step = book.zone().hour_step(&state, entry.conditions_bytes(), entry.version());
         let (after, _, balance) = step.unwrap();
         same("air_node.fabric_heat_loss", balance.air_node.fabric_heat_loss);
-        same("internal_boundary.fabric_int_sol", balance.internal_boundary.fabric_int_sol);
+        let inner = balance.internal_boundary;
+        same("internal_boundary.fabric_int_sol", inner.fabric_int_sol);
+        let across = inner.fabric_int_air_convective_horizontal;
+        same("internal_boundary.fabric_int_air_convective_horizontal", across);
         same("external_boundary.ztu_fabric_ext", balance.external_boundary.ztu_fabric_ext);
         state = after;
     }
@@ -85,7 +88,7 @@ fn the_table_has_other_columns_only_when_they_are_asked_for() {
         table(&folder.text("x.csv")).0.len()
     };
     let plain = columns(&[]);
-    assert_eq!(columns(&["--balance"]), plain + 25);
+    assert_eq!(columns(&["--balance"]), plain + 28);
     assert_eq!(columns(&["--nodes"]), plain + 2);
 }
 

@@ -8,6 +8,7 @@ use Rattle.zone.proofs.Claims.HeadClaims.{head-claims, zone-claims, conditions-
 use Rattle.zone.proofs.Claims.Index.{indices-of-zone}
 use Rattle.zone.proofs.Claims.Refusals.{call-refusals, state-kept}
 use Rattle.zone.proofs.Claims.Versions as Hours
+use Rattle.zone.proofs.Claims.Convection.{yields-direction, update-by-direction, hour-by-direction}
 use Rattle.zone.proofs.Claims.NodeOrder.{node-order}
 use Rattle.zone.proofs.Claims.HouseP.{house-p, claim}
 use Rattle.book.proofs.Demand3.{year-claims}
@@ -47,6 +48,9 @@ demands =
         settled = start-up-settled standardCoefficients z;
         is-settled = start-up-is-settled standardCoefficients z;
         versions = Hours.version-claims standardCoefficients z;
+        directions = yields-direction;
+        update-directions = update-by-direction z;
+        hour-directions = hour-by-direction z;
         kept = state-kept;
         update-state = update-state-tested standardCoefficients z;
         hour-state = hour-state-tested standardCoefficients z;

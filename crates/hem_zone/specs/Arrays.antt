@@ -30,7 +30,7 @@ triggerOut (At ach) = one64 ∷ ach ∷ []
 abbrev pub demandOut : Demand → List Float
 demandOut d = d .«space_heat_demand» ∷ d .«space_cool_demand» ∷ d .«ach_cooling» ∷ triggerOut (d .«ach_to_trigger_heating»)
 
--- `balance[25]`: 7 + 4 + 14 in the Rust's struct order
+-- `balance[28]`: 7 + 4 + 14 in the Rust's struct order, and behind the 4 the convective total's terms by direction
 abbrev pub airNodeOut : HeatBalanceAirNode → List Float
 airNodeOut b =
     b .«solar_gains»
@@ -43,7 +43,15 @@ airNodeOut b =
     ∷ []
 
 abbrev pub internalBoundaryOut : HeatBalanceInternalBoundary → List Float
-internalBoundaryOut b = b .«fabric_int_air_convective» ∷ b .«fabric_int_sol» ∷ b .«fabric_int_int_gains» ∷ b .«fabric_int_heat_cool» ∷ []
+internalBoundaryOut b =
+    b .«fabric_int_air_convective»
+    ∷ b .«fabric_int_sol»
+    ∷ b .«fabric_int_int_gains»
+    ∷ b .«fabric_int_heat_cool»
+    ∷ b .«fabric_int_air_convective_horizontal»
+    ∷ b .«fabric_int_air_convective_upwards»
+    ∷ b .«fabric_int_air_convective_downwards»
+    ∷ []
 
 abbrev pub externalBoundaryOut : HeatBalanceExternalBoundary → List Float
 externalBoundaryOut b =

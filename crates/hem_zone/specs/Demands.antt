@@ -18,6 +18,7 @@ use Rattle.zone.specs.Claims.Refusals.{CallRefusals, IndicesOfZone}
 use Rattle.zone.specs.Claims.DemandClaims.{DemandCallSigns, HourCallSigns}
 use Rattle.zone.specs.Claims.StartUpClaims.{StartUpNotSettled, StartUpIsNotSettled, StartUpSettled, StartUpIsSettled}
 use Rattle.zone.specs.Claims.Versions as Hours
+use Rattle.zone.specs.Claims.Convection.{YieldsDirection, UpdateByDirection, HourByDirection}
 use Rattle.zone.specs.Claims.NodeOrder.{NodeOrder}
 use Rattle.zone.specs.Claims.StateClaims.{StateKept, UpdateStateTested, HourStateTested, StartUpStateTested}
 use Rattle.zone.specs.Claims.Reasons.{DemandReasons, HourReasons, UpdateReasons, StartUpReasons}
@@ -75,6 +76,10 @@ pub record Demand2 (z : Zone) : Type 0 where
   -- version 1's hour is document 01's, version 2's has the cooling fraction for power below 0, version 3's a limit on what is delivered or 19, any other
   -- version is 18,
   pub versions : (s : State) (bytes : List ℕ) → Hours.VersionClaims standardCoefficients z s bytes
+  -- of each accepted update and hour step every term of the convective total stands in exactly one of the three sums by direction, which `h_ci` yields,
+  pub directions : YieldsDirection
+  pub update-directions : UpdateByDirection z
+  pub hour-directions : HourByDirection z
   -- and a state that is handed back is the given one where a call is refused, and is taken by the next call.
   pub kept : StateKept
   pub update-state : UpdateStateTested standardCoefficients z

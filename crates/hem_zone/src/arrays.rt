@@ -31,8 +31,8 @@ pub fn demand_out(d: Demand) -> [f64; 5]
     }
 }
 
-// The 7 + 4 + 14 values in the Rust's struct order.
-pub fn balance_out(b: HeatBalance) -> [f64; 25]
+// The 7 + (4 + 3) + 14 values in the order of the structs.
+pub fn balance_out(b: HeatBalance) -> [f64; 28]
     ensures { λ r. ⌜ r ≡ balanceOut b ⌝ }
 {
     let air = b.air_node;
@@ -50,6 +50,9 @@ pub fn balance_out(b: HeatBalance) -> [f64; 25]
         int.fabric_int_sol,
         int.fabric_int_int_gains,
         int.fabric_int_heat_cool,
+        int.fabric_int_air_convective_horizontal,
+        int.fabric_int_air_convective_upwards,
+        int.fabric_int_air_convective_downwards,
         ext.solar_gains,
         ext.internal_gains,
         ext.heating_or_cooling_system_gains,

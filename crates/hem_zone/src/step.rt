@@ -155,7 +155,7 @@ fn update_of(
     gains: f64,
     fraction: f64,
     rate: f64,
-    balance: &mut [f64; 25],
+    balance: &mut [f64; 28],
 ) -> u32
     ensures { λ r. ⌜ (r, (now (temps .exit), now (balance .exit))) ≡ answered updateOut (now (temps .entry), now (balance .entry)) (updateTemperatures standardCoefficients (zoneIn z (now (codes .entry)) (now (values .entry))) (stateIn (now (temps .entry)) nodes) (now (conditions .entry)) gains fraction rate) ⌝ }
 {
@@ -184,7 +184,7 @@ pub extern "C" fn hem_update(
     gains: f64,
     fraction: f64,
     rate: f64,
-    balance: &mut [f64; 25],
+    balance: &mut [f64; 28],
 ) -> u32
     ensures { λ r. ⌜ (r, (now (temps .exit), now (balance .exit))) ≡ hemUpdate (now (head .entry)) (now (temps .entry)) nodes (now (conditions .entry)) gains fraction rate (now (balance .entry)) ⌝ }
 {
@@ -219,7 +219,7 @@ fn hour_step_of(
     version: u64,
     limits: Limits,
     out: &mut [f64; 5],
-    balance: &mut [f64; 25],
+    balance: &mut [f64; 28],
 ) -> u32
     ensures { λ r. ⌜ (r, (now (temps .exit), now (out .exit), now (balance .exit))) ≡ answered hourOut (now (temps .entry), now (out .entry), now (balance .entry)) (hourStep standardCoefficients (zoneIn z (now (codes .entry)) (now (values .entry))) version limits (stateIn (now (temps .entry)) nodes) (now (conditions .entry))) ⌝ }
 {
@@ -250,7 +250,7 @@ pub extern "C" fn hem_hour_step(
     heating_limit: f64,
     cooling_limit: f64,
     out: &mut [f64; 5],
-    balance: &mut [f64; 25],
+    balance: &mut [f64; 28],
 ) -> u32
     ensures { λ r. ⌜ (r, (now (temps .exit), now (out .exit), now (balance .exit))) ≡ hemHourStep (now (head .entry)) (now (temps .entry)) nodes (now (conditions .entry)) version «heating_limit» «cooling_limit» (now (out .entry)) (now (balance .entry)) ⌝ }
 {

@@ -6,7 +6,9 @@ import subprocess
 import sys
 import tempfile
 
-from making.layout import COOLING_FRACTION, HEATING_FRACTION, MILLION, elements_of, floats_at, node_count, record, u16
+from making.layout import (
+    COOLING_FRACTION, HEATING_FRACTION, MILLION, RUST_BALANCE_VALUES, elements_of, floats_at, node_count, record, u16)
+from making.direction_cases import HELD, with_sums
 from making.oracle import answered, in_version_2, number_of
 from making.limited_cases import LIMIT_CASES, LIMIT_KINDS, in_version_3
 
@@ -28,7 +30,7 @@ COOLED_BY_TWO, COOLED = "op 5 cooled, fractions differ", 100
 
 
 def values_of(op, line, nodes):
-    """the answer's values as 64-bit numbers"""
+    """the values of the Rust's answer, as 64-bit numbers"""
     words = line.split()
     values = []
     if op in (1, 4, 5, 6):
@@ -36,14 +38,37 @@ def values_of(op, line, nodes):
         values += [0, 0] if words[3] == "none" else [1, int(words[3], 16)]
         words = words[4:]
     values += [int(w, 16) for w in words]
-    assert len(values) == {1: 5, 2: nodes + 25, 3: nodes}.get(op, 5 + nodes + 25)
+    updated = nodes + RUST_BALANCE_VALUES
+    assert len(values) == {1: 5, 2: updated, 3: nodes}.get(op, 5 + updated)
     return values
 
 
-def beyond(op, values, nodes):
-    start = 5 if op in (4, 5, 6) else 0
-    temps = [] if op == 1 else values[start:start + nodes]
-    return any(not abs(struct.unpack(">d", struct.pack(">Q", v))[0]) <= MILLION for v in temps)
+def parts_of(op, values, nodes):
+    """demand, node temperatures and heat balance of an answer; what it does not have is empty"""
+    start = 5 if op in (1, 4, 5, 6) else 0
+    end = start if op == 1 else start + nodes
+    return values[:start], values[start:end], values[end:]
+
+
+def floats_of(values):
+    return struct.unpack(">%dd" % len(values), struct.pack(">%dQ" % len(values), *values))
+
+
+def bits_of(floats):
+    return list(struct.unpack(">%dQ" % len(floats), struct.pack(">%dd" % len(floats), *floats)))
+
+
+def beyond(temps):
+    return any(not abs(t) <= MILLION for t in floats_of(temps))
+
+
+def by_direction(head, temps, answer, seen):
+    """an answer's values, with the sums by direction where it has a heat balance"""
+    demand, after, balance = answer
+    if balance:
+        before = floats_at(temps, 0, len(temps) // 8)
+        balance = bits_of(with_sums(head, before, floats_of(after), floats_of(balance), seen))
+    return demand + after + balance
 
 
 def fractions_differ(conditions):
@@ -86,10 +111,11 @@ def make_cases(oracle, program, out):
             pairs += in_version_3(program, cases, answers, pairs, seen)
             for (op, head, temps, conditions, own), line in pairs:
                 number, nodes = number_of(line), node_count(head)
-                values = values_of(op, line, nodes) if number == 0 else []
-                if beyond(op, values, nodes):
+                answer = parts_of(op, values_of(op, line, nodes) if number == 0 else [], nodes)
+                if beyond(answer[1]):
                     left_out += 1
                     continue
+                values = by_direction(head, temps, answer, seen)
                 b = bytes([PROFILES.index(profile), op, number])
                 b += u16(len(head)) + head + u16(len(temps) // 8) + temps + u16(len(conditions)) + conditions + own
                 b += u16(len(values)) + b"".join(struct.pack(">Q", v) for v in values)
@@ -98,7 +124,8 @@ def make_cases(oracle, program, out):
                 cover(seen, profile, op, head, conditions, number, values)
         total = f.tell()
     for name in sorted(seen):
-        print("  %-29s %d" % (name, seen[name]))
+        print("  %-32s %d" % (name, seen[name]))
     assert COOLED <= seen[COOLED_BY_TWO]
     assert all(LIMIT_CASES <= seen["limits " + kind] for kind in LIMIT_KINDS)
+    assert all(least <= seen[name] for name, least in HELD.items())
     print("cases: %d kept, %d left out (beyond a million), %d bytes" % (kept, left_out, total))

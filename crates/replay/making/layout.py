@@ -11,6 +11,11 @@ GAINS_CONVECTIVE, GAINS_RADIATIVE = 80, 88
 VERSIONS, LIMITS_VERSION, NO_VERSIONS = (1, 2, 3), 3, (0, 4, 257, 2 ** 64 - 1)
 # greatest limit, W
 MOST_LIMIT = 1e7
+# values of a heat balance: of the air node, of the internal boundary, its sums by direction of heat flow, which the Rust
+# does not have, and of the external boundary
+AIR_NODE, INTERNAL, BY_DIRECTION, EXTERNAL = 7, 4, 3, 14
+RUST_BALANCE_VALUES = AIR_NODE + INTERNAL + EXTERNAL
+BALANCE_VALUES = RUST_BALANCE_VALUES + BY_DIRECTION
 
 
 def u16(n):
@@ -52,5 +57,10 @@ def elements_of(head):
     return found
 
 
+def nodes_of(kind):
+    """of an element"""
+    return 2 if kind == TRANSPARENT else 5
+
+
 def node_count(head):
-    return 1 + sum(2 if e[0] == TRANSPARENT else 5 for e in elements_of(head))
+    return 1 + sum(nodes_of(e[0]) for e in elements_of(head))

@@ -1,7 +1,7 @@
 """A row: a call, its number and index, and what an accepted one gives."""
 import collections
 
-from making.layout import MOST_LIMIT, VERSIONS, f64, record, u16, u32, u64
+from making.layout import BALANCE_VALUES, MOST_LIMIT, VERSIONS, f64, record, u16, u32, u64
 from making.houses import BALANCE, FRONT, HEAD, HOUSE_P, VERSION_PLACE, entry_p, entry_size, room_for_one
 
 
@@ -16,7 +16,7 @@ def usual_limits(version):
 
 def hour_values():
     """demand, temperatures and heat balance of House P in balance"""
-    return [f64(x) for x in (0.0,) * 5 + BALANCE + (0.0,) * 25]
+    return [f64(x) for x in (0.0,) * 5 + BALANCE + (0.0,) * BALANCE_VALUES]
 
 
 def book_values(count, used, last, temps):

@@ -123,8 +123,11 @@ fn push_internal_boundary(a: Answer, b: HeatBalanceInternalBoundary) -> Answer {
         b.fabric_int_sol,
         b.fabric_int_int_gains,
         b.fabric_int_heat_cool,
+        b.fabric_int_air_convective_horizontal,
+        b.fabric_int_air_convective_upwards,
+        b.fabric_int_air_convective_downwards,
     ];
-    push_floats(a, &row, 4)
+    push_floats(a, &row, 7)
 }
 
 fn push_external_boundary(a: Answer, b: HeatBalanceExternalBoundary) -> Answer {

@@ -1,6 +1,6 @@
-// Replays a sample of the oracle's answers and compares every value, bit by bit (zeros of either sign are equal); then
-// the refusals and the questions over a book, each with its number and index or its answer. How the data were made:
-// make_data.py.
+// Replays a sample of the oracle's answers and compares every value, bit by bit (zeros of either sign are equal), also the
+// sums by direction of heat flow, which stand among its values in each heat balance; then the refusals and the questions
+// over a book, each with its number and index or its answer. How the data were made: make_data.py.
 mod answer;
 mod book_calls;
 mod bytes;

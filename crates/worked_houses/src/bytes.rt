@@ -41,7 +41,7 @@ fn write_f64_be(b: &mut [u8], at: usize, x: f64) {
     put_eight(b, at, bits_of(x));
 }
 
-fn float_in(xs: &[f64], at: usize) -> f64 {
+pub fn float_in(xs: &[f64], at: usize) -> f64 {
     if at < xs.len() { xs[at] } else { 0.0 }
 }
 

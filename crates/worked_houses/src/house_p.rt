@@ -5,3 +5,4 @@ pub mod limited;
 pub mod met;
 pub mod questions;
 pub mod rows;
+pub mod surface_convection;

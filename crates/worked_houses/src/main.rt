@@ -1,4 +1,4 @@
-// Two worked houses, row by row: what is asked, what came and what is expected. A value is given by its bits, with what
+// Worked houses, row by row: what is asked, what came and what is expected. A value is given by its bits, with what
 // is expected in words; a value with nothing to be laid beside by its bits, with decimals before them; a refusal by its
 // number, 0 for none.
 //
@@ -7,10 +7,11 @@
 // the cooling fraction it keeps its cooling setpoint. A cold hour is the same in both. Then the entries of these hours in
 // books, versions that no hour has, and the room in version 3: hours with limits, limits out of range, entries and books.
 // At the end of each house books of it are asked when it got warm: the first hour above a value, the hours within a band and the
-// hour nearest to a value.
+// hour nearest to a value. Last come rooms of six surfaces: what their air gives to the surfaces, by direction of heat flow.
 mod answers;
 mod bytes;
 mod chilled_ceiling;
+mod convection;
 mod house_p;
 mod limits;
 mod replies;
@@ -24,15 +25,17 @@ use chilled_ceiling::limited;
 use chilled_ceiling::questions;
 use chilled_ceiling::room;
 use chilled_ceiling::unknown;
+use convection::rows as surface_rows;
 use house_p::book_rows;
 use house_p::limited as limited_hours;
 use house_p::questions as hours_asked;
 use house_p::rows;
+use house_p::surface_convection;
 
 fn print_house_p() {
     table::heading(b"House P\n");
     rows::print_zone();
-    rows::print_h_ci();
+    surface_convection::print_h_ci();
     rows::print_rates();
     book_rows::print_book();
     limited_hours::print_limited();
@@ -59,7 +62,15 @@ fn print_chilled_ceiling() {
     questions::print_questions(z, &codes, &values, &h);
 }
 
+fn print_convection() {
+    table::heading(
+        b"\nRooms of six surfaces, and what their air gives to them by direction of heat flow\n",
+    );
+    surface_rows::print_rooms();
+}
+
 fn main() {
     print_house_p();
     print_chilled_ceiling();
+    print_convection();
 }

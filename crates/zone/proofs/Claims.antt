@@ -11,6 +11,7 @@ pub mod Demand
 pub mod StartUp
 pub mod State
 pub mod Versions
+pub mod Convection
 pub mod Refusals
 pub mod Reasons
 pub mod NodeOrder

@@ -5,6 +5,7 @@ pub mod DemandClaims
 pub mod StartUpClaims
 pub mod StateClaims
 pub mod Versions
+pub mod Convection
 pub mod Refusals
 pub mod Reasons
 pub mod NodeOrder

@@ -8,6 +8,7 @@ pub mod NextHour
 pub mod Assembly
 pub mod Assembled
 pub mod FabricSums
+pub mod ConvectiveSums
 pub mod Operative
 pub mod Prepared
 pub mod Kept

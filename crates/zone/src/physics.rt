@@ -1,6 +1,7 @@
 // The equations of elements and zone, and the heat balance.
 pub mod assembly;
 pub mod balance;
+pub mod convection;
 pub mod equations;
 pub mod fabric;
 pub mod matrix;

@@ -35,7 +35,7 @@ decided true = inl refl
 decided false = inr refl
 
 -- no test is both
-clash : {A : Type 0} (a : Bool) → a ≡ true → a ≡ false → A
+pub clash : {A : Type 0} (a : Bool) → a ≡ true → a ≡ false → A
 clash a h k = never (sym k ∙ h)
 
 -- ---- magnitudes with signs
@@ -142,7 +142,7 @@ level-no-nan (fin s m e) nan h = never h
 level-no-nan (fin s m e) (inf t) h = (refl, refl)
 level-no-nan (fin s m e) (fin t n d) h = (refl, refl)
 
-le-no-nan : (x y : Float) → le x y ≡ true → (NoNan x) × (NoNan y)
+pub le-no-nan : (x y : Float) → le x y ≡ true → (NoNan x) × (NoNan y)
 unfolding le
 le-no-nan x y h = ⊎-elim (λ e. (below-no-nan x y e, above-no-nan x y e)) (λ e. level-no-nan x y e) (either (lt x y) (eq x y) h)
 

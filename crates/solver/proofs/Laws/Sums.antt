@@ -1,5 +1,5 @@
 -- Loops that sum a term a turn. The invariant of such a loop is that adding what is left to the sum now gives the sum of all:
--- `sum2AddAll a (terms i n term) ≡ sum2AddAll sum2Zero (terms 0 n term)`; and likewise with `sumFrom`.
+-- `sum2AddAll a (terms i n term) ≡ sum2AddAll sum2Zero (terms 0 n term)`.
 use mathlib.Core.Path.{_≡_, ap, _∙_}
 use mathlib.Core.List.{[], _∷_}
 use Prim.Native.Nat.{ℕ, zero, suc, _+_, _-_, _≤_, _<_}
@@ -8,8 +8,7 @@ use native.Mathlib.Omega.{arith}
 use lib.ListN.{getD}
 use lib.Ieee.{Float}
 use Rattle.solver.specs.declared.sums.Sum2.{Sum2}
-use Rattle.solver.specs.F64.{_+ᶠ_}
-use Rattle.solver.specs.Sums.{sum2Add, sum2AddAll, sumFrom, termsOf, terms}
+use Rattle.solver.specs.Sums.{sum2Add, sum2AddAll, termsOf, terms}
 
 -- the terms that are left from i on: term i, and those from i + 1 on
 pub terms-next : (term : ℕ → Float) (i n : ℕ) → i < n → terms i n term ≡ term i ∷ terms (i + 1) n term
@@ -45,11 +44,3 @@ sum2-terms-next a term i n h = rw (terms-next term i n h)
 pub sum2-terms-done : (a : Sum2) (term : ℕ → Float) (i n : ℕ) → n ≤ i → sum2AddAll a (terms i n term) ≡ a
 unfolding sum2AddAll
 sum2-terms-done a term i n h = rw (terms-done term i n h)
-
-pub sum-terms-next : (s : Float) (term : ℕ → Float) (i n : ℕ) → i < n → sumFrom s (terms i n term) ≡ sumFrom (s +ᶠ term i) (terms (i + 1) n term)
-unfolding sumFrom
-sum-terms-next s term i n h = rw (terms-next term i n h)
-
-pub sum-terms-done : (s : Float) (term : ℕ → Float) (i n : ℕ) → n ≤ i → sumFrom s (terms i n term) ≡ s
-unfolding sumFrom
-sum-terms-done s term i n h = rw (terms-done term i n h)

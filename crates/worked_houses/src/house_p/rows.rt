@@ -211,39 +211,6 @@ pub fn print_zone() {
     print_singular();
 }
 
-// Air and surface both at 20.
-fn h_ci(pitch: f64) -> f64 {
-    let c = zone::standard_coefficients();
-    zone::h_ci(c, pitch, 20.0, 20.0)
-}
-
-pub fn print_h_ci() {
-    value(
-        b"h_ci at pitch 60                 ",
-        h_ci(60.0),
-        2.5,
-        b"  2.5        ",
-    );
-    value(
-        b"h_ci at pitch 120                ",
-        h_ci(120.0),
-        2.5,
-        b"  2.5        ",
-    );
-    value(
-        b"h_ci at pitch 59.9               ",
-        h_ci(59.9),
-        5.0,
-        b"  5.0        ",
-    );
-    value(
-        b"h_ci at pitch 120.1              ",
-        h_ci(120.1),
-        0.7,
-        b"  0.7        ",
-    );
-}
-
 // Operative and air temperature both 24 at the lower rate and 16 at the upper, supply 8.
 fn rate(target: f64, ach_min: f64, ach_max: f64) -> f64 {
     zone::ach_req_to_reach_temperature(target, ach_min, ach_max, 24.0, 16.0, 24.0, 16.0, 8.0)

@@ -12,7 +12,7 @@ use Rattle.solver.specs.Rows.{row, setRow, largerInColumn, eliminateRow}
 use Rattle.solver.specs.Lu.{interchangeRows, eliminateColumnBy, eliminateColumn, pivotsValid, applyInterchanges, forwardStep, forwardSubstitution, backStep, backSubstitution, luSolve}
 use Rattle.solver.specs.Chain.{eliminateChain, eliminateChains, chainDivisorsValid, divisorsValid, reduceRightSide, reduceRightSides, backSubstituteChain, backSubstituteChains, elementWithin, nodesWithin}
 use Rattle.solver.specs.FastSolver.{setInnerDiagonals, gatherDense, scatterDense, temperatures, diagOf, denseOf, allDivisorsValid, temperaturesOf, temperaturesValid, solve}
-use Rattle.zone.specs.Record.BuildingElement.{standardCoefficients, hCi, addClosed, hPliTransparent, numberOfNodes, nodesOf, nodeCount}
+use Rattle.zone.specs.Record.BuildingElement.{standardCoefficients, heatFlowDirection, hCi, addClosed, hPliTransparent, numberOfNodes, nodesOf, nodeCount}
 use Rattle.zone.specs.Format.Bytes.{bigEndianFrom, bytesOf}
 use Rattle.zone.specs.Check.Ranges.{areaRange, pitchRange, coefficientRange, hPliRange, kPliRange, fractionRange, skyRange, deltaRRange, irradianceRange, gainsRange, powerLimitRange, rateRange, temperatureRange, heatingSetpointRange, setpointRange, hourLengthRange, allIn}
 use Rattle.zone.specs.Check.ZoneTest.{elementHourInRange, elementInRange, frontInRange, valuesTest, countsTest, zoneTest, allRequired}
@@ -22,7 +22,7 @@ use Rattle.zone.specs.Format.Encode.{rowBytes}
 use Rattle.zone.specs.Physics.Slots.{setSlots, inSlots, withTerms}
 use Rattle.zone.specs.Physics.System.{zoneTwoNodes, areaElTotal, couplings, matrixA, vectorB}
 use Rattle.zone.specs.Physics.CalcTemperatures.{calcTemperatures}
-use Rattle.zone.specs.Physics.HeatBalance.{termsOfKind, heatBalance}
+use Rattle.zone.specs.Physics.HeatBalance.{termsWhere, heatBalance}
 use Rattle.zone.specs.Physics.Equations.{rowsOf, rightSidesOf}
 use Rattle.zone.specs.Physics.NodeLayout.{firstNode, copyNodes, toSlots, toNodes}
 use Rattle.zone.specs.Calls.State.{stateTest, zoneAndStateTest, slotsOf, stateOf}
@@ -35,7 +35,7 @@ use Rattle.zone.specs.Claims.HouseP.{HousePClaims, houseP, headOfP, hour
 
 -- what the definitions compute by: to unfold one of these is to unfold what its line names
 unfoldable records1 : Unit {0}
-unfolding noElement noElementHour floatsAt kindOf standardCoefficients hCi addClosed hPliTransparent numberOfNodes nodesOf nodeCount bigEndianFrom bytesOf
+unfolding noElement noElementHour floatsAt kindOf standardCoefficients heatFlowDirection hCi addClosed hPliTransparent numberOfNodes nodesOf nodeCount bigEndianFrom bytesOf
 records1 = tt
 
 unfoldable records2 : Unit {0}
@@ -79,7 +79,7 @@ unfolding zoneTwoNodes areaElTotal couplings matrixA vectorB calcTemperatures fi
 physics2 = tt
 
 unfoldable physics3 : Unit {0}
-unfolding copyNodes toSlots toNodes termsOfKind sumFrom heatBalance
+unfolding copyNodes toSlots toNodes termsWhere sumFrom heatBalance
 physics3 = tt
 
 unfoldable calls1 : Unit {0}

@@ -23,7 +23,7 @@ use Rattle.zone.specs.Calls.StartUp.{startUpConditions, tempStart, start
 use Rattle.zone.specs.Claims.StartUpClaims.{Unsettled, start, further}
 use Rattle.zone.specs.Claims.StateClaims.{UpdateStateTested, HourStateTested, StartUpStateTested}
 use Rattle.zone.proofs.Claims.Head.{zone-count}
-use Rattle.zone.proofs.Laws.Accepted.{StepMade, step-made, hour-made}
+use Rattle.zone.proofs.Laws.Accepted.{StepMade, step-made, hour-made, hour-met}
 use Rattle.zone.proofs.Laws.Bound.{Within, step-within, state-tested, start-within}
 use Rattle.zone.proofs.Laws.Magnitude.{mean-within}
 use Rattle.zone.proofs.Claims.StartUp.{start-up-settled}
@@ -53,7 +53,7 @@ module _ (c : Coefficients) (z : Zone) where
   pub hour-state-tested : HourStateTested c z
   hour-state-tested version l s bytes r e =
       let m = hour-made c z s version l bytes r e in
-      step-tested s bytes (m .conditions) (r .state) (m .tests) (m .met)
+      step-tested s bytes (m .conditions) (r .state) (m .tests) (hour-met c z s version l bytes r e)
 
   -- start-up: the temperatures that settle are those before the first pass, or what a pass gave
   passed-within : {n : ℕ} {t u : List Float} → Within (z .count) (zoneTwoNodes z) t → Unsettled c z n t u → Within (z .count) (zoneTwoNodes z) u

@@ -1,6 +1,6 @@
 -- What an accepted hour step tells of its arguments and of the state after it.
 use Prim.Native.Nat.{ℕ, _+_, _≤_}
-use mathlib.Core.Path.{_≡_, sym, ap, subst, _∙_}
+use mathlib.Core.Path.{_≡_, sym, ap, _∙_}
 use mathlib.Core.List.{List}
 use lib.ListN.{length}
 use lib.Ieee.{Float}
@@ -39,7 +39,9 @@ pub record HourMade (c : Coefficients) (z : Zone) (s : State) (bytes : List ℕ)
   pub conditions : Conditions
   pub tests : tested z s bytes ≡ ok conditions
   pub answered : spaceHeatCoolDemand c z (slotsOf z s) conditions ≡ ok (r .demand)
-  pub met : StepMade c z (slotsOf z s) conditions (r .state)
+  pub gains : Float
+  pub fraction : Float
+  pub stepped : step c z s conditions gains fraction (r .demand .«ach_cooling») ≡ ok (r .state, r .balance)
 
 module _ (c : Coefficients) (z : Zone) (s : State) where
   pub step-made : (h : Conditions) (gains fraction ach : Float) (r : State × HeatBalance) → step c z s h gains fraction ach ≡ ok r
@@ -58,12 +60,23 @@ module _ (c : Coefficients) (z : Zone) (s : State) where
         let w = deliveredBy version l (h .0) (d .0) in
         let g = gainsHeatCool (h .0) +ᶠ w in
         let m = bind-ok (step c z s (h .0) g (convectiveShare version (h .0) w g) (d .0 .«ach_cooling»)) _ r (d .2) in
+        let same = ok-inj (m .2) in
         record {
           conditions = h .0;
           tests = step-passed z version l s bytes (h .0) (h .1) .tests;
-          answered = d .1 ∙ ap (λ x. ok (x .demand)) (ok-inj (m .2));
-          met = subst (StepMade c z (slotsOf z s) (h .0)) (ap (λ x. x .state) (ok-inj (m .2))) (step-made (h .0) g (convectiveShare version (h .0) w g) (d .0 .«ach_cooling») (m .0) (m .1));
+          answered = d .1 ∙ ap (λ x. ok (x .demand)) same;
+          gains = g;
+          fraction = convectiveShare version (h .0) w g;
+          stepped =
+              ap (λ (x : HourResult). step c z s (h .0) g (convectiveShare version (h .0) w g) (x .demand .«ach_cooling»)) (sym same)
+              ∙ m .1
+              ∙ ap (λ (x : HourResult). ok (x .state, x .balance)) same;
         }
+
+    pub hour-met : StepMade c z (slotsOf z s) (hour-made .conditions) (r .state)
+    hour-met =
+        let m = hour-made in
+        step-made (m .conditions) (m .gains) (m .fraction) (r .demand .«ach_cooling») (r .state, r .balance) (m .stepped)
 
     -- the conditions had their size: refusal 7
     pub conditions-length : length bytes ≡ conditionsLength (z .count)
@@ -84,5 +97,5 @@ module _ (c : Coefficients) (z : Zone) (s : State) where
     pub temps-length : length (r .state .temps) ≡ 121
     unfolding stateOf
     temps-length =
-        let t = hour-made .met in
+        let t = hour-met in
         sym (ap (λ x. length (x .temps)) (t .state)) ∙ to-nodes-length (zoneTwoNodes z) (z .count) (t .temps)

@@ -33,7 +33,7 @@ use Rattle.zone.specs.Calls.Hour.{HourResult, hourStep}
 use Rattle.zone.proofs.Laws.Lists.{tail-same}
 use Rattle.zone.proofs.Laws.Nodes.{to-nodes-length, to-nodes-behind}
 use Rattle.zone.proofs.Laws.Zones.{node-count-is}
-use Rattle.zone.proofs.Laws.Accepted.{StepMade, hour-made, count-few}
+use Rattle.zone.proofs.Laws.Accepted.{StepMade, hour-made, hour-met, count-few}
 use Rattle.zone.proofs.Laws.Whole.{elements-there}
 
 -- ---- the right side of the system: sums, products and zeros
@@ -105,7 +105,7 @@ nodes-fit count twoNodes s h =
 
 module _ (c : Coefficients) (z : Zone) (version : ℕ) (l : Limits) (s : State) (bytes : List ℕ) (r : HourResult) (e : hourStep c z version l s bytes ≡ ok r) where
   made : StepMade c z (slotsOf z s) (hour-made c z s version l bytes r e .conditions) (r .state)
-  made = hour-made c z s version l bytes r e .met
+  made = hour-met c z s version l bytes r e
 
   -- every temperature after it can be written as an f64 and read back
   pub hour-fits : AllFit (r .state .temps)

@@ -1,14 +1,14 @@
 -- Factors that are kept: the same directions, open treatments and timestep give the same, and the hour's own give its system's. What is
 -- held after an hour, and what `keep_factors` leaves.
 use mathlib.Core.Path.{_≡_, refl, sym, ap, subst, _∙_}
-use mathlib.Core.Bool.{Bool, true, false, cond, not, _&&_, _||_}
+use mathlib.Core.Bool.{Bool, true, false, cond}
 use mathlib.Core.List.{List, [], _∷_}
 use Prim.Native.Nat.{ℕ, _<_, _≤_}
 use native.Mathlib.Omega.{arith}
 use lib.Dec.{T}
 use lib.ListN.{length, getD, drop, replicate}
 use lib.Seq.{getD-drop}
-use lib.Ieee.{Float, nan, lt, le, binary64, ofBits, toBits, fits}
+use lib.Ieee.{Float, nan, binary64, ofBits, toBits, fits}
 use lib.Ieee.Bits.{ofBits-toBits}
 use Rattle.solver.specs.F64.{zero64}
 use Rattle.solver.specs.FastSolver.{atMost24}
@@ -17,17 +17,18 @@ use Rattle.solver.specs.Inner.Apart.{columns, factorApart}
 use Rattle.zone.specs.declared.record.building_element.Element.{Element}
 use Rattle.zone.specs.declared.record.building_element.ElementHour.{ElementHour}
 use Rattle.zone.specs.declared.record.building_element.Coefficients.{Coefficients}
+use Rattle.zone.specs.declared.record.building_element.HeatFlowDirection.{HeatFlowDirection}
 use Rattle.zone.specs.declared.record.building_element.HeatFlowDirection.the-variants.{Horizontal, Upwards, Downwards}
 use Rattle.zone.specs.declared.record.zone_record.Zone.{Zone}
-use Rattle.zone.specs.Record.BuildingElement.{hCi, standardCoefficients}
+use Rattle.zone.specs.Record.BuildingElement.{heatFlowDirection, directionCode, hCiOf, hCi, standardCoefficients}
 use Rattle.zone.specs.Inner.Lent.{elementHourIn, elementHoursIn}
 use Rattle.zone.specs.Format.Decode.{noElementHour}
 use Rattle.zone.specs.Physics.Slots.{air, innerSurface, element, elementHour, withTerms}
 use Rattle.zone.specs.Physics.System.{areaOf, areaElTotal, shareOf, hCiAt, twoNodesOf}
-use Rattle.zone.specs.Inner.Record.{heatFlowDirection, directionCode, hCiByCode}
+use Rattle.zone.specs.Inner.Record.{hCiByCode}
 use Rattle.zone.specs.Inner.Assembly.{convectiveBy, Chains, chains, elementRows}
 use Rattle.zone.specs.Inner.Assembled.{hRiOf, convectiveSum, elementChains, couplingsOf}
-use Rattle.zone.specs.Inner.Kept.{directionAt, hCiIn, rowsBy, chainsBy, couplingsBy, convectiveBySum, Factors, factors, factorsIn, factorsBy, FactorsOf, Arrays, arrays, zeros, Held, held, noneHeld, factorsHeld, numbersHeld, numbersBy, keyOf, sameKey, emptied, heldWith, keepFactors, Kept}
+use Rattle.zone.specs.Inner.Kept.{directionCodeAt, hCiIn, rowsBy, chainsBy, couplingsBy, convectiveBySum, Factors, factors, factorsIn, factorsBy, FactorsOf, Arrays, arrays, zeros, Held, held, noneHeld, factorsHeld, numbersHeld, numbersBy, keyOf, sameKey, emptied, heldWith, keepFactors, Kept}
 use borrow.Author.Tests.{eqb-true}
 use Rattle.solver.proofs.Laws.Tests.{and-true}
 use Rattle.zone.proofs.Laws.Key.{elements-same, elements-agree, key-direction, key-open, key-agree}
@@ -37,26 +38,22 @@ use Rattle.zone.proofs.Laws.Nodes.{at-most-24-le}
 use Rattle.zone.proofs.Laws.Agree.{Agree, sum2-same, convective-agree, couplings-same}
 
 -- h_ci by a direction's code
-code-tests : (c : Coefficients) (level upwards : Bool)
-    → hCiByCode c (directionCode (cond level Horizontal (cond upwards Upwards Downwards))) ≡ cond level (c .«h_ci_horizontal») (cond upwards (c .«h_ci_upwards») (c .«h_ci_downwards»))
-code-tests c true upwards = refl
-code-tests c false true = refl
-code-tests c false false = refl
+of-code : (c : Coefficients) (d : HeatFlowDirection) → hCiByCode c (directionCode d) ≡ hCiOf c d
+of-code c Horizontal = refl
+of-code c Upwards = refl
+of-code c Downwards = refl
 
 by-code : (c : Coefficients) (pitch air surface : Float) → hCiByCode c (directionCode (heatFlowDirection c pitch air surface)) ≡ hCi c pitch air surface
-unfolding hCi heatFlowDirection
-by-code c pitch air surface =
-    let inwards = lt air surface in
-    code-tests c (le (c .«pitch_limit_horiz_ceiling») pitch && le pitch (c .«pitch_limit_horiz_floor»))
-    (lt (c .«pitch_limit_horiz_floor») pitch && inwards || lt pitch (c .«pitch_limit_horiz_ceiling») && not inwards)
+unfolding hCi
+by-code c pitch air surface = of-code c (heatFlowDirection c pitch air surface)
 
 -- h_ci by the directions that an hour stores
 pub h-ci-in : (n : ℕ) (es : List Element) (t : List Float) (directions : List ℕ) → n ≤ 24 →
-    directions ≡ withTerms n (directionAt standardCoefficients es t) (replicate 24 0) → Agree n (hCiIn directions) (hCiAt standardCoefficients es t)
+    directions ≡ withTerms n (directionCodeAt standardCoefficients es t) (replicate 24 0) → Agree n (hCiIn directions) (hCiAt standardCoefficients es t)
 h-ci-in n es t directions small h e he =
     let small' : n ≤ length {A = ℕ} (replicate 24 0) = small in
     ap (λ (l : List ℕ). hCiByCode standardCoefficients (getD l e 0)) h
-    ∙ ap (hCiByCode standardCoefficients) (terms-at (directionAt standardCoefficients es t) 0 n (replicate 24 0) e he small')
+    ∙ ap (hCiByCode standardCoefficients) (terms-at (directionCodeAt standardCoefficients es t) 0 n (replicate 24 0) e he small')
     ∙ by-code standardCoefficients (element es e .pitch) (air t) (innerSurface t e)
 
 -- the parts of the matrix, of h_ci and open treatments that agree

@@ -5,13 +5,12 @@ use mathlib.Core.List.{List}
 use Prim.Native.Nat.{ℕ, _+_, _≤_, _<_}
 use lib.ListN.{set}
 use lib.Ieee.{Float}
-use Rattle.solver.specs.F64.{_+ᶠ_}
 use Rattle.solver.specs.declared.sums.Sum2.{Sum2}
 use Rattle.solver.specs.Repeat.{repeat}
-use Rattle.solver.specs.Sums.{sum2Add, sum2AddAll, sum2Sum, sumFrom, terms}
+use Rattle.solver.specs.Sums.{sum2Add, sum2AddAll, sum2Sum, terms}
 use Rattle.zone.specs.Physics.Slots.{setTerm}
 use Rattle.solver.proofs.Laws.Counting.{repeat-next, repeat-done}
-use Rattle.solver.proofs.Laws.Sums.{sum2-terms-next, sum2-terms-done, sum-terms-next, sum-terms-done}
+use Rattle.solver.proofs.Laws.Sums.{sum2-terms-next, sum2-terms-done}
 
 module _ {A : Type 0} where
   pub repeat-turn : (f : ℕ → A → A) (i n : ℕ) (s s' w : A) → i < n → s' ≡ f i s → repeat i n f s ≡ w → repeat (i + 1) n f s' ≡ w
@@ -32,9 +31,3 @@ module _ (term : ℕ → Float) (i n : ℕ) where
       → sum2AddAll s (terms i n term) ≡ sum2AddAll s₀ (terms 0 n term) → x ≡ sum2Sum (sum2AddAll z (terms 0 n term))
   sum2-end s s₀ z x h e p inv =
       e ∙ ap (λ (a : Sum2). sum2Sum a) (sym (sum2-terms-done s term i n h) ∙ inv ∙ ap (λ (a : Sum2). sum2AddAll a (terms 0 n term)) p)
-
-  pub sum-turn : (s s' w : Float) → i < n → s' ≡ s +ᶠ term i → sumFrom s (terms i n term) ≡ w → sumFrom s' (terms (i + 1) n term) ≡ w
-  sum-turn s s' w h e inv = rw e (sym (sum-terms-next s term i n h) ∙ inv)
-
-  pub sum-end : (s w : Float) → n ≤ i → sumFrom s (terms i n term) ≡ w → s ≡ w
-  sum-end s w h inv = sym (sum-terms-done s term i n h) ∙ inv

@@ -9,13 +9,15 @@ use lib.Dec.{eqb}
 use lib.Ieee.{Float, binary64, nan, neg, ofBits, toBits}
 use Rattle.solver.specs.F64.{decimal, zero64, one64}
 use Rattle.solver.specs.Result.{Result, ok, refused}
-use Rattle.zone.specs.Record.BuildingElement.{standardCoefficients, hCi}
+use Rattle.zone.specs.Record.BuildingElement.{standardCoefficients, isDirection, surfaceConvection}
 use Rattle.zone.specs.Format.Decode.{zoneAt}
 use Rattle.zone.specs.Format.Head.{headOf}
 use Rattle.zone.specs.Format.Encode.{rowBytes}
 use Rattle.zone.specs.Physics.Ventilation.{achReqToReachTemperature}
 use Rattle.zone.specs.Calls.Hour.{powerLimitsRange, updateTemperatures, demand, HourResult, hourStep}
 use Rattle.zone.specs.Calls.StartUp.{initNodeTemps}
+use Rattle.zone.specs.declared.record.building_element.HeatFlowDirection.{HeatFlowDirection}
+use Rattle.zone.specs.declared.record.building_element.HeatFlowDirection.the-variants.{Horizontal, Upwards, Downwards}
 use Rattle.zone.specs.declared.record.zone_record.Zone.{Zone}
 use Rattle.zone.specs.declared.format.limits.Limits.{Limits}
 use Rattle.zone.specs.declared.physics.balance.HeatBalance.{HeatBalance}
@@ -120,9 +122,11 @@ updated z = updateTemperatures standardCoefficients z twenty hourOfP zero64 zero
 abbrev asked : Zone → (heat cool : Float) → Result Demand
 asked z heat cool = demand standardCoefficients z twenty (hour heat cool)
 
--- h_ci of a pitch, where air and surface have one temperature
-abbrev hCiOfPitch : (pitch : Float) → Float
-hCiOfPitch pitch = hCi standardCoefficients pitch (decimal 20 0) (decimal 20 0)
+-- h_ci and the direction of heat flow at a pitch, where air and surface have one temperature
+abbrev convectionIs : (pitch : Float) → HeatFlowDirection → («h_ci» : Float) → Bool
+convectionIs pitch direction «h_ci» =
+    let found = surfaceConvection standardCoefficients pitch (decimal 20 0) (decimal 20 0) in
+    isDirection direction (found .direction) && same (found .«h_ci») «h_ci»
 
 -- the rate for a target, operative and air both 24 at the first rate and 16 at the second, supply 8
 abbrev rateFor : (target achMin achMax : Float) → Float
@@ -151,10 +155,10 @@ table =
     ∷ refusedWith 19 (limitedHour (plant nan zero64) (decimal 22 0) (decimal 21 0))
     ∷ refusedWith 12 (asked singular (decimal 20 0) (decimal 24 0))
     ∷ refusedWith 12 (updated singular)
-    ∷ same (hCiOfPitch (decimal 60 0)) (decimal 25 1)
-    ∷ same (hCiOfPitch (decimal 120 0)) (decimal 25 1)
-    ∷ same (hCiOfPitch (decimal 599 1)) (decimal 50 1)
-    ∷ same (hCiOfPitch (decimal 1201 1)) (decimal 7 1)
+    ∷ convectionIs (decimal 60 0) Horizontal (decimal 25 1)
+    ∷ convectionIs (decimal 120 0) Horizontal (decimal 25 1)
+    ∷ convectionIs (decimal 599 1) Upwards (decimal 50 1)
+    ∷ convectionIs (decimal 1201 1) Downwards (decimal 7 1)
     ∷ same (rateFor (decimal 24 0) (decimal 1 0) (decimal 5 0)) (decimal 1 0)
     ∷ same (rateFor (decimal 16 0) (decimal 1 0) (decimal 5 0)) (decimal 5 0)
     ∷ same (rateFor (decimal 8 0) (decimal 1 0) (decimal 5 0)) (decimal 5 0)

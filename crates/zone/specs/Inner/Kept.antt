@@ -24,11 +24,11 @@ use Rattle.zone.specs.declared.hour.hour.Asked.{Asked}
 use Rattle.zone.specs.declared.calls.state.Demand.{Demand}
 use Rattle.zone.specs.declared.record.zone_record.Zone.{Zone}
 use Rattle.zone.specs.declared.hour.time_step.ZoneTerms.{ZoneTerms}
-use Rattle.zone.specs.Record.BuildingElement.{standardCoefficients}
-use Rattle.zone.specs.Physics.Slots.{air, innerSurface, element, withTerms}
+use Rattle.zone.specs.Record.BuildingElement.{directionCode, standardCoefficients}
+use Rattle.zone.specs.Physics.Slots.{air, element, withTerms}
 use Rattle.zone.specs.Physics.Equations.{rowsOf}
-use Rattle.zone.specs.Physics.System.{areaOf, twoNodesOf, areaElTotal, shareOf, cInt}
-use Rattle.zone.specs.Inner.Record.{heatFlowDirection, directionCode, hCiByCode}
+use Rattle.zone.specs.Physics.System.{areaOf, twoNodesOf, areaElTotal, shareOf, directionAt, cInt}
+use Rattle.zone.specs.Inner.Record.{hCiByCode}
 use Rattle.zone.specs.Inner.Assembly.{convectiveBy, Chains, chains, setRows, coupleRow}
 use Rattle.zone.specs.Inner.Assembled.{hRiOf, elementSides}
 use Rattle.zone.specs.Inner.Lent.{counted, hourOf}
@@ -37,13 +37,13 @@ use Rattle.zone.specs.Inner.Prepared.{Prepared, prepared}
 use Rattle.zone.specs.Inner.Hour.{answerIn}
 use Rattle.zone.specs.Hour.Demand.{deltaT}
 
--- the direction at element e's inner surface, from the temperatures before the step
-abbrev pub directionAt : Coefficients → List Element → List Float → ℕ → ℕ
-directionAt c es t e = directionCode (heatFlowDirection c (element es e .pitch) (air t) (innerSurface t e))
+-- the code of the direction at element e's inner surface, from the temperatures before the step
+abbrev pub directionCodeAt : Coefficients → List Element → List Float → ℕ → ℕ
+directionCodeAt c es t e = directionCode (directionAt c es t e)
 
 -- of all elements
 abbrev pub directionsOf : Zone → List Float → List ℕ
-directionsOf z t = withTerms (atMost24 (z .count)) (directionAt standardCoefficients (z .«building_elements») t) (replicate 24 0)
+directionsOf z t = withTerms (atMost24 (z .count)) (directionCodeAt standardCoefficients (z .«building_elements») t) (replicate 24 0)
 
 -- h_ci by it
 abbrev pub hCiIn : (directions : List ℕ) → ℕ → Float

@@ -1,5 +1,5 @@
--- The heat balance of a time step, in W: 7, 4 and 14 values in the Rust's order, from the temperatures before (`temp_prev`) and after it
--- (`vector_x`), in their slots.
+-- The heat balance of a time step, in W: 7, 4 and 14 values in the Rust's order, behind the 4 the convective total by direction, from the temperatures
+-- before (`temp_prev`) and after the step (`vector_x`), in their slots.
 use Prim.Native.Nat.{ℕ, zero, suc}
 use mathlib.Core.Bool.{Bool, cond, _||_}
 use mathlib.Core.List.{List, [], _∷_}
@@ -13,6 +13,8 @@ use Rattle.zone.specs.declared.record.building_element.Kind.the-variants
 use Rattle.zone.specs.declared.record.building_element.Element.{Element}
 use Rattle.zone.specs.declared.record.building_element.ElementHour.{ElementHour}
 use Rattle.zone.specs.declared.record.building_element.Coefficients.{Coefficients}
+use Rattle.zone.specs.declared.record.building_element.HeatFlowDirection.{HeatFlowDirection}
+use Rattle.zone.specs.declared.record.building_element.HeatFlowDirection.the-variants.{Horizontal, Upwards, Downwards}
 use Rattle.zone.specs.declared.format.conditions.Conditions.{Conditions}
 use Rattle.zone.specs.declared.record.zone_record.Zone.{Zone}
 use Rattle.zone.specs.declared.physics.balance.HeatBalanceAirNode.{HeatBalanceAirNode}
@@ -20,10 +22,11 @@ use Rattle.zone.specs.declared.physics.balance.HeatBalanceInternalBounda
 use Rattle.zone.specs.declared.physics.balance.HeatBalanceExternalBoundary.{HeatBalanceExternalBoundary}
 use Rattle.zone.specs.declared.physics.balance.HeatBalance.{HeatBalance}
 use Rattle.zone.specs.Format.Encode.{kindNumber}
+use Rattle.zone.specs.Record.BuildingElement.{isDirection}
 use Rattle.zone.specs.Physics.Ventilation.{calcVentHeatTransferCoeff}
 use Rattle.zone.specs.Physics.Slots.{air, innerSurface, outerSurface, element, elementHour}
 use Rattle.zone.specs.Physics.Equations.{solarIrradiance}
-use Rattle.zone.specs.Physics.System.{areaOf, zoneTwoNodes, hCiAt, cInt}
+use Rattle.zone.specs.Physics.System.{areaOf, zoneTwoNodes, directionAt, hCiAt, cInt}
 
 -- at the air node; `temp_internal` is the air's temperature after the step
 abbrev pub airNode :
@@ -46,18 +49,35 @@ airNode c «c_int» «h_ve» «tb_heat_trans_coeff» hour «delta_t» «gains_he
       «fabric_heat_loss» = neg ((solar +ᶠ internal +ᶠ system +ᶠ energy) -ᶠ (bridges +ᶠ ventilation));
     }
 
+-- of n terms from term e on, those that count
+unfoldable pub termsWhere : (counts : ℕ → Bool) (term : ℕ → Float) (n e : ℕ) → List Float
+termsWhere counts term zero e = []
+termsWhere counts term (suc n) e =
+    let rest = termsWhere counts term n (suc e) in
+    cond (counts e) (term e ∷ rest) rest
+
 -- at the internal boundary: h_ci is that of the temperatures before the step
 abbrev pub convectiveLossAt : Coefficients → List Element → («temp_prev» «vector_x» : List Float) → ℕ → Float
 convectiveLossAt c es «temp_prev» «vector_x» e =
     areaOf es e *ᶠ (hCiAt c es «temp_prev» e *ᶠ (air «vector_x» -ᶠ innerSurface «vector_x» e))
 
-abbrev pub internalBoundary : Coefficients → (convective : Float) → Conditions → («gains_heat_cool» «f_hc_c» : Float) → HeatBalanceInternalBoundary
-internalBoundary c convective hour «gains_heat_cool» «f_hc_c» =
+-- document 02 (d), "three sums of its convective total's terms, signs kept, horizontal, upwards and downwards, each added in element order": the
+-- direction, as h_ci, is that of the temperatures before the step
+abbrev pub internalBoundary :
+    Coefficients → Zone → («temp_prev» «vector_x» : List Float) → Conditions → («gains_heat_cool» «f_hc_c» : Float) → HeatBalanceInternalBoundary
+internalBoundary c z «temp_prev» «vector_x» hour «gains_heat_cool» «f_hc_c» =
+    let n = atMost24 (z .count) in
+    let es = z .«building_elements» in
+    let loss = convectiveLossAt c es «temp_prev» «vector_x» in
+    let ofDirection : HeatFlowDirection → Float = λ d. sumFrom0 (termsWhere (λ e. isDirection (directionAt c es «temp_prev» e) d) loss n 0) in
     record {
-      «fabric_int_air_convective» = convective;
+      «fabric_int_air_convective» = sumFrom0 (terms 0 n loss);
       «fabric_int_sol» = (one64 -ᶠ c .«f_sol_c») *ᶠ hour .«gains_solar»;
       «fabric_int_int_gains» = (one64 -ᶠ c .«f_int_c») *ᶠ hour .«gains_internal»;
       «fabric_int_heat_cool» = (one64 -ᶠ «f_hc_c») *ᶠ «gains_heat_cool»;
+      «fabric_int_air_convective_horizontal» = ofDirection Horizontal;
+      «fabric_int_air_convective_upwards» = ofDirection Upwards;
+      «fabric_int_air_convective_downwards» = ofDirection Downwards;
     }
 
 -- at the external boundary, of one element with outer surface temperature t
@@ -87,11 +107,8 @@ module _ (z : Zone) (hour : Conditions) («vector_x» : List Float) where
   heatAt heat e = heat (element (z .«building_elements») e) (elementHour (hour .elements) e) (outerSurface (zoneTwoNodes z) «vector_x» e)
 
   -- of n elements from element e on, the terms of those whose kind counts
-  unfoldable pub termsOfKind : (counts : Kind → Bool) → (n e : ℕ) → List Float
-  termsOfKind counts zero e = []
-  termsOfKind counts (suc n) e =
-      let rest = termsOfKind counts n (suc e) in
-      cond (counts (element (z .«building_elements») e .kind)) (heatAt fabricExt e ∷ rest) rest
+  abbrev pub termsOfKind : (counts : Kind → Bool) → (n e : ℕ) → List Float
+  termsOfKind counts n e = termsWhere (λ e. counts (element (z .«building_elements») e .kind)) (heatAt fabricExt) n e
 
 -- nine sums from 0; a party wall counts with the unconditioned spaces
 abbrev pub externalBoundary : Zone → Conditions → («vector_x» : List Float) → HeatBalanceAirNode → («gains_heat_cool» : Float) → HeatBalanceExternalBoundary
@@ -120,13 +137,10 @@ unfoldable pub heatBalance :
     Coefficients → Zone → («temp_prev» : List Float) → Conditions → («delta_t» «gains_heat_cool» «f_hc_c» ach : Float) → («vector_x» : List Float)
     → HeatBalance
 heatBalance c z «temp_prev» hour «delta_t» «gains_heat_cool» «f_hc_c» ach «vector_x» =
-    let n = atMost24 (z .count) in
-    let es = z .«building_elements» in
     let «h_ve» = calcVentHeatTransferCoeff (z .volume) ach in
     let a = airNode c (cInt c z) «h_ve» (z .«tb_heat_trans_coeff») hour «delta_t» «gains_heat_cool» «f_hc_c» (air «temp_prev») (air «vector_x») in
     record {
       «air_node» = a;
-      «internal_boundary» =
-          internalBoundary c (sumFrom0 (terms 0 n (convectiveLossAt c es «temp_prev» «vector_x»))) hour «gains_heat_cool» «f_hc_c»;
+      «internal_boundary» = internalBoundary c z «temp_prev» «vector_x» hour «gains_heat_cool» «f_hc_c»;
       «external_boundary» = externalBoundary z hour «vector_x» a «gains_heat_cool»;
     }

@@ -13,10 +13,11 @@ use Rattle.solver.specs.FastSolver.{atMost24}
 use Rattle.solver.specs.declared.system.Matrix.{Matrix}
 use Rattle.zone.specs.declared.record.building_element.Element.{Element}
 use Rattle.zone.specs.declared.record.building_element.Coefficients.{Coefficients}
+use Rattle.zone.specs.declared.record.building_element.HeatFlowDirection.{HeatFlowDirection}
 use Rattle.zone.specs.declared.format.conditions.Conditions.{Conditions}
 use Rattle.zone.specs.declared.record.zone_record.Zone.{Zone}
 use Rattle.zone.specs.declared.physics.equations.Rows.{Rows}
-use Rattle.zone.specs.Record.BuildingElement.{isTwoNodes, hCi}
+use Rattle.zone.specs.Record.BuildingElement.{isTwoNodes, heatFlowDirection, hCi}
 use Rattle.zone.specs.Physics.Slots.{air, innerSurface, elementSlots, element, elementHour, withTerms, inSlots}
 use Rattle.zone.specs.Physics.Equations.{rowsOf, rightSidesOf}
 
@@ -38,7 +39,10 @@ areaElTotal n es = sum2 (terms 0 n (areaOf es))
 abbrev pub shareOf : ℕ → List Element → ℕ → Float
 shareOf n es e = areaOf es e /ᶠ areaElTotal n es
 
--- h_ci of element e, from the temperatures before the step, and its term of the zone's convective sum
+-- at the inner surface of element e, from the temperatures before the step: the direction of heat flow and h_ci; and its term of the zone's convective sum
+abbrev pub directionAt : Coefficients → List Element → List Float → ℕ → HeatFlowDirection
+directionAt c es t e = heatFlowDirection c (element es e .pitch) (air t) (innerSurface t e)
+
 abbrev pub hCiAt : Coefficients → List Element → List Float → ℕ → Float
 hCiAt c es t e = hCi c (element es e .pitch) (air t) (innerSurface t e)
 

@@ -10,6 +10,9 @@ use Rattle.zone.specs.declared.record.building_element.Kind.{Kind}
 use Rattle.zone.specs.declared.record.building_element.Kind.the-variants.{Opaque, AdjacentConditionedSpace, AdjacentUnconditionedSpaceSimple, Ground, Transparent, PartyWall}
 use Rattle.zone.specs.declared.record.building_element.Element.{Element}
 use Rattle.zone.specs.declared.record.building_element.Coefficients.{Coefficients}
+use Rattle.zone.specs.declared.record.building_element.HeatFlowDirection.{HeatFlowDirection}
+use Rattle.zone.specs.declared.record.building_element.HeatFlowDirection.the-variants.{Horizontal, Upwards, Downwards}
+use Rattle.zone.specs.declared.record.building_element.SurfaceConvection.{SurfaceConvection}
 use Rattle.zone.specs.declared.record.zone_record.Zone.{Zone}
 
 -- f_int_c, f_sol_c: BS EN ISO 52016-1:2017, Table B.11; k_m_int: Table B.17; the three h_ci: BS EN ISO 13789:2017, Table 8; the pitches that part
@@ -27,15 +30,38 @@ standardCoefficients =
       «pitch_limit_horiz_floor» = decimal 120 0;
     }
 
--- h_ci, in W / (m2.K); air and surface are those from before the step. Horizontal between the two pitches, both included; a ceiling (below the
--- first) is upwards unless the air is colder than the surface; a floor (above the second) is upwards only if it is; else downwards
-unfoldable pub hCi : Coefficients → (pitch air surface : Float) → Float
-hCi c pitch air surface =
+-- the direction of heat flow at an inner surface; air and surface are those from before the step. Horizontal between the two pitches, both included; a
+-- ceiling (below the first) is upwards unless the air is colder than the surface; a floor (above the second) is upwards only if it is; else downwards
+unfoldable pub heatFlowDirection : Coefficients → (pitch air surface : Float) → HeatFlowDirection
+heatFlowDirection c pitch air surface =
     let inwards = lt air surface in
     let isFloor = lt (c .«pitch_limit_horiz_floor») pitch in
     let isCeiling = lt pitch (c .«pitch_limit_horiz_ceiling») in
-    cond (le (c .«pitch_limit_horiz_ceiling») pitch && le pitch (c .«pitch_limit_horiz_floor»)) (c .«h_ci_horizontal»)
-    (cond (isFloor && inwards || isCeiling && not inwards) (c .«h_ci_upwards») (c .«h_ci_downwards»))
+    cond (le (c .«pitch_limit_horiz_ceiling») pitch && le pitch (c .«pitch_limit_horiz_floor»)) Horizontal
+    (cond (isFloor && inwards || isCeiling && not inwards) Upwards Downwards)
+
+abbrev pub directionCode : HeatFlowDirection → ℕ
+directionCode Horizontal = 0
+directionCode Upwards = 1
+directionCode Downwards = 2
+
+abbrev pub isDirection : (direction d : HeatFlowDirection) → Bool
+isDirection direction d = eqb (directionCode d) (directionCode direction)
+
+-- h_ci, in W / (m2.K), of a direction
+abbrev pub hCiOf : Coefficients → HeatFlowDirection → Float
+hCiOf c Horizontal = c .«h_ci_horizontal»
+hCiOf c Upwards = c .«h_ci_upwards»
+hCiOf c Downwards = c .«h_ci_downwards»
+
+-- document 02 (d), "the coefficient function is to yield the direction with the number": one test tells both
+abbrev pub surfaceConvection : Coefficients → (pitch air surface : Float) → SurfaceConvection
+surfaceConvection c pitch air surface =
+    let direction = heatFlowDirection c pitch air surface in
+    record { direction = direction; «h_ci» = hCiOf c direction }
+
+unfoldable pub hCi : Coefficients → (pitch air surface : Float) → Float
+hCi c pitch air surface = surfaceConvection c pitch air surface .«h_ci»
 
 -- the `delta_r` of the treatments whose bit is 0, added to r in order, bit 0 first
 unfoldable pub addClosed : (bits : ℕ) (r : Float) → List Float → Float

@@ -1,19 +1,18 @@
 // The heat balance of a time step, in W.
 use crate::format::conditions::HourFront;
+use crate::physics::convection::ConvectiveSums;
+use crate::physics::convection::convective_sums;
 use crate::physics::fabric::FabricSums;
 use crate::physics::fabric::fabric_sums;
 use crate::physics::slots::at_most_24;
 use crate::physics::ventilation::calc_vent_heat_transfer_coeff;
-use crate::record::arrays::element_of;
 use crate::record::building_element::Coefficients;
-use crate::record::building_element::h_ci;
 use crate::record::zone_record::ZoneFront;
 ghost use mathlib.Core.Path.{_≡_};
 ghost use mathlib.Core.List.{[]};
-ghost use Prim.Native.Nat.{_≤_};
-ghost use Rattle.zone.specs.Inner.Lent.{elementsIn, zoneIn, hourOf, conditionsIn};
-ghost use Rattle.solver.specs.Sums.{sumFrom0, terms};
-ghost use Rattle.zone.specs.Physics.HeatBalance.{airNode, convectiveLossAt, internalBoundary, heatBalance};
+ghost use Rattle.zone.specs.Inner.Lent.{zoneIn, hourOf, conditionsIn};
+ghost use Rattle.zone.specs.Physics.HeatBalance.{airNode, heatBalance};
+ghost use Rattle.zone.specs.Inner.ConvectiveSums.{internalBoundaryFrom};
 ghost use Rattle.zone.specs.Inner.FabricSums.{externalBoundaryFrom};
 
 pub struct HeatBalanceAirNode {
@@ -26,11 +25,15 @@ pub struct HeatBalanceAirNode {
     pub fabric_heat_loss: f64,
 }
 
+// The Rust's four, then the convective total's terms by direction of heat flow.
 pub struct HeatBalanceInternalBoundary {
     pub fabric_int_air_convective: f64,
     pub fabric_int_sol: f64,
     pub fabric_int_int_gains: f64,
     pub fabric_int_heat_cool: f64,
+    pub fabric_int_air_convective_horizontal: f64,
+    pub fabric_int_air_convective_upwards: f64,
+    pub fabric_int_air_convective_downwards: f64,
 }
 
 pub struct HeatBalanceExternalBoundary {
@@ -89,42 +92,23 @@ fn air_node(
     }
 }
 
-fn convective_loss(
-    c: Coefficients,
-    n: usize,
-    codes: &[u8; 72],
-    values: &[f64; 600],
-    temp_prev: &[f64; 121],
-    vector_x: &[f64; 121],
-) -> f64
-    requires { ⌜ n ≤ 24 ⌝ }
-    ensures { λ r. ⌜ r ≡ sumFrom0 (terms 0 n (convectiveLossAt c (elementsIn (now (codes .entry)) (now (values .entry))) (now («temp_prev» .entry)) (now («vector_x» .entry)))) ⌝ }
-{
-    let mut total = 0.0;
-    let mut e = 0;
-    while e < n {
-        let el = element_of(codes, values, e);
-        let h = h_ci(c, el.pitch, temp_prev[120], temp_prev[5 * e + 4]);
-        total = total + el.area * (h * (vector_x[120] - vector_x[5 * e + 4]));
-        e += 1;
-    }
-    total
-}
-
 fn internal_boundary(
     c: Coefficients,
-    convective: f64,
+    s: ConvectiveSums,
     hour: HourFront,
     gains_heat_cool: f64,
     f_hc_c: f64,
 ) -> HeatBalanceInternalBoundary
-    ensures { λ r. ⌜ r ≡ internalBoundary c convective (hourOf hour []) «gains_heat_cool» «f_hc_c» ⌝ }
+    ensures { λ r. ⌜ r ≡ internalBoundaryFrom c s (hourOf hour []) «gains_heat_cool» «f_hc_c» ⌝ }
 {
     HeatBalanceInternalBoundary {
-        fabric_int_air_convective: convective,
+        fabric_int_air_convective: s.total,
         fabric_int_sol: (1.0 - c.f_sol_c) * hour.gains_solar,
         fabric_int_int_gains: (1.0 - c.f_int_c) * hour.gains_internal,
         fabric_int_heat_cool: (1.0 - f_hc_c) * gains_heat_cool,
+        fabric_int_air_convective_horizontal: s.horizontal,
+        fabric_int_air_convective_upwards: s.upwards,
+        fabric_int_air_convective_downwards: s.downwards,
     }
 }
 
@@ -186,7 +170,7 @@ pub fn heat_balance(
         temp_prev[120],
         vector_x[120],
     );
-    let convective = convective_loss(c, n, codes, values, temp_prev, vector_x);
+    let convective = convective_sums(c, n, codes, values, temp_prev, vector_x);
     let sums = fabric_sums(n, codes, values, parts, opens, vector_x);
     HeatBalance {
         air_node: air,

@@ -1,9 +1,12 @@
 // A building element: its record, and what is worked out from it alone.
 ghost use mathlib.Core.Path.{_≡_};
 ghost use Prim.Native.Nat.{min, _≤_};
-ghost use Rattle.zone.specs.Inner.Record.{heatFlowDirection, directionCode, hCiByCode};
+ghost use Rattle.zone.specs.Inner.Record.{hCiByCode};
 ghost use Rattle.zone.specs.Record.BuildingElement.{
-  hCi,
+  heatFlowDirection,
+  directionCode,
+  hCiOf,
+  surfaceConvection,
   standardCoefficients,
   hPliTransparent,
   isTwoNodes,
@@ -67,6 +70,12 @@ pub enum HeatFlowDirection {
     Downwards,
 }
 
+// The internal convective heat transfer coefficient, in W / (m2.K), with the direction of heat flow that it is for.
+pub struct SurfaceConvection {
+    pub direction: HeatFlowDirection,
+    pub h_ci: f64,
+}
+
 // BS EN ISO 52016-1, Tables B.11 and B.17; h_ci: BS EN ISO 13789, Table 8; and the pitches that part ceilings, walls and floors.
 pub fn standard_coefficients() -> Coefficients
     ensures { λ r. ⌜ r ≡ standardCoefficients ⌝ }
@@ -106,15 +115,31 @@ pub fn heat_flow_direction(
     }
 }
 
-// The internal convective heat transfer coefficient, in W / (m2.K).
-pub fn h_ci(c: Coefficients, pitch: f64, temp_int_air: f64, temp_int_surface: f64) -> f64
-    ensures { λ r. ⌜ r ≡ hCi c pitch «temp_int_air» «temp_int_surface» ⌝ }
+// The coefficient of a direction of heat flow.
+fn h_ci_of_direction(c: Coefficients, direction: HeatFlowDirection) -> f64
+    ensures { λ r. ⌜ r ≡ hCiOf c direction ⌝ }
 {
-    let direction = heat_flow_direction(c, pitch, temp_int_air, temp_int_surface);
     match direction {
         HeatFlowDirection::Horizontal => c.h_ci_horizontal,
         HeatFlowDirection::Upwards => c.h_ci_upwards,
         HeatFlowDirection::Downwards => c.h_ci_downwards,
+    }
+}
+
+// The internal convective heat transfer coefficient at an inner surface, and the direction of heat flow: one test tells both.
+pub fn h_ci(
+    c: Coefficients,
+    pitch: f64,
+    temp_int_air: f64,
+    temp_int_surface: f64,
+) -> SurfaceConvection
+    ensures { λ r. ⌜ r ≡ surfaceConvection c pitch «temp_int_air» «temp_int_surface» ⌝ }
+{
+    let direction = heat_flow_direction(c, pitch, temp_int_air, temp_int_surface);
+    let h = h_ci_of_direction(c, direction);
+    SurfaceConvection {
+        direction: direction,
+        h_ci: h,
     }
 }
 

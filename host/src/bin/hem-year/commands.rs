@@ -196,15 +196,18 @@ greatest heating and cooling load, for how long the operative temperature was ab
 many entries are of which version, and the fingerprints (SHA-256) of head, conditions and book. Two
 prints with one fingerprint are of one book. Of hours with the limits of a plant it prints for how
 long each limit held, by month too, the ten hours that left most unmet, what was delivered, and how
-cold or warm it was in these hours.
+cold or warm it was in these hours. Of convection it prints how much heat went from the air into walls
+and windows, ceilings and floors, by the direction in which it flowed (horizontal, upwards, downwards)
+and by month; below 0 they gave more to the air than they took.
 
   --csv FILE   writes the hours as a table: number, beginning, length, all that was given for the hour,
                entry version, demand, air change rate and temperatures; where hours have limits, these,
                the power delivered, which limit held and the kWh left unmet. Lines with # say what it is
                of. The beginning is written with the year 2001, since hours have no year
-  --balance    adds the heat balance's 25 columns, W
+  --balance    adds the heat balance's 28 columns, W; three of them are convection by direction
   --nodes      adds the temperature of each node, °C
-  --svg FILE   draws the year
+  --svg FILE   draws the year: demand and temperatures of each day, how long each load lasts, and
+               convection by month
   --head HOUSE the house, as HOUSE.toml or HEAD: BOOK must be of it, and the table has its names
   --name NAME  the house's name, else that of HOUSE.toml, else that of BOOK
   --force      replaces FILE whatever it holds; without it, only a table or drawing of a report

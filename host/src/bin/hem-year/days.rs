@@ -5,6 +5,10 @@ use crate::sums::Sums;
 /// The most parts that a drawing shows next to each other: the days of a leap year.
 const MOST: usize = 366;
 
+/// Up to so many days a drawing names each day, above it the months.
+pub const DAYS_NAMED: usize = 62;
+pub const COMMON_YEAR: usize = 365;
+
 /// The parts of the time that a book covers: single days, or some days together where there are more
 /// than a drawing shows.
 pub struct Days {
@@ -50,6 +54,14 @@ impl Days {
         let days = self.together as f64;
         let numbered = self.parts.iter().enumerate();
         numbered.filter(|(_, s)| s.length > 0.0).map(move |(place, s)| (place as f64 * days, s))
+    }
+}
+
+/// How many days a drawing has room for: the whole year, or only those held where they are few.
+pub fn shown(hours: &[HourFigures]) -> usize {
+    match count(hours).max(1) {
+        held if held <= DAYS_NAMED => held,
+        held => held.max(COMMON_YEAR),
     }
 }
 

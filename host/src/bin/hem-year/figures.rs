@@ -1,8 +1,9 @@
 //! The figures of a book's hours. An hour may have any length: what is summed or averaged over time
 //! here is weighted by lengths, never counted by entries.
 use crate::calendar::Moment;
+use crate::convection::Convection;
 use crate::plant::PlantHour;
-use hem_zone::{AirChangesPerHour, Book, Conditions, Entry};
+use hem_zone::{AirChangesPerHour, Book, Conditions, Entry, State};
 use std::ops::Range;
 
 /// The figures of one hour.
@@ -30,6 +31,8 @@ pub struct HourFigures {
     pub cool_down: bool,
     /// Windows were opened beyond the required rate.
     pub windows: bool,
+    /// Not held by a book: none until it is calculated.
+    pub convection: Convection,
     /// What a plant of limited power did, where the hour has limits.
     pub plant: Option<PlantHour>,
 }
@@ -75,10 +78,10 @@ struct Before {
     setpoint_cool: f64,
 }
 
-/// The figures of a book's hours in order.
-pub fn figures(book: &Book) -> Vec<HourFigures> {
+/// The figures of a book's hours in order. Before the first are the temperatures of start-up.
+pub fn figures(book: &Book, start_up: &State) -> Vec<HourFigures> {
     let mut start = 0.0;
-    let mut before = at_first(book);
+    let mut before = at_first(book, start_up);
     let mut hours = Vec::with_capacity(book.hours());
     for (place, entry) in book.entries().enumerate() {
         let hour = of_entry(place, &entry, start, &before);
@@ -94,11 +97,10 @@ pub fn figures(book: &Book) -> Vec<HourFigures> {
 }
 
 /// Before the first hour is start-up, which holds the first set temperature.
-fn at_first(book: &Book) -> Before {
+fn at_first(book: &Book, start_up: &State) -> Before {
     let zone = book.zone();
-    let operative = zone.start_up().and_then(|state| zone.temp_operative(&state));
     Before {
-        operative: operative.unwrap_or(f64::NAN),
+        operative: zone.temp_operative(start_up).unwrap_or(f64::NAN),
         setpoint_heat: first_set_temperature(zone.head()),
         setpoint_cool: f64::NEG_INFINITY,
     }
@@ -127,6 +129,7 @@ fn of_entry(place: usize, entry: &Entry, start: f64, before: &Before) -> HourFig
         warm_up: conditions.temp_setpnt_heat > before.setpoint_heat,
         cool_down: conditions.temp_setpnt_cool < before.setpoint_cool,
         windows: windows_used(&conditions, demand.ach_cooling),
+        convection: Convection::default(),
         plant: PlantHour::of(entry),
     }
 }
@@ -160,6 +163,7 @@ pub mod tests {
             warm_up: false,
             cool_down: false,
             windows: false,
+            convection: Convection::default(),
             plant: None,
         }
     }

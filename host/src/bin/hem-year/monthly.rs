@@ -1,9 +1,32 @@
 //! The months of a report.
 use crate::calendar::months;
+use crate::figures::HourFigures;
 use crate::load::{Load, COOLING, HEATING};
 use crate::print::Print;
 use crate::sums::Sums;
 use crate::warmth::THRESHOLDS;
+
+/// A month, or what lies past the year.
+pub struct Month {
+    pub name: &'static str,
+    pub sums: Sums,
+}
+
+/// The name of what lies past the year.
+pub const LATER: &str = "later";
+
+/// Each month that hours lie in, and what lies past the year.
+pub fn by_month(hours: &[HourFigures]) -> Vec<Month> {
+    let day = |number: u32| f64::from(number) * 24.0;
+    let later = (LATER, day(365)..f64::MAX);
+    let times = months().map(|(name, first, end)| (name, day(first)..day(end))).chain([later]);
+    let sums = times.map(|(name, time)| {
+        let mut sums = Sums::default();
+        hours.iter().for_each(|hour| sums.add(hour, hour.share_in(&time)));
+        Month { name, sums }
+    });
+    sums.filter(|month| month.sums.length > 0.0).collect()
+}
 
 /// A column: three lines of heading, how wide it is, its decimals, and its value.
 struct Column {
@@ -68,18 +91,10 @@ pub fn monthly(print: &Print) -> String {
             text.push('\n');
         }
     }
-    let day = |number: u32| f64::from(number) * 24.0;
-    let later = ("later", day(365)..f64::MAX);
-    let times = months().map(|(name, first, end)| (name, day(first)..day(end))).chain([later]);
-    for (name, time) in times {
-        let mut sums = Sums::default();
-        print.hours.iter().for_each(|hour| sums.add(hour, hour.share_in(&time)));
-        if sums.length > 0.0 {
-            let values = columns
-                .iter()
-                .map(|c| format!(" {:1$.2$}", (c.value)(&sums), c.width - 1, c.decimals));
-            text += &format!("{name:7}{}\n", values.collect::<String>());
-        }
+    for Month { name, sums } in &print.months {
+        let values =
+            columns.iter().map(|c| format!(" {:1$.2$}", (c.value)(sums), c.width - 1, c.decimals));
+        text += &format!("{name:7}{}\n", values.collect::<String>());
     }
     text
 }

@@ -1,5 +1,6 @@
 //! `hem-year report`: what a designer needs of a year.
 use crate::calendar::Moment;
+use crate::convection_text::convection;
 use crate::damage;
 use crate::failure::Failure;
 use crate::figures::HourFigures;
@@ -46,7 +47,7 @@ pub fn report(given: &Report) -> Result<(), Failure> {
     let (csv, svg) = (check(given.csv, Kind::Table)?, check(given.svg, Kind::Drawing)?);
     let bytes = files::read(given.book)?;
     let (book, plan) = take_up(given, &bytes)?;
-    let print = Print::of(house_name(given, &plan), plan.names().to_vec(), &book);
+    let print = Print::of(house_name(given, &plan), plan.names().to_vec(), &book)?;
     let table = csv.is_some().then(|| table::table(&print, &given.columns)).transpose()?;
     let drawing = svg.is_some().then(|| svg::draw(&print).into_bytes());
     let targets = [(csv, &table), (svg, &drawing)];
@@ -107,6 +108,7 @@ fn text(path: &Path, print: &Print, torn: usize) -> String {
         text += &monthly(print);
         text += &highest(print, &HEATING);
         text += &highest(print, &COOLING);
+        text += &convection(print);
         text +=
             "\nHours are named by their beginning; temperatures inside are those at their end.\n";
     }

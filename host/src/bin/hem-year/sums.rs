@@ -1,5 +1,6 @@
 //! Sums over the hours of a book, or over the parts of hours that lie in a time. They go by lengths, never
 //! by the number of entries.
+use crate::convection::Convection;
 use crate::figures::HourFigures;
 use crate::plant::PlantHour;
 use crate::warmth::THRESHOLDS;
@@ -24,6 +25,7 @@ pub struct Sums {
     pub operative: Spread,
     /// Time above each threshold of warmth, hours.
     pub warm: [f64; THRESHOLDS.len()],
+    pub convection: Convection,
     /// Where a plant of limited power was too small.
     pub heating_short: Short,
     pub cooling_short: Short,
@@ -57,6 +59,7 @@ impl Sums {
         for (time, threshold) in self.warm.iter_mut().zip(&THRESHOLDS) {
             *time += time_if(hour.operative > threshold.temperature);
         }
+        self.convection.add(&hour.convection, share);
         if let Some(plant) = &hour.plant {
             self.heating_short.add(plant, HeldLimit::Heating, length, share);
             self.cooling_short.add(plant, HeldLimit::Cooling, length, share);

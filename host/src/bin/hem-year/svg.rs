@@ -1,9 +1,11 @@
-//! The year as a drawing: daily demand, daily temperatures, and how long each load lasts.
+//! The year as a drawing: daily demand, daily temperatures, how long each load lasts, and convection by month.
 use crate::calendar::{day_name, months, Moment};
-use crate::chart::{Anchor, Axis, Canvas, Frame, FAINT_INK, GRID};
-use crate::days::{self, Days};
+use crate::chart::{Anchor, Axis, Canvas, Frame, FAINT_INK};
+use crate::convection_panel::convection;
+use crate::days::{self, Days, COMMON_YEAR, DAYS_NAMED};
 use crate::figures::HourFigures;
 use crate::load::{self, Load};
+use crate::panel::{bar, names_below, number_below, panel, words_below, Place, LEFT, WIDTH};
 use crate::plant::Side;
 use crate::plant_text;
 use crate::print::{Print, PROGRAM};
@@ -12,35 +14,25 @@ use crate::sums::{falling, Spread, Sums};
 use crate::version::held_by_version;
 use crate::warmth;
 
-const WIDTH: f64 = 1200.0;
-const HEIGHT: f64 = 1332.0;
-const LEFT: f64 = 78.0;
-const INNER: f64 = WIDTH - LEFT - 36.0;
+const HEIGHT: f64 = 1606.0;
+const DEMAND: Place = Place { top: 158.0, height: 280.0 };
+const TEMPERATURE: Place = Place { top: 532.0, height: 280.0 };
+const LOADS: Place = Place { top: 906.0, height: 280.0 };
+const CONVECTION: Place = Place { top: 1280.0, height: 180.0 };
 
 const HEATING: &str = "#d9593d";
 const COOLING: &str = "#2b7bba";
 const OUTSIDE: &str = "#8796a5";
 const INSIDE: &str = "#2f855a";
 
-/// Up to so many days each day is named, above it the months.
-const DAYS_NAMED: usize = 62;
-const COMMON_YEAR: usize = 365;
-
-/// How many days the horizontal axis has: the whole year, or only those held where they are few.
-fn days_shown(hours: &[HourFigures]) -> usize {
-    match days::count(hours).max(1) {
-        held if held <= DAYS_NAMED => held,
-        held => held.max(COMMON_YEAR),
-    }
-}
-
 pub fn draw(print: &Print) -> String {
     let mut canvas = Canvas::default();
-    let (days, shown) = (Days::of(&print.hours), days_shown(&print.hours) as f64);
+    let (days, shown) = (Days::of(&print.hours), days::shown(&print.hours) as f64);
     title(&mut canvas, print);
     demand(&mut canvas, &days, shown);
     temperature(&mut canvas, print, &days, shown);
     load_duration(&mut canvas, &print.hours);
+    convection(&mut canvas, print, CONVECTION);
     footer(&mut canvas, print);
     canvas.finish(WIDTH, HEIGHT, &heading(print))
 }
@@ -77,21 +69,6 @@ fn footer(canvas: &mut Canvas, print: &Print) {
     }
 }
 
-/// A panel's place and scales, with its heading and its legend.
-fn panel(
-    canvas: &mut Canvas,
-    heading: &str,
-    keys: &[(&str, &str)],
-    top: f64,
-    x: (f64, f64),
-    y: Axis,
-) -> Frame {
-    let frame = Frame { left: LEFT, top, width: INNER, height: 280.0, x, y };
-    canvas.heading((LEFT, top - 16.0), 16, heading);
-    canvas.legend(frame.right(), top - 16.0, keys);
-    frame
-}
-
 // ---- the days ----
 
 /// How many days each step of a panel stands for, where it is not one.
@@ -111,7 +88,7 @@ fn demand(canvas: &mut Canvas, days: &Days, shown: f64) {
     let y = Axis::covering(-lowest, highest.max(1.0), 6.0);
     let keys = [(HEATING, "heating"), (COOLING, "cooling")];
     let heading = format!("Demand, kWh a day{}", means_of(days));
-    let frame = panel(canvas, &heading, &keys, 158.0, (0.0, shown), y);
+    let frame = panel(canvas, &heading, &keys, DEMAND, (0.0, shown), y);
     time_axis(canvas, &frame);
     frame.draw_y(canvas, |axis, tick| axis.label(tick.abs()));
     for (first, d) in steps {
@@ -119,17 +96,6 @@ fn demand(canvas: &mut Canvas, days: &Days, shown: f64) {
         bar(canvas, &frame, across, d.heating, HEATING);
         bar(canvas, &frame, across, -d.cooling, COOLING);
     }
-}
-
-fn bar(canvas: &mut Canvas, frame: &Frame, across: (f64, f64), value: f64, colour: &str) {
-    if value == 0.0 {
-        return;
-    }
-    let (left, right) = (frame.px(across.0), frame.px(across.1));
-    let (zero, end) = (frame.py(0.0), frame.py(value));
-    let gap = 0.12 * (right - left);
-    let (width, height) = (right - left - gap, (end - zero).abs());
-    canvas.rect(left + gap / 2.0, zero.min(end), width, height, colour, 1.0);
 }
 
 /// For outside and operative temperature the mean of each day, on the band from its lowest to its
@@ -151,7 +117,7 @@ fn temperature(canvas: &mut Canvas, print: &Print, days: &Days, shown: f64) {
         1 => "Temperature, °C: mean, lowest and highest hour of each day".into(),
         together => format!("Temperature, °C: mean, lowest and highest hour of {together} days"),
     };
-    let frame = panel(canvas, &heading, &keys, 532.0, (0.0, shown), y);
+    let frame = panel(canvas, &heading, &keys, TEMPERATURE, (0.0, shown), y);
     time_axis(canvas, &frame);
     frame.draw_y(canvas, Axis::label);
     band(canvas, &frame, days, |d| &d.external, OUTSIDE);
@@ -181,7 +147,8 @@ fn through_days(frame: &Frame, days: &Days, of: impl Fn(&Sums) -> f64) -> Vec<(f
 fn time_axis(canvas: &mut Canvas, frame: &Frame) {
     let shown = frame.x.1 as usize;
     if shown == COMMON_YEAR || shown == COMMON_YEAR + 1 {
-        return month_axis(canvas, frame);
+        let parts = months().map(|(name, first, end)| (name, first.into(), end.into()));
+        return names_below(canvas, frame, parts);
     }
     let days = Axis::covering(0.0, frame.x.1, 12.0);
     for tick in days.ticks().filter(|t| t.fract() == 0.0 && *t <= frame.x.1) {
@@ -192,26 +159,8 @@ fn time_axis(canvas: &mut Canvas, frame: &Frame) {
         number_below(canvas, frame, tick, &words);
     }
     if shown > DAYS_NAMED {
-        let y = frame.bottom() + 38.0;
-        canvas.text((frame.right(), y), Anchor::End, 13, FAINT_INK, "days since the beginning");
+        words_below(canvas, frame, "days since the beginning");
     }
-}
-
-fn month_axis(canvas: &mut Canvas, frame: &Frame) {
-    for (name, first, end) in months() {
-        let (left, right) = (frame.px(first as f64), frame.px(end as f64));
-        canvas.line((left, frame.top), (left, frame.bottom() + 6.0), GRID);
-        let middle = (left + right) / 2.0;
-        canvas.text((middle, frame.bottom() + 20.0), Anchor::Middle, 13, FAINT_INK, name);
-    }
-    let right = frame.right();
-    canvas.line((right, frame.top), (right, frame.bottom() + 6.0), GRID);
-}
-
-fn number_below(canvas: &mut Canvas, frame: &Frame, x: f64, words: &str) {
-    let px = frame.px(x);
-    canvas.line((px, frame.top), (px, frame.bottom() + 6.0), GRID);
-    canvas.text((px, frame.bottom() + 20.0), Anchor::Middle, 13, FAINT_INK, words);
 }
 
 // ---- the loads ----
@@ -231,7 +180,7 @@ fn load_duration(canvas: &mut Canvas, hours: &[HourFigures]) {
         with_highest("cooling", hours, HourFigures::cooling_power),
     ];
     let keys = [(HEATING, named[0].as_str()), (COOLING, named[1].as_str())];
-    let frame = panel(canvas, "Load duration, kW", &keys, 906.0, (0.0, span.high), y);
+    let frame = panel(canvas, "Load duration, kW", &keys, LOADS, (0.0, span.high), y);
     for tick in span.ticks() {
         number_below(canvas, &frame, tick, &span.label(tick));
     }
@@ -240,8 +189,7 @@ fn load_duration(canvas: &mut Canvas, hours: &[HourFigures]) {
     steps(canvas, &frame, &cooling, COOLING);
     limit(canvas, &frame, hours, (&load::HEATING, HEATING), 0.0);
     limit(canvas, &frame, hours, (&load::COOLING, COOLING), 200.0);
-    let words = "hours in which the load is at least as high";
-    canvas.text((frame.right(), frame.bottom() + 38.0), Anchor::End, 13, FAINT_INK, words);
+    words_below(canvas, &frame, "hours in which the load is at least as high");
 }
 
 /// A line at the limit of a plant, where one held that is the same in all hours in which it did: so it is

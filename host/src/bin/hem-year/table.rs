@@ -13,7 +13,7 @@ use hem_zone::{AirChangesPerHour, Conditions, Demand, Entry, HeatBalance, HeldLi
 /// Which columns are written beyond the usual ones.
 #[derive(Clone, Copy, Debug, Default)]
 pub struct Columns {
-    /// The 25 values of the heat balance, W.
+    /// The values of the heat balance, W.
     pub balance: bool,
     /// The temperature of each node, °C.
     pub nodes: bool,
@@ -46,9 +46,9 @@ impl Row {
 /// The whole table. It begins with lines that say what it is of, each behind a `#`.
 pub fn table(print: &Print, columns: &Columns) -> Result<Vec<u8>, Failure> {
     let mut lines = csv::Writer::from_writer(beginning(print).into_bytes());
-    let mut before = start(print, columns)?;
     let nodes_of = nodes_by_element(print.book.zone().head());
-    for (hour, entry) in print.hours.iter().zip(print.book.entries()) {
+    let hours = print.hours.iter().zip(&print.balances).zip(print.book.entries());
+    for ((hour, heat), entry) in hours {
         let mut row = Row::default();
         times(&mut row, hour);
         inputs(&mut row, &print.elements, &entry.conditions());
@@ -56,8 +56,8 @@ pub fn table(print: &Print, columns: &Columns) -> Result<Vec<u8>, Failure> {
         if columns.nodes {
             nodes(&mut row, &print.elements, &nodes_of, &entry.state());
         }
-        if let Some(state) = &mut before {
-            balance(&mut row, &step(print, state, &entry)?);
+        if columns.balance {
+            balance(&mut row, heat);
         }
         if hour.number == 1 {
             put(&mut lines, row.0.iter().map(|(name, _)| name))?;
@@ -185,22 +185,6 @@ fn nodes(row: &mut Row, names: &[String], nodes_of: &[usize], state: &State) {
             row.number(format!("{element}.node_{node}"), temp);
         }
     }
-}
-
-// ---- the heat balance ----
-
-/// The state before the first hour, where the heat balance is asked for.
-fn start(print: &Print, columns: &Columns) -> Result<Option<State>, Failure> {
-    let start_up = || print.book.zone().start_up().map_err(|r| Failure::Refused(r.to_string()));
-    columns.balance.then(start_up).transpose()
-}
-
-/// The heat balance of an hour, which is calculated again; the state moves on.
-fn step(print: &Print, state: &mut State, entry: &Entry) -> Result<HeatBalance, Failure> {
-    let step = print.book.zone().hour_step(state, entry.conditions_bytes(), entry.rule());
-    let (after, _, balance) = step.map_err(|r| Failure::Refused(r.to_string()))?;
-    *state = after;
-    Ok(balance)
 }
 
 fn balance(row: &mut Row, balance: &HeatBalance) {

@@ -23,7 +23,8 @@ pub struct Warm<'a> {
 pub fn warm(given: &Warm) -> Result<(), Failure> {
     let bytes = files::read(given.book)?;
     let book = damage::take_up(given.book, &bytes)?;
-    let hours = figures(&book);
+    let start_up = book.zone().start_up().map_err(|r| Failure::refused(given.book, &r))?;
+    let hours = figures(&book, &start_up);
     let held = match hours.is_empty() {
         true => "no hours held".into(),
         false => format!("operative temperature of {}", all_of(&hours)),

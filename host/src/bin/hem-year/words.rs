@@ -22,6 +22,14 @@ pub fn watts(power: f64) -> String {
     }
 }
 
+/// An energy, kWh, as `12.3`; what is rounded to nothing has no sign.
+pub fn energy(kwh: f64) -> String {
+    match format!("{kwh:.1}") {
+        nothing if nothing == "-0.0" => "0.0".into(),
+        number => number,
+    }
+}
+
 /// A number of hours or other things, as `1 hour` and `8,760 hours`.
 pub fn count(number: usize, thing: &str) -> String {
     match number {
@@ -96,6 +104,10 @@ mod tests {
         assert_eq!(
             [6000.0, -0.0, 2500.5, 1e7, -5.0, 1e20].map(watts),
             ["6,000 W", "0 W", "2500.5 W", "10,000,000 W", "-5 W", "100000000000000000000 W"]
+        );
+        assert_eq!(
+            [12.34, -12.34, 0.04, -0.04, -0.0, -0.06].map(energy),
+            ["12.3", "-12.3", "0.0", "0.0", "0.0", "-0.1"]
         );
     }
 }

@@ -3,14 +3,14 @@ use Prim.Native.Nat.{_-_}
 use Rattle.solver.specs.Repeat.{repeat}
 use Rattle.zone.specs.Inner.Lent.{elementsIn}
 use Rattle.zone.specs.Physics.Slots.{setTerm, withTerms}
-use Rattle.zone.specs.Inner.Kept.{directionAt}
+use Rattle.zone.specs.Inner.Kept.{directionCodeAt}
 use Rattle.zone.proofs.Laws.Loops.{store-turn, repeat-end}
 use borrow.Author.Needs.{needs}
 use Rattle.zone.proofs.hour.kept.directions_of.Statement.{statement}
 use Rattle.zone.proofs.hour.kept.directions_of.Tie as tie
 
 abbrev Inv-loop : tie.InvT-loop
-Inv-loop codes values t c n directions₀ e₀ directions e = repeat e n (setTerm (directionAt c (elementsIn codes values) t)) directions ≡ repeat 0 n (setTerm (directionAt c (elementsIn codes values) t)) directions₀
+Inv-loop codes values t c n directions₀ e₀ directions e = repeat e n (setTerm (directionCodeAt c (elementsIn codes values) t)) directions ≡ repeat 0 n (setTerm (directionCodeAt c (elementsIn codes values) t)) directions₀
 
 abbrev μ-loop : tie.MeasureT-loop
 μ-loop codes values t c n directions₀ e₀ directions e = n - e

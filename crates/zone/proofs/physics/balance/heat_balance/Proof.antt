@@ -1,12 +1,12 @@
 use mathlib.Core.Path.{_∙_}
 use mathlib.Core.List.{[]}
-use Rattle.solver.specs.Sums.{sumFrom0, terms}
-use Rattle.zone.specs.Inner.Lent.{elementsIn, zoneIn, hourOf, conditionsIn}
+use Rattle.zone.specs.Inner.Lent.{zoneIn, hourOf, conditionsIn}
 use Rattle.zone.specs.Inner.FabricSums.{externalBoundaryFrom}
+use Rattle.zone.specs.Inner.ConvectiveSums.{internalBoundaryFrom}
 use Rattle.zone.specs.Physics.Slots.{air}
 use Rattle.zone.specs.Physics.System.{cInt}
-use Rattle.zone.specs.Physics.HeatBalance.{airNode, convectiveLossAt, internalBoundary, externalBoundary, heatBalance}
-use Rattle.zone.proofs.Laws.Balance.{external-is}
+use Rattle.zone.specs.Physics.HeatBalance.{airNode, externalBoundary, heatBalance}
+use Rattle.zone.proofs.Laws.Balance.{external-is, internal-is}
 use borrow.Author.Needs.{needs}
 use Rattle.zone.proofs.physics.balance.heat_balance.Statement.{statement}
 use Rattle.zone.proofs.physics.balance.heat_balance.Tie as tie
@@ -24,8 +24,9 @@ returns c = let at-air = c .before .before .before .before in
     let g = a .gains-heat-cool in
     let node = at-air .air-node .result in
     let air-is = at-air .air-node .ensures ∙ (λ i. airNode (a .c) (cInt (a .c) z) (at-h-ve .calc-vent-heat-transfer-coeff .ensures i) (a .z .«tb_heat_trans_coeff») hour (a .delta-t) g (a .f-hc-c) (air (a .temp-prev .now)) (air x)) in
-    let convective = c .before .before .before .convective-loss .ensures ∙ (λ i. sumFrom0 (terms 0 (n .at-most-24 .ensures .0 i) (convectiveLossAt (a .c) (elementsIn (a .codes .now) (a .values .now)) (a .temp-prev .now) x))) in
-    let internal = c .before .internal-boundary .ensures ∙ (λ i. internalBoundary (a .c) (convective i) hour g (a .f-hc-c)) in
+    let internal = c .before .internal-boundary .ensures
+    ∙ (λ i. internalBoundaryFrom (a .c) (c .before .before .before .convective-sums .ensures i) (hourOf (a .hour) []) g (a .f-hc-c))
+    ∙ internal-is (a .c) z (a .temp-prev .now) x hour g (a .f-hc-c) (n .at-most-24 .result) (n .at-most-24 .ensures .0) in
     let external = c .external-boundary .ensures
     ∙ (λ i. externalBoundaryFrom (c .before .before .fabric-sums .ensures i) node (hourOf (a .hour) []) g)
     ∙ external-is z hour x (n .at-most-24 .result) node g (n .at-most-24 .ensures .0)

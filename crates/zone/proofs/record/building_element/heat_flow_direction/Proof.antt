@@ -1,5 +1,5 @@
 use mathlib.Core.Path.{refl}
-use Rattle.zone.specs.Inner.Record.{heatFlowDirection}
+use Rattle.zone.specs.Record.BuildingElement.{heatFlowDirection}
 use Rattle.zone.proofs.record.building_element.heat_flow_direction.Statement.{statement}
 use Rattle.zone.proofs.record.building_element.heat_flow_direction.Tie as tie
 
