@@ -7,6 +7,7 @@
 #define _POSIX_C_SOURCE 200112L
 #include <pthread.h>
 #include <stdlib.h>
+#include <string.h>
 
 #include "year.h"
 
@@ -25,20 +26,31 @@ static void head(void) { accepted(hem_head(y.head, y.head_len)); }
 static void start_up(void) { accepted(hem_start_up(y.head, y.head_len, temps, &nodes)); }
 static void operative_of(void) { accepted(hem_operative(y.head, y.head_len, temps, nodes, &operative)); }
 
+/* The temperatures before each hour of the year: from start-up's alone, few hours would have windows open. */
+static double before[HOURS][HEM_TEMPS];
+
+static void hour_step(void) {
+    for (size_t i = 0; i < HOURS; i++) {
+        memcpy(before[i], temps, sizeof temps);
+        accepted(hem_hour_step(y.head, y.head_len, temps, nodes, hour_of(&y, i), y.hour_len, VERSION, UNUSED_LIMIT,
+                               UNUSED_LIMIT, out, balance));
+    }
+}
+
 static void demand(void) {
     for (size_t i = 0; i < HOURS; i++)
-        accepted(hem_demand(y.head, y.head_len, temps, nodes, hour_of(&y, i), y.hour_len, out));
+        accepted(hem_demand(y.head, y.head_len, before[i], nodes, hour_of(&y, i), y.hour_len, out));
+}
+
+static void why(void) {
+    uint64_t reason = 0, load = 0;
+    for (size_t i = 0; i < HOURS; i++)
+        accepted(hem_why(y.head, y.head_len, before[i], nodes, hour_of(&y, i), y.hour_len, &reason, &load));
 }
 
 static void update(void) {
     for (size_t i = 0; i < HOURS; i++)
         accepted(hem_update(y.head, y.head_len, temps, nodes, hour_of(&y, i), y.hour_len, 100.0, 0.4, 0.5, balance));
-}
-
-static void hour_step(void) {
-    for (size_t i = 0; i < HOURS; i++)
-        accepted(hem_hour_step(y.head, y.head_len, temps, nodes, hour_of(&y, i), y.hour_len, VERSION, UNUSED_LIMIT,
-                               UNUSED_LIMIT, out, balance));
 }
 
 static void begin(void) {
@@ -88,10 +100,19 @@ static void measure_apart(struct call *call) {
 }
 
 int main(int words, char **word) {
-    struct call calls[] = {{"hem_head", head, 0},     {"hem_start_up", start_up, 0}, {"hem_operative", operative_of, 0},
-                           {"hem_demand", demand, 0}, {"hem_update", update, 0},     {"hem_hour_step", hour_step, 0},
-                           {"hem_begin", begin, 0},   {"hem_append", append, 0},     {"hem_take_up", take_up, 0},
-                           {"hem_first_above", first_above, 0}, {"hem_hours_within", hours_within, 0}, {"hem_nearest_hour", nearest_hour, 0}};
+    struct call calls[] = {{"hem_head", head, 0},
+                           {"hem_start_up", start_up, 0},
+                           {"hem_operative", operative_of, 0},
+                           {"hem_hour_step", hour_step, 0},
+                           {"hem_demand", demand, 0},
+                           {"hem_why", why, 0},
+                           {"hem_update", update, 0},
+                           {"hem_begin", begin, 0},
+                           {"hem_append", append, 0},
+                           {"hem_take_up", take_up, 0},
+                           {"hem_first_above", first_above, 0},
+                           {"hem_hours_within", hours_within, 0},
+                           {"hem_nearest_hour", nearest_hour, 0}};
     if (words != 2) return 2;
     y = read_year();
     book_len = y.head_len + HOURS * HEM_ENTRY(y.elements, 5 * y.elements + 1);

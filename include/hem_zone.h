@@ -42,8 +42,8 @@ extern "C" {
 #endif
 
 /* The version of this interface: 10000 * major + 100 * minor + patch, and as text. */
-#define HEM_ZONE_VERSION 500
-#define HEM_ZONE_VERSION_TEXT "0.5.0"
+#define HEM_ZONE_VERSION 600
+#define HEM_ZONE_VERSION_TEXT "0.6.0"
 /* The version byte of heads. */
 #define HEM_FORMAT 1
 /* The newest version of entries; hours have 1 to this one. It says how the power that heating or cooling
@@ -278,6 +278,34 @@ enum hem_balance {
     HEM_EXT_ZTU_FABRIC_EXT = 27
 };
 
+/* ---- what hem_why answers ---- */
+
+/* Why an hour's demand has its rate: the earliest of these that holds. Temperatures are those at the end of
+   the hour without its demand, of the air or operative by the head's basis: the free temperature at the
+   target rate, with windows open at the windows-open rate. The free air is the air at the target rate,
+   whatever the basis. The rate found is the one that is to bring the zone to its ventilation setpoint. It is
+   the chosen rate where windows are enough; at every other reason the target or fixed rate is. */
+enum hem_reason {
+    HEM_WHY_NO_CHOICE = 1,                      /* there is no choice of rates: code 0, or both are equal */
+    HEM_WHY_NOT_ABOVE_VENTILATION_SETPOINT = 2, /* the free temperature is not above the ventilation setpoint */
+    HEM_WHY_NOT_ABOVE_SUPPLY = 3,               /* the free air is not above the supplied air */
+    HEM_WHY_WINDOWS_DO_NOT_COOL = 4,            /* windows open would not lower the free temperature, as where the
+                                                   target rate is the higher of the two */
+    HEM_WHY_STILL_ABOVE_COOLING_SETPOINT = 5,   /* with the rate found it is still above the cooling setpoint, and
+                                                   not close to it by the windows test: not within 1e-8, nor
+                                                   within 1e-10 of the larger magnitude */
+    HEM_WHY_WINDOWS_ENOUGH = 6                  /* windows are enough */
+};
+
+/* Heating, cooling or neither, by the hour's demand. An hour may be cooled although windows are enough, and be
+   neither although it is still above the cooling setpoint: the demand has another closeness to its setpoint
+   (within 1e-10, or within 1e-9 of the larger magnitude). */
+enum hem_load {
+    HEM_LOAD_NEITHER = 0,
+    HEM_LOAD_HEATING = 1, /* the demand's heating is above 0 */
+    HEM_LOAD_COOLING = 2  /* its cooling is below 0 */
+};
+
 /* ---- functions ---- */
 
 /* Tests a head. Bytes after the head's own length are not looked at. Refused with 1 to 5. */
@@ -291,6 +319,12 @@ uint32_t hem_start_up(const uint8_t *head, size_t head_len, double temps[HEM_TEM
    Refused with 1 to 14. */
 uint32_t hem_demand(const uint8_t *head, size_t head_len, const double temps[HEM_TEMPS], uint64_t nodes,
                     const uint8_t *cond, size_t cond_len, double out[HEM_OUT]);
+
+/* Why that hour's demand has its rate, and its load: writes one of enum hem_reason to `*reason` and one of
+   enum hem_load to `*load`; the temperatures stay. It is given what hem_demand is given, and refuses what
+   that refuses with the same answer: 1 to 14. */
+uint32_t hem_why(const uint8_t *head, size_t head_len, const double temps[HEM_TEMPS], uint64_t nodes,
+                 const uint8_t *cond, size_t cond_len, uint64_t *reason, uint64_t *load);
 
 /* The temperatures after one hour in which heating or cooling gives `gains` watts, of which `fraction`
    goes to the air, at `rate` air changes per hour. Replaces `temps`, writes `balance`.

@@ -94,6 +94,43 @@ impl Engine {
         out
     }
 
+    /// The demand of an hour. The temperatures stay.
+    pub fn demand(&self, t: &Temps, hour: &[u8]) -> [f64; OUT] {
+        let mut out = [0.0; OUT];
+        // SAFETY: as above.
+        accepted(unsafe {
+            hem_demand(
+                self.head.as_ptr(),
+                self.head.len(),
+                t.temps.as_ptr(),
+                t.nodes,
+                hour.as_ptr(),
+                hour.len(),
+                out.as_mut_ptr(),
+            )
+        });
+        out
+    }
+
+    /// Why that demand has its rate, and its load.
+    pub fn why(&self, t: &Temps, hour: &[u8]) -> (u64, u64) {
+        let (mut reason, mut load) = (0, 0);
+        // SAFETY: as above.
+        accepted(unsafe {
+            hem_why(
+                self.head.as_ptr(),
+                self.head.len(),
+                t.temps.as_ptr(),
+                t.nodes,
+                hour.as_ptr(),
+                hour.len(),
+                &mut reason,
+                &mut load,
+            )
+        });
+        (reason, load)
+    }
+
     /// Reads the head and judges it.
     pub fn head(&self) {
         // SAFETY: the head is valid for its length.

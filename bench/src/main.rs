@@ -3,7 +3,7 @@
 mod engine;
 mod houses;
 
-use engine::{Engine, Held};
+use engine::{Engine, Held, Temps};
 use hem_zone::ffi::NONE;
 use std::io::Write;
 use std::process::ExitCode;
@@ -52,8 +52,10 @@ fn for_each_house(mut show: impl FnMut(usize, &str, &Engine)) {
 }
 
 fn times(repetitions: usize) {
-    let figures: [(&str, Figure); 8] = [
+    let figures: [(&str, Figure); 10] = [
         ("head", head),
+        ("demand", demand),
+        ("why", why),
         ("update", update),
         ("hour_step", hour_step),
         ("append", append),
@@ -83,6 +85,37 @@ fn head(engine: &Engine, repetitions: usize) -> f64 {
     best(repetitions, || {
         for _ in engine.hours() {
             engine.head();
+        }
+    })
+}
+
+/// The temperatures before each hour of the year.
+fn states(engine: &Engine) -> Vec<Temps> {
+    let mut state = engine.start_up();
+    let before = |hour: &Vec<u8>| {
+        let before = state.clone();
+        engine.hour_step(&mut state, hour);
+        before
+    };
+    engine.hours().iter().map(before).collect()
+}
+
+/// The demand of each hour from the temperatures that the year has before it.
+fn demand(engine: &Engine, repetitions: usize) -> f64 {
+    let states = states(engine);
+    best(repetitions, || {
+        for (state, hour) in states.iter().zip(engine.hours()) {
+            std::hint::black_box(engine.demand(state, hour));
+        }
+    })
+}
+
+/// The same hours as in `demand`.
+fn why(engine: &Engine, repetitions: usize) -> f64 {
+    let states = states(engine);
+    best(repetitions, || {
+        for (state, hour) in states.iter().zip(engine.hours()) {
+            std::hint::black_box(engine.why(state, hour));
         }
     })
 }

@@ -16,9 +16,10 @@ greatest number of elements and the start-up limit that stand there. A case and 
     3 f64 own floats: update's gains, fraction and rate; of an hour step of version 3 greatest heating, greatest
           cooling and 0; of the other operations zeros
     u16   count, the values of the answer, each 8 bytes: of a demand heating, cooling, rate, trigger (0 or 1 as an
-          integer), trigger rate; of an update the node temperatures and the 28 values of the heat balance (7 of the
-          air node, 4 and 3 of the internal boundary, 14 of the external boundary); of start-up the node
-          temperatures; of an hour step all of these
+          integer), trigger rate, and as integers its reason (1 to 6) and its load (0 neither, 1 heating, 2 cooling);
+          of an update the node temperatures and the 28 values of the heat balance (7 of the air node, 4 and 3 of the
+          internal boundary, 14 of the external boundary); of start-up the node temperatures; of an hour step the
+          first five of a demand and all of an update
 
 The Rust's hour is version 1's. Each hour step that it answers with values is also kept as one of version 2, with the
 answer that `in_version_2` (making/oracle.py) gets from the Rust. At least COOLED of them are cooled with two
@@ -36,6 +37,17 @@ Rust's total, bit for bit. How many cases hold each direction, all three, elemen
 the temperatures after the step, pitches of 60 and 120, and sums that another order of their terms would change, is
 printed, and there are at least as many of each as HELD (making/direction_cases.py) says.
 
+Reason and load of a demand (document 02 (e)) are no values of the Rust. making/why.py has the paper's tests in the
+paper's order; making/why_cases.py takes them on temperatures of the Rust's own update, at the target rate, at the rate
+of open windows and at the rate found, with the demand's gains and their share. The rate found is worked out there by
+the Rust's formula; by the same formula come the rate that triggers heating and the chosen rate, which must be those of
+the Rust's demand. The load is by the Rust's demand. Beside the samples stand demands that are constructed
+(making/near_demands.py), with the profile that they are like: setpoints at the Rust's own temperatures or as close to
+them as only one of the two closenesses tells, a supply between air and operative temperature, a target above the rate
+of open windows, and a room in which the rate found misses its setpoint. How many demands hold each reason beside each
+load, two reasons of which the earlier is named, and the others of these is printed, and there are at least as many of
+each as WHY_HELD says.
+
 data/refusals: rows made from the papers' rules alone (document 01, document 02's (a) for entry versions, (b) for limits
 and (c) for the three questions). making/order.py has the papers' tests in the papers' order; the houses that give 12 to
 15 are constructed, the entries of take-up rows are those of House P in balance, where every result is 0 and every
@@ -45,7 +57,8 @@ element. A row:
 
     u32   length of what follows
     u8    call (1 demand, 2 update, 3 start-up, 4 hour step, 5 begin, 6 append, 7 take-up, 8 the head alone,
-          structure and values, printed as read_head, 9 zone_test, 10 first_above, 11 hours_within, 12 nearest_hour)
+          structure and values, printed as read_head, 9 zone_test, 10 first_above, 11 hours_within, 12 nearest_hour);
+          number and index of a demand are also those of its reason
     u8    expected number (0: accepted), u16 expected index
     u32   length, the head (of a take-up and of a question: the whole book)
     u8    change of the zone after its head is read (0 none, 1 count, 2 treatments of the first element,

@@ -296,6 +296,7 @@ int main(int argc, char **argv) {
     test_places();
     test_stack();
     test_convection();
+    test_why();
     if (argc > 1) write_year(argv[1], p, warm);
     test_index(p);
     free(p);

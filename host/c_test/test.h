@@ -34,5 +34,7 @@ void test_places(void);
 void test_stack(void);
 /* The convective heat to the inner surfaces by direction. */
 void test_convection(void);
+/* Why an hour has its rate and its load. */
+void test_why(void);
 
 #endif

@@ -12,7 +12,7 @@ _hem_year() {
     local earlier=''
     ((COMP_CWORD > 2)) && earlier=${COMP_WORDS[COMP_CWORD - 2]}
     [[ $earlier == '=' ]] && earlier=${COMP_WORDS[COMP_CWORD - 3]}
-    local commands='sample house hours check run report warm show cut help'
+    local commands='sample house hours check run report warm why show cut help'
     for ((i = 1; i < COMP_CWORD; i++)); do
         if [[ ${COMP_WORDS[i]} != -* && " $commands " == *" ${COMP_WORDS[i]} "* ]]; then
             command=${COMP_WORDS[i]}

@@ -10,20 +10,25 @@
 //! fraction, as version 1 does; its answer to 6 is the one that it gives where a cooled hour has the
 //! cooling fraction in the place of the heating fraction, and its answer to 7 that with the limit in the
 //! place of a power beyond it. The original's heat balance has 25 values; the convective heat by direction
-//! is worked out from the temperatures of its answer. An answer of the original that the engine refuses with
+//! is worked out from the temperatures of its answer. The answer to 1 may have two words more, reason and load
+//! as numbers, worked out from temperatures of the original (crates/replay/answer_cases.py writes them): then
+//! the demand is asked for both, and they are counted. An answer of the original that the engine refuses with
 //! 12 or 13 is no difference: the original tests for less. Signs of zeros are counted for themselves.
 #[path = "../tests/common/convection.rs"]
 mod convection;
 
 use convection::{by_direction, terms};
 use hem_zone::{
-    Demand, Head, HeatBalance, Limits, Refusal, Rule, State, Zone, ENTRY_VERSION_1, ENTRY_VERSION_2,
+    Demand, Head, HeatBalance, Limits, Load, RateReason, Refusal, Rule, State, Why, Zone,
+    ENTRY_VERSION_1, ENTRY_VERSION_2,
 };
 use std::process::ExitCode;
 
 /// Values of the original's heat balance, and those of them that stand behind the internal boundary.
 const BALANCE: usize = 25;
 const EXTERNAL: usize = 14;
+/// Words of the original's demand; behind them may stand reason and load.
+const DEMAND: usize = 4;
 
 struct Case<'a> {
     call: u8,
@@ -89,11 +94,22 @@ impl<'a> Case<'a> {
         Ok(values)
     }
 
+    /// Whether an answer has reason and load.
+    fn has_reason(&self, line: &str) -> bool {
+        self.call == 1 && line.split(' ').count() == DEMAND + 2
+    }
+
     /// The engine's values, in the order of the answers; a trigger that is absent is a NaN.
-    fn ask(&self) -> Result<Vec<f64>, Refusal> {
+    fn ask(&self, line: &str) -> Result<Vec<f64>, Refusal> {
         let zone = Zone::from_head(self.head)?;
         match self.call {
-            1 => Ok(demand(&zone.space_heat_cool_demand(&self.state, self.conditions)?)),
+            1 => {
+                let asked = zone.space_heat_cool_demand(&self.state, self.conditions);
+                let why = zone.why(&self.state, self.conditions);
+                let mut values = demand_and_why(asked, why)?;
+                values.truncate(if self.has_reason(line) { values.len() } else { DEMAND });
+                Ok(values)
+            }
             2 => {
                 let [gains, fraction, rate] = self.own[..] else { unreachable!() };
                 let after =
@@ -107,6 +123,22 @@ impl<'a> Case<'a> {
             }
             _ => Ok(zone.start_up()?.temps().to_vec()),
         }
+    }
+}
+
+/// A demand's values, and reason and load by the bits of their numbers. None, which is no answer of the
+/// original, where only one of the two is refused or each otherwise.
+fn demand_and_why(
+    asked: Result<Demand, Refusal>,
+    why: Result<Why, Refusal>,
+) -> Result<Vec<f64>, Refusal> {
+    match (asked, why) {
+        (Ok(asked), Ok(why)) => {
+            let numbers = [why.reason.number(), why.load as u64].map(f64::from_bits);
+            Ok([demand(&asked), numbers.to_vec()].concat())
+        }
+        (Err(asked), Err(why)) if asked == why => Err(asked),
+        _ => Ok(vec![]),
     }
 }
 
@@ -150,6 +182,8 @@ struct Tally {
     refused_by_both: usize,
     refused_by_engine: usize,
     different: usize,
+    /// Demands with a reason: for each of the six how many with neither load, heating and cooling.
+    why: [[usize; Load::ALL.len()]; RateReason::ALL.len()],
 }
 
 fn same_bits(a: &[f64], b: &[f64]) -> bool {
@@ -164,7 +198,8 @@ fn same_values(a: &[f64], b: &[f64]) -> bool {
 
 impl Tally {
     fn add(&mut self, place: usize, case: &Case, line: &str) {
-        let (engine, call) = (case.ask(), case.call);
+        let (engine, call) = (case.ask(line), case.call);
+        self.count_why(case, line, &engine);
         let kind = match (&engine, case.stored(line)) {
             (Ok(a), Ok(b)) if same_bits(a, &b) => &mut self.same,
             (Ok(a), Ok(b)) if same_values(a, &b) => &mut self.zero_signs,
@@ -176,6 +211,12 @@ impl Tally {
             }
         };
         *kind += 1;
+    }
+
+    fn count_why(&mut self, case: &Case, line: &str, engine: &Result<Vec<f64>, Refusal>) {
+        if let (true, Ok([.., reason, load])) = (case.has_reason(line), engine.as_deref()) {
+            self.why[reason.to_bits() as usize - 1][load.to_bits() as usize] += 1;
+        }
     }
 }
 

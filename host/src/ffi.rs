@@ -33,6 +33,17 @@ unsafe extern "C" {
         out: *mut f64,
     ) -> u32;
 
+    pub fn hem_why(
+        head: *const u8,
+        head_len: usize,
+        temps: *const f64,
+        nodes: u64,
+        cond: *const u8,
+        cond_len: usize,
+        reason: *mut u64,
+        load: *mut u64,
+    ) -> u32;
+
     pub fn hem_update(
         head: *const u8,
         head_len: usize,

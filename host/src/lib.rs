@@ -5,7 +5,8 @@
 //!
 //! - [`Head`] describes a zone and [`Conditions`] an hour; both are written to the bytes of
 //!   docs/FORMATS.md and judged by the engine alone.
-//! - [`Zone`] is a head that the engine accepted. It answers start-up, demand, update and hour step.
+//! - [`Zone`] is a head that the engine accepted. It answers start-up, demand, update and hour step, and says
+//!   [why](Zone::why) an hour has its air change rate and its load.
 //! - [`State`] holds the node temperatures, handed back by each call.
 //! - [`Book`] is a year: a head and the entry of each hour, which can be written to a file as it
 //!   grows and taken up again after a power cut.
@@ -52,6 +53,7 @@ pub mod samples;
 pub mod text;
 mod values;
 mod versions;
+mod why;
 mod zone;
 
 pub use book::{Book, MOST_ENTRIES};
@@ -70,4 +72,5 @@ pub use versions::{
     entry_versions_to, Rule, ENTRY_VERSION_1, ENTRY_VERSION_2, ENTRY_VERSION_3,
     NEWEST_ENTRY_VERSION,
 };
+pub use why::{Load, RateReason, Why};
 pub use zone::{Demand, State, Zone};

@@ -156,7 +156,7 @@ impl Zone {
         Ok(state)
     }
 
-    fn given<'a>(&'a self, state: &'a State, conditions: &'a [u8]) -> Given<'a> {
+    pub(crate) fn given<'a>(&'a self, state: &'a State, conditions: &'a [u8]) -> Given<'a> {
         Given {
             head: &self.head,
             temps: &state.temps,

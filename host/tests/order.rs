@@ -71,6 +71,7 @@ fn hours() {
         let mut bytes = hour().to_bytes();
         change(&mut bytes);
         let demand = numbers(zone.space_heat_cool_demand(state, &bytes));
+        assert_eq!(demand, numbers(zone.why(state, &bytes)));
         let limits = Limits { heating: 0.0, cooling: 0.0 };
         for rule in [ENTRY_VERSION_1.into(), ENTRY_VERSION_2.into(), Rule::from(limits)] {
             assert_eq!(demand, numbers(zone.hour_step(state, &bytes, rule)));

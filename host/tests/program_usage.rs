@@ -7,8 +7,8 @@ use std::fs;
 use std::path::Path;
 use std::process::Command;
 
-const COMMANDS: [&str; 9] =
-    ["sample", "house", "hours", "check", "run", "report", "warm", "show", "cut"];
+const COMMANDS: [&str; 10] =
+    ["sample", "house", "hours", "check", "run", "report", "warm", "why", "show", "cut"];
 
 fn folder(name: &str) -> Folder {
     let folder = Folder::with_house_p(name, 3);
@@ -71,6 +71,18 @@ fn a_usage_error_is_one_sentence_with_where_to_read_more() {
         (&["warm", "b", "--above=1", "--above=2"], "warm: --above is given twice; see"),
         (&["warm", "b", "--within", "1", "2", "--within=1", "2"], "warm: --within is given twice;"),
         (&["warm", "b", "--head", "x"], "warm: --head is not an option of this command; see"),
+        (&["why"], "why: BOOK is missing; see `hem-year help why`"),
+        (&["why", "b", "1", "2"], "why: \"2\" is one word too many; see `hem-year help why`"),
+        (&["why", ""], "why: the word for BOOK is empty; see"),
+        (&["why", "b", ""], "why: the word for HOUR is empty; see"),
+        (&["why", "b", "-1"], "why: -1 is not an option; see"),
+        (&["why", "b", "--hour", "1"], "why: --hour is not an option of this command; see"),
+        (
+            &["why", "b", "noon"],
+            "why: HOUR is \"noon\", which is not a whole number from 0 to 18,446,744,073,709,551,615; see",
+        ),
+        (&["why", "b", "1.5"], "why: HOUR is \"1.5\", which is not a whole number"),
+        (&["why", "b", "18446744073709551616"], "which is not a whole number from 0 to 18,446,744,"),
         (&["report", "b", "--above", "1"], "report: --above is not an option of this command; see"),
         (&["--csv"], "--csv needs a file; see `hem-year help`"),
     ] {
@@ -222,6 +234,7 @@ fn the_completion_offers_commands_options_and_files() {
     all.sort();
     assert_eq!(completed(&folder, &[""]), all);
     assert_eq!(completed(&folder, &["help", "c"]), ["check", "cut"]);
+    assert_eq!(completed(&folder, &["w"]), ["warm", "why"]);
     assert_eq!(completed(&folder, &["-"]), ["--help", "--version"]);
     for command in COMMANDS {
         let help = folder.call(&["help", command]).done();

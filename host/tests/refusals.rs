@@ -95,7 +95,7 @@ fn n05_head_values() {
 
 #[test]
 fn n06_state() {
-    let ask = |state: &State| zone().space_heat_cool_demand(state, &hour().to_bytes());
+    let ask = |state: &State| demand_of(&zone(), state, &hour().to_bytes());
     is(ask(&State::new(&[20.0; 12])), 6, 0, "the state has 12 temperatures, the zone 13 nodes");
     is(ask(&State::new(&[20.0; 500])), 6, 0, "the state has 500 temperatures, the zone 13 nodes");
     let mut temps = [20.0; 13];
@@ -115,7 +115,7 @@ fn n07_size_of_the_conditions() {
     let sentence = "the conditions have 195 bytes, where a zone of 3 elements takes 236";
     is(demand_with(|c| c.elements.truncate(2)), 7, 0, sentence);
     let sentence = "the conditions have 0 bytes, where a zone of 3 elements takes 236";
-    is(zone().space_heat_cool_demand(&twenty(), &[]), 7, 0, sentence);
+    is(demand_of(&zone(), &twenty(), &[]), 7, 0, sentence);
 }
 
 #[test]
@@ -123,7 +123,7 @@ fn n08_form_of_the_conditions() {
     let with = |at: usize, byte| {
         let mut bytes = hour().to_bytes();
         bytes[at] = byte;
-        zone().space_heat_cool_demand(&twenty(), &bytes)
+        demand_of(&zone(), &twenty(), &bytes)
     };
     is(with(96, 2), 8, 0, "the rate code is 2, not 0 (fixed) or 1 (target and open)");
     is(with(105, 128), 8, 0, "a fixed rate has a second rate that is not all zero bits");

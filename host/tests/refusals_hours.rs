@@ -39,7 +39,7 @@ fn n14_load_without_effect() {
     let zone = Zone::new(&head).unwrap();
     let hour = hour_p(21.0, 24.0).to_bytes();
     let sentence = "heating or cooling would not change the temperature, so no demand can be found";
-    is(zone.space_heat_cool_demand(&State::new(&[20.0; 3]), &hour), 14, 0, sentence);
+    is(demand_of(&zone, &State::new(&[20.0; 3]), &hour), 14, 0, sentence);
 }
 
 #[test]

@@ -23,6 +23,7 @@ fn a_record_is_taken_where_bytes_are() {
 
     let (z, s) = (zone(), twenty());
     assert_eq!(z.space_heat_cool_demand(&s, &hour), z.space_heat_cool_demand(&s, &hour_bytes));
+    assert_eq!(z.why(&s, &hour), z.why(&s, &hour_bytes[..]));
     let version = ENTRY_VERSION_2;
     assert_eq!(z.hour_step(&s, &hour, version), z.hour_step(&s, &hour_bytes[..], version));
     assert_eq!(
@@ -70,6 +71,7 @@ fn every_call(zone: &Zone, book: &Book) -> Vec<Option<Refusal>> {
         Zone::from_head(&house_p()).err(),
         zone.start_up().err(),
         zone.space_heat_cool_demand(&twenty(), &hour).err(),
+        zone.why(&twenty(), &hour).err(),
         zone.update_temperatures(&twenty(), &hour, 0.0, 1.0, 0.0).err(),
         zone.hour_step(&twenty(), &hour, ENTRY_VERSION_2).err(),
         zone.temp_operative(&twenty()).err(),
@@ -124,7 +126,7 @@ fn another_floating_point_environment_is_refused_by_every_call() {
             assert_eq!(refusal.to_string(), refusal.sentence());
         }
     }
-    assert_eq!(with_control(0, || every_call(&zone, &book)), vec![None; 12]);
+    assert_eq!(with_control(0, || every_call(&zone, &book)), vec![None; 13]);
 }
 
 #[test]

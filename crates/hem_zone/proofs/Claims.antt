@@ -9,12 +9,14 @@ use Rattle.zone.specs.declared.record.zone_record.Zone.{Zone}
 use Rattle.zone.specs.Record.BuildingElement.{standardCoefficients}
 use Rattle.zone.proofs.Claims.HeadRefusals.{head-refusals}
 use Rattle.zone.proofs.Claims.Refusals.{operative-refusals, demand-refusals, update-refusals, hour-step-refusals, start-up-refusals}
+use Rattle.zone.proofs.Claims.Why.{why-refusals}
 use Rattle.book.specs.Year.{hourItem}
 use Rattle.book.proofs.Refusals.{begin-refusals, append-refusals, take-up-refusals}
 use Rattle.tools.proofs.Refusals.{question-refusals}
 use Rattle.hem_zone.specs.Code.{refusalCode, answerCode, lentAfter, answered}
 use Rattle.hem_zone.specs.Arrays.{stateIn, limitsOf}
 use Rattle.hem_zone.specs.Zone.{withZone, hemHead, hemStartUp, hemOperative, hemDemand, hemUpdate, hemHourStep}
+use Rattle.hem_zone.specs.Why.{hemWhy}
 use Rattle.hem_zone.specs.Book.{bookStateOf, hemBegin, hemAppend, hemTakeUp}
 use Rattle.hem_zone.specs.Questions.{hemFirstAbove, hemHoursWithin, hemNearestHour}
 use Rattle.hem_zone.specs.Claims.{AfterHead, ofHead, ofCall, ReturnCodeSpec, Answered, Claims}
@@ -69,10 +71,10 @@ with-zone-refuses head f p =
     bind-refuses _ (refuses-also (λ n i q. ofHead q) (head-refusals head)) λ h _.
     refuses-also (λ n i q. ofCall q) (p (h .zone))
 
--- ---- the twelve functions
+-- ---- the thirteen functions
 
 pub claims : Claims
-unfolding hemHead hemStartUp hemOperative hemDemand hemUpdate hemHourStep hemBegin hemAppend hemTakeUp hemFirstAbove hemHoursWithin hemNearestHour
+unfolding hemHead hemStartUp hemOperative hemDemand hemWhy hemUpdate hemHourStep hemBegin hemAppend hemTakeUp hemFirstAbove hemHoursWithin hemNearestHour
 claims =
     record {
       «hem_head» = λ head. returned head-numbered (head-refusals head);
@@ -84,6 +86,9 @@ claims =
       «hem_demand» = λ head temps nodes conditions out.
           answers (after-head-numbered demand-numbered) _ _
           (with-zone-refuses head _ λ z. demand-refusals standardCoefficients z (stateIn temps nodes) conditions);
+      «hem_why» = λ head temps nodes conditions reason load.
+          answers (after-head-numbered demand-numbered) _ _
+          (with-zone-refuses head _ λ z. why-refusals standardCoefficients z (stateIn temps nodes) conditions);
       «hem_update» = λ head temps nodes conditions gains fraction rate balance.
           answers (after-head-numbered update-numbered) _ _
           (with-zone-refuses head _ λ z. update-refusals standardCoefficients z (stateIn temps nodes) conditions gains fraction rate);

@@ -1,6 +1,8 @@
 -- The three demands of specs/Demands.antt, from the theorems that prove them.
 use Rattle.zone.specs.Record.BuildingElement.{standardCoefficients}
+use mathlib.Core.Path.{refl}
 use Rattle.zone.proofs.Claims.Demand.{demand-call-signs, hour-call-signs}
+use Rattle.zone.proofs.Claims.Why.{why-answers, why-refuses}
 use Rattle.zone.proofs.Claims.StartUp.{start-up-not-settled, start-up-is-not-settled, start-up-settled, start-up-is-settled}
 use Rattle.zone.proofs.Claims.State.{update-state-tested, hour-state-tested, start-up-state-tested}
 use Rattle.zone.proofs.Claims.Reasons.{demand-reasons, hour-reasons, update-reasons, start-up-reasons}
@@ -43,6 +45,9 @@ demands =
         indices = indices-of-zone standardCoefficients z;
         demand-signs = demand-call-signs standardCoefficients z;
         hour-signs = hour-call-signs standardCoefficients z;
+        why-answers = why-answers standardCoefficients z;
+        why-refuses = why-refuses standardCoefficients z;
+        why-numbers = record { of-reasons = refl; of-loads = refl };
         not-settled = start-up-not-settled standardCoefficients z;
         is-not-settled = start-up-is-not-settled standardCoefficients z;
         settled = start-up-settled standardCoefficients z;

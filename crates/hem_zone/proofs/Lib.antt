@@ -4,6 +4,7 @@ pub mod Laws
 pub mod Cases
 pub mod BookCases
 pub mod QuestionCases
+pub mod WhyCases
 pub mod Claims
 pub mod ToldApart
 pub mod BookTypes

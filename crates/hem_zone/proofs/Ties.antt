@@ -1,9 +1,10 @@
--- The contracts of the twelve functions, tied to their definitions. A contract speaks of references: a has the arguments as they were given, e what
+-- The contracts of the thirteen functions, tied to their definitions. A contract speaks of references: a has the arguments as they were given, e what
 -- was lent as the call left it, each by its place among the parameters; `now` is what stands behind a reference.
 use contract.Lifetimes.{Lfts}
 use denote.Ref.{now}
 use borrow.Author.Needs.{needs}
 use Rattle.hem_zone.specs.Zone.{hemHead, hemStartUp, hemOperative, hemDemand, hemUpdate, hemHourStep}
+use Rattle.hem_zone.specs.Why.{hemWhy}
 use Rattle.hem_zone.specs.Book.{cBookState, hemBegin, hemAppend, hemTakeUp}
 use Rattle.hem_zone.specs.Questions.{hemFirstAbove, hemHoursWithin, hemNearestHour}
 use Rattle.hem_zone.specs.Ties.{Tied}
@@ -11,6 +12,7 @@ use Rattle.hem_zone.proofs.head.hem_head.Reads as head-reads
 use Rattle.hem_zone.proofs.step.hem_start_up.Reads as start-up-reads
 use Rattle.hem_zone.proofs.step.hem_operative.Reads as operative-reads
 use Rattle.hem_zone.proofs.step.hem_demand.Reads as demand-reads
+use Rattle.hem_zone.proofs.why.hem_why.Reads as why-reads
 use Rattle.hem_zone.proofs.step.hem_update.Reads as update-reads
 use Rattle.hem_zone.proofs.step.hem_hour_step.Reads as hour-step-reads
 use Rattle.hem_zone.proofs.book_calls.hem_begin.Reads as begin-reads
@@ -39,6 +41,11 @@ pub record Ties : Type 0 where
       (κs : Lfts 4) → Tied (demand-reads.Pre κs) (demand-reads.Post κs)
       (λ r e. (r, now (e .1 .1 .1 .1 .0)))
       (λ a. hemDemand (now (a .0)) (now (a .1 .0)) (a .1 .1 .0) (now (a .1 .1 .1 .0)) (now (a .1 .1 .1 .1 .0)))
+  -- fn hem_why(head, temps, nodes, conditions, reason, load)
+  pub «hem_why» :
+      (κs : Lfts 5) → Tied (why-reads.Pre κs) (why-reads.Post κs)
+      (λ r e. (r, (now (e .1 .1 .1 .1 .0), now (e .1 .1 .1 .1 .1 .0))))
+      (λ a. hemWhy (now (a .0)) (now (a .1 .0)) (a .1 .1 .0) (now (a .1 .1 .1 .0)) (now (a .1 .1 .1 .1 .0)) (now (a .1 .1 .1 .1 .1 .0)))
   -- fn hem_update(head, temps, nodes, conditions, gains, fraction, rate, balance)
   pub «hem_update» :
       (κs : Lfts 4) → Tied (update-reads.Pre κs) (update-reads.Post κs)
@@ -87,6 +94,7 @@ ties =
       «hem_start_up» = λ κs. record { asks-nothing = λ a. search needs; is-definition = λ a r e p. p };
       «hem_operative» = λ κs. record { asks-nothing = λ a. search needs; is-definition = λ a r e p. p };
       «hem_demand» = λ κs. record { asks-nothing = λ a. search needs; is-definition = λ a r e p. p };
+      «hem_why» = λ κs. record { asks-nothing = λ a. search needs; is-definition = λ a r e p. p };
       «hem_update» = λ κs. record { asks-nothing = λ a. search needs; is-definition = λ a r e p. p };
       «hem_hour_step» = λ κs. record { asks-nothing = λ a. search needs; is-definition = λ a r e p. p };
       «hem_begin» = λ κs. record { asks-nothing = λ a. search needs; is-definition = λ a r e p. p };

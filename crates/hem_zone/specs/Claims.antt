@@ -12,6 +12,7 @@ use Rattle.zone.specs.Claims.HeadRefusals.{HeadRefusal}
 use Rattle.zone.specs.Calls.State.{operative}
 use Rattle.zone.specs.Calls.Hour.{demand, updateTemperatures, hourStep}
 use Rattle.zone.specs.Calls.StartUp.{initNodeTemps}
+use Rattle.zone.specs.Calls.Why.{why}
 use Rattle.zone.specs.Claims.Refusals.{OperativeRefusal, DemandRefusal, HourRefusal, UpdateRefusal, StartUpRefusal}
 use Rattle.book.specs.Model.Calls as Book
 use Rattle.book.specs.Year.{hourItem, yearInterface}
@@ -19,6 +20,7 @@ use Rattle.book.specs.Refusals.{BeginRefusal, AppendRefusal, TakeUpRefusal}
 use Rattle.hem_zone.specs.Code.{refusalCode}
 use Rattle.hem_zone.specs.Arrays.{stateIn, demandOut, limitsOf}
 use Rattle.hem_zone.specs.Zone.{withZone, hemHead, startUpOut, hemStartUp, hemOperative, hemDemand, updateOut, hemUpdate, hourOut, hemHourStep}
+use Rattle.hem_zone.specs.Why.{whyOut, hemWhy}
 use Rattle.tools.specs.Questions.{firstAboveIn, hoursWithinIn, nearestHourIn}
 use Rattle.tools.specs.Refusals.{QuestionRefusal}
 use Rattle.hem_zone.specs.Questions.{hourOrNone, hemFirstAbove, hemHoursWithin, hemNearestHour}
@@ -76,6 +78,10 @@ pub record Claims : Type 0 where
       (head : List ℕ) (temps : List Float) (nodes : ℕ) (conditions : List ℕ) (out : List Float)
       → Answered (AfterHead DemandRefusal) demandOut out (withZone head λ z. demand standardCoefficients z (stateIn temps nodes) conditions)
       (hemDemand head temps nodes conditions out)
+  pub «hem_why» :
+      (head : List ℕ) (temps : List Float) (nodes : ℕ) (conditions : List ℕ) (reason load : ℕ)
+      → Answered (AfterHead DemandRefusal) whyOut (reason, load) (withZone head λ z. why standardCoefficients z (stateIn temps nodes) conditions)
+      (hemWhy head temps nodes conditions reason load)
   pub «hem_update» :
       (head : List ℕ) (temps : List Float) (nodes : ℕ) (conditions : List ℕ) (gains fraction rate : Float) (balance : List Float)
       → Answered (AfterHead UpdateRefusal) updateOut (temps, balance)

@@ -1,4 +1,4 @@
--- The three demands for the engine as a whole: for the twelve functions that C calls. A call returns and leaves what its function's definition says
+-- The three demands for the engine as a whole: for the thirteen functions that C calls. A call returns and leaves what its function's definition says
 -- (specs/Zone.antt, specs/Book.antt): that is the contract's, which the check proves, as it proves that the call ends, and `Ties` (proofs/Ties.antt) says it of each contract. So the
 -- demands are stated of the definitions. Each line is a type that is proved elsewhere.
 use mathlib.Core.Path.{_≡_}
@@ -16,6 +16,7 @@ use Rattle.zone.specs.Record.BuildingElement.{standardCoefficients}
 use Rattle.zone.specs.Claims.Head.{HeadClaims, ZoneClaims, ConditionsClaims}
 use Rattle.zone.specs.Claims.Refusals.{CallRefusals, IndicesOfZone}
 use Rattle.zone.specs.Claims.DemandClaims.{DemandCallSigns, HourCallSigns}
+use Rattle.zone.specs.Claims.Why.{WhyAnswers, WhyRefuses}
 use Rattle.zone.specs.Claims.StartUpClaims.{StartUpNotSettled, StartUpIsNotSettled, StartUpSettled, StartUpIsSettled}
 use Rattle.zone.specs.Claims.Versions as Hours
 use Rattle.zone.specs.Claims.Convection.{YieldsDirection, UpdateByDirection, HourByDirection}
@@ -37,6 +38,7 @@ use Rattle.tools.specs.Claims.{QuestionClaims}
 use Rattle.tools.specs.Refusals.{QuestionRefusals}
 use Rattle.hem_zone.specs.Arrays.{limitsOf}
 use Rattle.hem_zone.specs.Claims.{Claims, ToldApart}
+use Rattle.hem_zone.specs.Why.{WhyNumbers}
 use Rattle.hem_zone.specs.Book.{CBookState, bookStateOf, hemBegin, hemAppend, hemTakeUp}
 use Rattle.hem_zone.specs.BookTypes.{replyIn, cTypes}
 
@@ -52,7 +54,7 @@ pub record Demand1 (Ties : Type 0) : Type 0 where
   pub told-apart : ToldApart
 
 -- "Values equal BS EN ISO 52016-1's equations with one rounding per operation in the Rust's written order": what an accepted call writes is the value
--- of `initNodeTemps`, `operative`, `demand`, `updateTemperatures`, `hourStep` (`writes` in Claims.antt), which are those equations. Of these:
+-- of `initNodeTemps`, `operative`, `demand`, `why`, `updateTemperatures`, `hourStep` (`writes` in Claims.antt), which are those equations. Of these:
 pub record Demand2 (z : Zone) : Type 0 where
   -- a head's own bytes decide it, a zone given as a record is judged as its head would be, and an hour's conditions are read as they are written;
   pub heads : HeadClaims
@@ -68,6 +70,11 @@ pub record Demand2 (z : Zone) : Type 0 where
   -- heating ≥ 0 and cooling ≤ 0,
   pub demand-signs : DemandCallSigns standardCoefficients z
   pub hour-signs : HourCallSigns standardCoefficients z
+  -- the reason that is named for an hour's rate is the earliest of the paper's list that holds and tells which rate the demand chose, the load beside it is the
+  -- demand's; an hour is refused exactly where its demand is, and alike,
+  pub why-answers : WhyAnswers standardCoefficients z
+  pub why-refuses : WhyRefuses standardCoefficients z
+  pub why-numbers : WhyNumbers
   -- 15 means that no pass up to the limit settled, and an answer is the temperatures before the first pass that did,
   pub not-settled : StartUpNotSettled standardCoefficients z
   pub is-not-settled : StartUpIsNotSettled standardCoefficients z

@@ -5,6 +5,7 @@ mod code;
 mod head;
 mod questions;
 mod step;
+mod why;
 
 pub use book_calls::hem_append;
 pub use book_calls::hem_begin;
@@ -18,3 +19,4 @@ pub use step::hem_hour_step;
 pub use step::hem_operative;
 pub use step::hem_start_up;
 pub use step::hem_update;
+pub use why::hem_why;

@@ -7,6 +7,8 @@ MILLION = 1e6
 # places of the fractions in the conditions
 HEATING_FRACTION, COOLING_FRACTION = 32, 40
 GAINS_CONVECTIVE, GAINS_RADIATIVE = 80, 88
+# of heating, cooling and ventilation setpoint, with the supply's temperature behind them; of the rate code and the rates
+SETPOINTS, RATE_CODE, RATES = 48, 96, 97
 # entry versions that hours have, the first with limits, and some that no hour has
 VERSIONS, LIMITS_VERSION, NO_VERSIONS = (1, 2, 3), 3, (0, 4, 257, 2 ** 64 - 1)
 # greatest limit, W

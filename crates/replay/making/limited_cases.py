@@ -3,8 +3,8 @@ import itertools
 import math
 import struct
 
-from making.layout import COOLING_FRACTION, GAINS_CONVECTIVE, HEATING_FRACTION, MOST_LIMIT, f64, floats_at, u16, u32
-from making.oracle import answered, number_of
+from making.layout import COOLING_FRACTION, GAINS_CONVECTIVE, HEATING_FRACTION, MOST_LIMIT, f64, floats_at
+from making.oracle import answered, case_bytes, number_of
 
 
 def close_to_zero(g):
@@ -79,8 +79,7 @@ def in_version_3(program, cases, answers, pairs, seen):
             if abs(after) < abs(w):
                 seen["limits that hold, " + ("cooling" if w < 0.0 else "heating")] += 1
             rate = bytes.fromhex(line.split()[2])
-            f.write(bytes([2]) + u32(len(head)) + head + u16(len(temps) // 8) + temps)
-            f.write(u32(len(conditions)) + conditions + f64(*gains_and_share(conditions, after)) + rate)
+            f.write(case_bytes(2, head, temps, conditions, f64(*gains_and_share(conditions, after)) + rate))
             chosen.append(((6, head, temps, conditions, f64(*limits, 0.0)), line, after == w))
     again = answered(program, cases, answers)
     assert len(again) == len(chosen)

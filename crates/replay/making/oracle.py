@@ -39,6 +39,10 @@ def read_cases(b):
         yield op, head, temps, conditions, own
 
 
+def case_bytes(op, head, temps, conditions, own=b""):
+    return bytes([op]) + u32(len(head)) + head + u16(len(temps) // 8) + temps + u32(len(conditions)) + conditions + own
+
+
 def number_of(line):
     for start, number in NUMBERS:
         if line.startswith(start):
@@ -68,8 +72,7 @@ def in_version_2(program, cases, answers, pairs):
         for (op, head, temps, conditions, _), line in hours:
             if is_cooled(line):
                 conditions = put(conditions, HEATING_FRACTION, conditions[COOLING_FRACTION:COOLING_FRACTION + 8])
-            f.write(bytes([op]) + u32(len(head)) + head + u16(len(temps) // 8) + temps)
-            f.write(u32(len(conditions)) + conditions)
+            f.write(case_bytes(op, head, temps, conditions))
     again = answered(program, cases, answers)
     assert len(again) == len(hours)
     for ((_, *case), line), (_, line_2) in zip(hours, again):

@@ -3,8 +3,9 @@ import math
 from fractions import Fraction
 
 from making.layout import (
-    GAINS_CONVECTIVE, LIMITS_VERSION, MILLION, MOST_LIMIT, NO_CONTROL, TRANSPARENT, VERSIONS, elements_of, f64,
-    floats_at, node_count, put, record, u64)
+    GAINS_CONVECTIVE, LIMITS_VERSION, MILLION, MOST_LIMIT, NO_CONTROL, VERSIONS, f64, floats_at,
+    node_count, put, record, u64)
+from making.operative import operative
 from making.order import head_answer
 from making.houses import (
     BALANCE, COOLED_BY_HALF, ENTRY, HEAD, HEATED, HEATED_TO, HOT_START, HOUSE_P, LIMITS, P_COOLED, P_HEATED, SINGULAR,
@@ -49,28 +50,6 @@ def entry(head, version, gains, temps):
     c = put(put(conditions_of(head), 48, f64(-100.0, 100.0)), GAINS_CONVECTIVE, f64(gains))
     limits = f64(MOST_LIMIT, 0.0) if version == LIMITS_VERSION else b""
     return record(bytes([version]) + c + limits + f64(0.0, 0.0, 0.0) + b"\0" + f64(0.0) + f64(*temps))
-
-
-def sum2(terms):
-    """document 01, "Sums" """
-    s = c = 0.0
-    for t in terms:
-        u = s + t
-        z = u - s
-        c += (s - (u - z)) + (t - z)
-        s = u
-    return s + c
-
-
-def operative(head, temps):
-    """the mean of the air and of the inner surfaces by their areas"""
-    areas, inner, at = [], [], 0
-    for kind, _, p in elements_of(head):
-        at += 2 if kind == TRANSPARENT else 5
-        areas.append(floats_at(head, p + 2, 1)[0])
-        inner.append(temps[at - 1])
-    assert len(temps) == node_count(head) == at + 1
-    return (temps[at] + sum2(a * t for a, t in zip(areas, inner)) / sum2(areas)) / 2.0
 
 
 def first_above(start, ts, v):

@@ -6,6 +6,7 @@ use crate::bytes::limits_at;
 use crate::bytes::one_at;
 use crate::bytes::part;
 use crate::bytes::read_u16_be;
+use crate::bytes::read_u64_be;
 use crate::bytes::state_at;
 use crate::calls;
 use crate::records;
@@ -13,6 +14,7 @@ use crate::records::next_record;
 use crate::records::record;
 use crate::tally::CaseTally;
 use crate::tally::no_cases;
+use crate::why_calls;
 use std::num::wrapping_add_usize;
 use zone::Limits;
 use zone::Verdict;
@@ -34,6 +36,11 @@ struct Case {
 }
 
 const HEAD: usize = 5;
+
+// Behind the values of a demand: its reason, and the load beside it.
+const REASON: usize = 40;
+
+const LOAD: usize = 48;
 
 // What an hour of an earlier version is given, where limits are neither tested nor used: out of range, and each power
 // would be beyond one of them.
@@ -74,7 +81,7 @@ fn run_zone(z: ZoneFront, codes: &[u8; 72], values: &[f64; 600], c: Case, b: &[u
     let conditions = part(b, c.conditions, c.conditions_length);
     let op = c.op;
     match op {
-        1 => calls::demand(z, codes, values, s, conditions),
+        1 => why_calls::demand_and_why(z, codes, values, s, conditions),
         2 => calls::update(z, codes, values, s, conditions, b, c.own),
         3 => calls::start_up(z, codes, values),
         4 => calls::hour_step(z, codes, values, s, conditions, 1, no_limits()),
@@ -106,11 +113,21 @@ fn difference(a: Answer, c: Case, b: &[u8]) -> usize {
     first_difference(a, b, c.values, c.count)
 }
 
+// A demand's stored reason and load, where it is accepted.
+fn counted_reason(t: CaseTally, c: Case, b: &[u8]) -> CaseTally {
+    if c.op != 1 || c.number != 0 {
+        return t;
+    }
+    let reason = read_u64_be(b, wrapping_add_usize(c.values, REASON)) as usize;
+    let load = read_u64_be(b, wrapping_add_usize(c.values, LOAD)) as usize;
+    t.reasoned(reason, load)
+}
+
 fn check_case(t: CaseTally, b: &[u8]) -> CaseTally {
     let c = case_at(b);
     let a = run_case(c, b);
     let found = difference(a, c, b);
-    t.counted(c.profile, c.op, c.number, found)
+    counted_reason(t, c, b).counted(c.profile, c.op, c.number, found)
 }
 
 pub fn check_cases(fd: i32) -> CaseTally {

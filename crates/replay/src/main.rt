@@ -1,6 +1,7 @@
 // Replays a sample of the oracle's answers and compares every value, bit by bit (zeros of either sign are equal), also the
-// sums by direction of heat flow, which stand among its values in each heat balance; then the refusals and the questions
-// over a book, each with its number and index or its answer. How the data were made: make_data.py.
+// sums by direction of heat flow, which stand among its values in each heat balance, and reason and load, which stand behind
+// each demand; then the refusals, each of a demand also asked for its reason, and the questions over a book, each with its
+// number and index or its answer. How the data were made: make_data.py.
 mod answer;
 mod book_calls;
 mod bytes;
@@ -13,6 +14,7 @@ mod refusals;
 mod report;
 mod row;
 mod tally;
+mod why_calls;
 
 fn replay_cases() {
     let fd = os::open_read(b"cases");

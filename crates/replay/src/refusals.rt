@@ -17,6 +17,7 @@ use crate::row::Row;
 use crate::row::row_at;
 use crate::tally::RowTally;
 use crate::tally::no_rows;
+use crate::why_calls;
 use zone::State;
 use zone::Verdict;
 use zone::ZoneFront;
@@ -65,7 +66,7 @@ fn run_zone(z: ZoneFront, codes: &[u8; 72], values: &[f64; 600], r: Row, b: &[u8
     let conditions = part(b, r.conditions, r.conditions_length);
     let call = r.call;
     match call {
-        1 => calls::demand(z, codes, values, s, conditions),
+        1 => why_calls::demand_and_why(z, codes, values, s, conditions),
         2 => calls::update(z, codes, values, s, conditions, b, r.own),
         3 => calls::start_up(z, codes, values),
         4 => calls::hour_step(

@@ -5,9 +5,11 @@ use crate::print::text;
 use crate::tally::COUNTS;
 use crate::tally::CaseTally;
 use crate::tally::OPERATIONS;
+use crate::tally::REASONS;
 use crate::tally::ROWS;
 use crate::tally::RowTally;
 use crate::tally::count_in;
+use crate::tally::place_of;
 use std::num::wrapping_sub_u64;
 use std::num::wrapping_sub_usize;
 
@@ -80,6 +82,34 @@ fn print_numbers(numbers: [u64; COUNTS]) {
     }
 }
 
+fn print_reason(reason: usize) {
+    match reason {
+        1 => text(b"no choice of rates             "),
+        2 => text(b"not above ventilation setpoint "),
+        3 => text(b"not above supply               "),
+        4 => text(b"windows do not cool            "),
+        5 => text(b"still above cooling setpoint   "),
+        _ => text(b"windows enough                 "),
+    }
+}
+
+// How many demands have a reason, beside each load.
+fn print_loads(reasons: [u64; COUNTS], reason: usize) {
+    print_reason(reason);
+    column(count_in(reasons, place_of(reason, 0)));
+    text(b"  ");
+    column(count_in(reasons, place_of(reason, 1)));
+    text(b"  ");
+    column(count_in(reasons, place_of(reason, 2)));
+    text(b"\n");
+}
+
+fn print_reasons(reasons: [u64; COUNTS]) {
+    for reason in 1..REASONS + 1 {
+        print_loads(reasons, reason);
+    }
+}
+
 fn print_differing(differ: u64, first: u64, place: usize) {
     if differ == 0 {
         text(b"  all equal\n");
@@ -95,12 +125,15 @@ fn print_differing(differ: u64, first: u64, place: usize) {
 
 pub fn print_cases(t: CaseTally) {
     let refused = t.refused;
+    let reasons = t.reasons;
     text(b"The oracle's cases\n");
     text(b"profile call                 cases  acc.  ref.\n");
     print_table(t);
     text(b"cases  ");
     column(t.total);
     print_differing(t.differ, t.first_case, t.first_place);
+    text(b"demands, by reason             neither heating cooling\n");
+    print_reasons(reasons);
     text(b"refused, by number\n");
     print_numbers(refused);
 }

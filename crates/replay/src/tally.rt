@@ -10,8 +10,13 @@ const PROFILES: usize = 4;
 // A row for each of them, counted from 1.
 pub const ROWS: usize = PROFILES * OPERATIONS;
 
-// One more than the greatest row, call or number.
+// One more than the greatest row, call or number, and than the greatest place of a reason beside a load.
 pub const COUNTS: usize = ROWS + 1;
+
+// Reasons and loads of document 02 (e), reasons counted from 1, loads from 0.
+pub const REASONS: usize = 6;
+
+pub const LOADS: usize = 3;
 
 pub struct CaseTally {
     pub total: u64,
@@ -22,6 +27,7 @@ pub struct CaseTally {
     pub accepted: [u64; COUNTS],
     pub equal: [u64; COUNTS],
     pub refused: [u64; COUNTS],
+    pub reasons: [u64; COUNTS],
 }
 
 pub fn no_cases() -> CaseTally {
@@ -34,6 +40,7 @@ pub fn no_cases() -> CaseTally {
         accepted: [0; COUNTS],
         equal: [0; COUNTS],
         refused: [0; COUNTS],
+        reasons: [0; COUNTS],
     }
 }
 
@@ -53,6 +60,15 @@ pub fn count_in(xs: [u64; COUNTS], at: usize) -> u64 {
 fn row_of(profile: usize, op: usize) -> usize {
     if profile < PROFILES {
         wrapping_add_usize(profile * OPERATIONS, op)
+    } else {
+        0
+    }
+}
+
+// Reason and load in one number, 0 where there is no such pair.
+pub fn place_of(reason: usize, load: usize) -> usize {
+    if reason <= REASONS && load < LOADS {
+        wrapping_add_usize(reason * LOADS, load)
     } else {
         0
     }
@@ -92,6 +108,13 @@ impl CaseTally {
         let cases = counted_at(before, row);
         self.cases = cases;
         self.total = wrapping_add_u64(self.total, 1);
+        self
+    }
+
+    pub fn reasoned(mut self, reason: usize, load: usize) -> CaseTally {
+        let before = self.reasons;
+        let reasons = counted_at(before, place_of(reason, load));
+        self.reasons = reasons;
         self
     }
 

@@ -2,9 +2,9 @@
 // stands in one number, so that two of them are compared at once: an hour, or a count of hours, as it is, then none, and
 // a refusal with its number above its index.
 use crate::table::column;
+use crate::table::refusal_column;
 use crate::table::text;
 use crate::table::verdict;
-use libc::STDOUT_FILENO;
 use tools::HourReply;
 use tools::HoursReply;
 
@@ -29,7 +29,7 @@ fn of_hours(r: HoursReply) -> u64 {
     }
 }
 
-// In a column of eighteen; no index of these rows is above 9.
+// In a column of eighteen.
 fn print_answer(x: u64) {
     if x < NONE {
         column(x);
@@ -39,14 +39,7 @@ fn print_answer(x: u64) {
         text(b"              none");
         return;
     }
-    let number = x >> 32;
-    if number < 10 {
-        text(b" ");
-    }
-    text(b"   refused ");
-    io::print_decimal(STDOUT_FILENO, number);
-    text(b" at ");
-    io::print_decimal(STDOUT_FILENO, x % 4294967296);
+    refusal_column(x >> 32, x % 4294967296);
 }
 
 fn row(asked: &[u8], came: u64, expected: u64) {

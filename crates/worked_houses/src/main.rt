@@ -7,7 +7,8 @@
 // the cooling fraction it keeps its cooling setpoint. A cold hour is the same in both. Then the entries of these hours in
 // books, versions that no hour has, and the room in version 3: hours with limits, limits out of range, entries and books.
 // At the end of each house books of it are asked when it got warm: the first hour above a value, the hours within a band and the
-// hour nearest to a value. Last come rooms of six surfaces: what their air gives to the surfaces, by direction of heat flow.
+// hour nearest to a value. Then come rooms of six surfaces: what their air gives to the surfaces, by direction of heat flow.
+// Last a room with windows that can open: why an hour has its air change rate and its load.
 mod answers;
 mod bytes;
 mod chilled_ceiling;
@@ -16,6 +17,7 @@ mod house_p;
 mod limits;
 mod replies;
 mod table;
+mod why;
 
 use chilled_ceiling::books;
 use chilled_ceiling::hours;
@@ -31,6 +33,15 @@ use house_p::limited as limited_hours;
 use house_p::questions as hours_asked;
 use house_p::rows;
 use house_p::surface_convection;
+use why::bases;
+use why::close;
+use why::coarse;
+use why::found;
+use why::lost_load;
+use why::order;
+use why::reasons;
+use why::refusals;
+use why::temperatures;
 
 fn print_house_p() {
     table::heading(b"House P\n");
@@ -69,8 +80,22 @@ fn print_convection() {
     surface_rows::print_rooms();
 }
 
+fn print_why() {
+    table::heading(b"\nA room with windows, and why its hours have their rate and their load\n");
+    temperatures::print_temperatures();
+    reasons::print_reasons();
+    found::print_found();
+    order::print_order();
+    close::print_close();
+    bases::print_bases();
+    coarse::print_coarse();
+    lost_load::print_lost();
+    refusals::print_refusals();
+}
+
 fn main() {
     print_house_p();
     print_chilled_ceiling();
     print_convection();
+    print_why();
 }

@@ -47,6 +47,17 @@ pub fn column(n: u64) {
     io::print_decimal(STDOUT_FILENO, n);
 }
 
+// A refusal in a column of eighteen; no index of these rows is above 9.
+pub fn refusal_column(number: u64, index: u64) {
+    if number < 10 {
+        text(b" ");
+    }
+    text(b"   refused ");
+    io::print_decimal(STDOUT_FILENO, number);
+    text(b" at ");
+    io::print_decimal(STDOUT_FILENO, index);
+}
+
 pub fn number(asked: &[u8], came: u64, expected: u64) {
     text(asked);
     column(came);

@@ -8,6 +8,7 @@ pub mod HeadRefusals
 pub mod HeadIndex
 pub mod HeadClaims
 pub mod Demand
+pub mod Why
 pub mod StartUp
 pub mod State
 pub mod Versions

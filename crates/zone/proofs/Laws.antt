@@ -42,6 +42,9 @@ pub mod Key
 pub mod Kept
 pub mod KeptHour
 pub mod Hour
+pub mod Why
+pub mod LoadTold
+pub mod ReasonTold
 pub mod NextHour
 pub mod NextKept
 pub mod FirstHours

@@ -2,6 +2,7 @@ pub mod Encode
 pub mod HeadRefusals
 pub mod Head
 pub mod DemandClaims
+pub mod Why
 pub mod StartUpClaims
 pub mod StateClaims
 pub mod Versions

@@ -15,6 +15,7 @@ pub mod Kept
 pub mod Demand
 pub mod Solves
 pub mod Hour
+pub mod Why
 pub mod Check
 pub mod Format
 pub mod Temperatures

@@ -6,3 +6,4 @@ pub mod start_up;
 pub mod start_up_parts;
 pub mod state;
 pub mod update;
+pub mod why;

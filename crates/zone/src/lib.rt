@@ -1,4 +1,4 @@
-// A zone, hour by hour: heads, start-up, operative temperature, demand, update and hour step. What the layers above may use is exported here.
+// A zone, hour by hour: heads, start-up, operative temperature, demand, why it is what it is, update and hour step. What the layers above may use is exported here.
 mod calls;
 mod check;
 mod format;
@@ -14,11 +14,14 @@ pub use calls::state::DemandAnswer;
 pub use calls::state::DemandReply;
 pub use calls::state::HourAnswer;
 pub use calls::state::HourStepReply;
+pub use calls::state::Load;
 pub use calls::state::OperativeReply;
+pub use calls::state::Reason;
 pub use calls::state::StartUp;
 pub use calls::state::State;
 pub use calls::state::UpdateAnswer;
 pub use calls::state::UpdateReply;
+pub use calls::state::WhyReply;
 pub use check::versions::has_limits;
 pub use check::versions::hour_version;
 pub use check::zone_tests::zone_test;

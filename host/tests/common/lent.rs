@@ -13,6 +13,8 @@ pub struct Lent {
     pub count: u64,
     pub used: u64,
     pub last_version: u64,
+    pub reason: u64,
+    pub load: u64,
     pub out: [f64; OUT],
     pub balance: [f64; BALANCE],
     pub buf: Vec<u8>,
@@ -26,6 +28,8 @@ impl Lent {
             count: MARK_COUNT,
             used: MARK_COUNT,
             last_version: MARK_COUNT,
+            reason: MARK_COUNT,
+            load: MARK_COUNT,
             out: [MARK; OUT],
             balance: [MARK; BALANCE],
             buf: vec![0xA5; buf],
@@ -40,10 +44,10 @@ impl Lent {
         lent
     }
 
-    pub fn seen(&self) -> (Vec<u64>, [u64; 4], Vec<u64>, Vec<u8>) {
+    pub fn seen(&self) -> (Vec<u64>, [u64; 6], Vec<u64>, Vec<u8>) {
         let bits = |values: &[f64]| values.iter().map(|v| v.to_bits()).collect::<Vec<_>>();
         let results = [&self.out[..], &self.balance[..]].concat();
-        let held = [self.nodes, self.count, self.used, self.last_version];
+        let held = [self.nodes, self.count, self.used, self.last_version, self.reason, self.load];
         (bits(&self.temps), held, bits(&results), self.buf.clone())
     }
 }
@@ -78,6 +82,21 @@ pub fn demand(head: &[u8], cond: &[u8], lent: &mut Lent) -> u32 {
             cond.as_ptr(),
             cond.len(),
             lent.out.as_mut_ptr(),
+        )
+    }
+}
+
+pub fn why(head: &[u8], cond: &[u8], lent: &mut Lent) -> u32 {
+    unsafe {
+        hem_why(
+            head.as_ptr(),
+            head.len(),
+            lent.temps.as_ptr(),
+            lent.nodes,
+            cond.as_ptr(),
+            cond.len(),
+            &mut lent.reason,
+            &mut lent.load,
         )
     }
 }

@@ -54,8 +54,17 @@ pub fn bytes_with(change: impl FnOnce(&mut Vec<u8>)) -> Result<Zone, Refusal> {
     Zone::from_head(&bytes)
 }
 
+/// The demand of an hour. Why it is what it is is refused alike, in the same words.
+#[track_caller]
+pub fn demand_of(zone: &Zone, before: &State, hour: &[u8]) -> Result<Demand, Refusal> {
+    let demand = zone.space_heat_cool_demand(before, hour);
+    assert_eq!(zone.why(before, hour).err(), demand.clone().err());
+    demand
+}
+
+#[track_caller]
 pub fn demand_with(change: impl FnOnce(&mut Conditions)) -> Result<Demand, Refusal> {
     let mut hour = hour();
     change(&mut hour);
-    zone().space_heat_cool_demand(&twenty(), &hour.to_bytes())
+    demand_of(&zone(), &twenty(), &hour.to_bytes())
 }

@@ -14,12 +14,16 @@ use Rattle.zone.specs.declared.calls.state.UpdateAnswer.the-variants as 
 use Rattle.zone.specs.declared.calls.state.HourAnswer.the-variants as HourAnswer
 use Rattle.zone.specs.declared.calls.state.OperativeReply.{OperativeReply}
 use Rattle.zone.specs.declared.calls.state.OperativeReply.the-variants as OperativeReply
+use Rattle.zone.specs.declared.calls.state.Reason.{Reason}
+use Rattle.zone.specs.declared.calls.state.Load.{Load}
+use Rattle.zone.specs.declared.calls.state.WhyReply.{WhyReply}
+use Rattle.zone.specs.declared.calls.state.WhyReply.the-variants as WhyReply
 use Rattle.zone.specs.declared.calls.state.DemandReply.{DemandReply}
 use Rattle.zone.specs.declared.calls.state.UpdateReply.{UpdateReply}
 use Rattle.zone.specs.declared.calls.state.HourStepReply.{HourStepReply}
 use Rattle.zone.specs.declared.calls.state.StartUp.{StartUp}
 use Rattle.zone.specs.Calls.Hour.{HourResult}
-use Rattle.zone.specs.Calls.Answers.{operativeReply, demandReply, updateReply, hourStepReply, startUpReply}
+use Rattle.zone.specs.Calls.Answers.{operativeReply, whyReply, demandReply, updateReply, hourStepReply, startUpReply}
 
 pub start-no : (d : Result State) (s : StartUp) → s ≡ startUpReply d → (n j : ℕ) → s .verdict ≡ Refused n j → d ≡ refused n j
 start-no (ok a) s e n j f = apart n j (sym (ap (λ x. x .verdict) e) ∙ f)
@@ -42,6 +46,20 @@ operative-yes (ok b) x e a f =
     let q : OperativeReply.Accepted b ≡ OperativeReply.Accepted a = sym e ∙ f in
     cc
 operative-yes (refused m k) x e a f = absurd (let z : _≡_ {A = ℕ} 0 1 = cc in omega arith)
+
+pub why-no : (d : Result (Reason × Load)) (x : WhyReply) → x ≡ whyReply d → (n j : ℕ) → x ≡ WhyReply.Refused n j → d ≡ refused n j
+why-no (ok a) x e n j f = absurd (let z : _≡_ {A = ℕ} 0 1 = cc in omega arith)
+why-no (refused m k) x e n j f =
+    let q : WhyReply.Refused m k ≡ WhyReply.Refused n j = sym e ∙ f in
+    cc
+
+pub why-yes : (d : Result (Reason × Load)) (x : WhyReply) → x ≡ whyReply d → (reason : Reason) (load : Load) → x ≡ WhyReply.Accepted reason load → d ≡ ok (reason, load)
+why-yes (ok b) x e reason load f =
+    let q : WhyReply.Accepted (b .0) (b .1) ≡ WhyReply.Accepted reason load = sym e ∙ f in
+    let m : b .0 ≡ reason = cc in
+    let n : b .1 ≡ load = cc in
+    λ i. ok (m i, n i)
+why-yes (refused m k) x e reason load f = absurd (let z : _≡_ {A = ℕ} 0 1 = cc in omega arith)
 
 module _ (s : State) where
   pub demand-no : (d : Result Demand) (x : DemandReply) → x ≡ demandReply s d → (n j : ℕ) → x .answer ≡ DemandAnswer.Refused n j → d ≡ refused n j

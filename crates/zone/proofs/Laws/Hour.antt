@@ -44,7 +44,7 @@ use Rattle.zone.proofs.Laws.Ranges.{res-accepted, res-refused}
 -- ---- the hour, solved
 
 -- the demand, where nothing is met
-demand-solved : (z : Zone) (t : List Float) (h : Conditions) (before after : List Float) (a : DemandAnswer) → answerWith a after ≡ hourSolved z t h (Asked.Demand NotMet) before
+pub demand-solved : (z : Zone) (t : List Float) (h : Conditions) (before after : List Float) (a : DemandAnswer) → answerWith a after ≡ hourSolved z t h (Asked.Demand NotMet) before
     → spaceHeatCoolDemand standardCoefficients z t h ≡ bind (answerWith a after) λ u. ok (u .0)
 unfolding demandSolved
 demand-solved z t h before after a e = rw e (go (spaceHeatCoolDemand standardCoefficients z t h))

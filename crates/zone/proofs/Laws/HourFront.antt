@@ -25,7 +25,7 @@ use Rattle.zone.specs.Inner.Demand.{zoneTemperatures, rateToReach, windo
 use Rattle.zone.specs.Inner.Hour.{metLoad, demandMetIn, answerIn}
 use Rattle.zone.specs.Record.Numbers as Number
 
-bind-same : {A B : Type 0} (x : Result A) (f g : A → Result B) → ((a : A) → f a ≡ g a) → bind x f ≡ bind x g
+pub bind-same : {A B : Type 0} (x : Result A) (f g : A → Result B) → ((a : A) → f a ≡ g a) → bind x f ≡ bind x g
 bind-same (ok a) f g e = e a
 bind-same (refused number index) f g e = refl
 

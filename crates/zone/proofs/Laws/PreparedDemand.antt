@@ -160,7 +160,7 @@ module _ (z : Zone) (t : List Float) (h : Conditions) where
     where
       by : (x : Result Demand) → demandForLoad standardCoefficients z t h v w ≡ x → Handed demandRate (bind x (λ d. ok (d, last (chosen v)))) x
       by (ok d) e =
-          let same : d .«ach_cooling» ≡ v .«ach_cooling» = towards-rate z t h v w d e in
+          let same : d .«ach_cooling» ≡ v .«ach_cooling» = towards-rate standardCoefficients z t h v w d e in
           rw (← same) (hands d (rw same k))
       by (refused number index) e = refuses number index
 

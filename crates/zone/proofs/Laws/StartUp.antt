@@ -95,7 +95,7 @@ fixed-rate z t h ach fixed d e =
     let eleven = bind-ok (require (not (lt (h .«temp_setpnt_cool_vent») (h .«temp_setpnt_heat»))) Number.ventilationBelowHeating) _ d (ten .2) in
     let free = bind-ok (freeTemperatures standardCoefficients z t h (achTarget (h .«ach_args»))) _ d (eleven .2) in
     let v = bind-ok (calcCoolingPotentialFromVentilation standardCoefficients z t h (free .0) (h .«ach_args»)) _ d (free .2) in
-    towards-rate z t h (v .0) (wanted (z .«useful_area») h (v .0 .«temp_free»)) d (v .2)
+    towards-rate standardCoefficients z t h (v .0) (wanted (z .«useful_area») h (v .0 .«temp_free»)) d (v .2)
     ∙ potential-rate z t h ach (free .0) (v .0) (sym (ap (λ (a : AirChangesPerHourArgument). calcCoolingPotentialFromVentilation standardCoefficients z t h (free .0) a) fixed) ∙ v .1)
 
 start-rate : (z : Zone) (h : Conditions) → h ≡ startUpConditions z → h .«ach_args» ≡ Cooling zero64

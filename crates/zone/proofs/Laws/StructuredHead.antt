@@ -21,6 +21,7 @@ use Rattle.zone.specs.declared.format.limits.Limits.{Limits}
 use Rattle.zone.specs.declared.calls.state.State.{State}
 use Rattle.zone.specs.Calls.State.{zoneAndStateTest, operative}
 use Rattle.zone.specs.Calls.Hour.{tested, testedStep, demand, hourStep, updateTemperatures}
+use Rattle.zone.specs.Calls.Why.{why}
 use Rattle.zone.specs.Calls.StartUp.{initNodeTemps}
 use Rattle.zone.proofs.Laws.ElementLayout.{treatments-few}
 use Rattle.zone.proofs.Laws.Structure.{whole-of, Structured, structured}
@@ -142,6 +143,10 @@ module _ (z : Zone) (a b : ℕ) (e : zoneTest z ≡ refused a b) where
       pub demand-judges : demand c z s bytes ≡ refused a b
       unfolding demand tested
       demand-judges = rw e
+
+      pub why-judges : why c z s bytes ≡ refused a b
+      unfolding why tested
+      why-judges = rw e
 
       pub hour-judges : (version : ℕ) (l : Limits) → hourStep c z version l s bytes ≡ refused a b
       unfolding hourStep testedStep

@@ -28,7 +28,7 @@ module _ (z : Zone) where
   unfolding areasOf
   areas-agree = stored (atMost24 (z .count)) (areaOf (z .«building_elements»)) (areasOf z) (replicate 24 zero64) refl (at-most-24-le (z .count))
 
-  areas-total : sum2 (terms 0 (atMost24 (z .count)) (at (areasOf z))) ≡ areaElTotal (atMost24 (z .count)) (z .«building_elements»)
+  pub areas-total : sum2 (terms 0 (atMost24 (z .count)) (at (areasOf z))) ≡ areaElTotal (atMost24 (z .count)) (z .«building_elements»)
   unfolding areaElTotal
   areas-total = sum2-same (atMost24 (z .count)) (at (areasOf z)) (areaOf (z .«building_elements»)) areas-agree
 

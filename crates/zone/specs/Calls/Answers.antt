@@ -12,6 +12,10 @@ use Rattle.zone.specs.declared.calls.state.UpdateAnswer.the-variants as 
 use Rattle.zone.specs.declared.calls.state.HourAnswer.the-variants as HourAnswer
 use Rattle.zone.specs.declared.calls.state.OperativeReply.{OperativeReply}
 use Rattle.zone.specs.declared.calls.state.OperativeReply.the-variants as OperativeReply
+use Rattle.zone.specs.declared.calls.state.Reason.{Reason}
+use Rattle.zone.specs.declared.calls.state.Load.{Load}
+use Rattle.zone.specs.declared.calls.state.WhyReply.{WhyReply}
+use Rattle.zone.specs.declared.calls.state.WhyReply.the-variants as WhyReply
 use Rattle.zone.specs.declared.calls.state.DemandReply.{DemandReply}
 use Rattle.zone.specs.declared.calls.state.UpdateReply.{UpdateReply}
 use Rattle.zone.specs.declared.calls.state.HourStepReply.{HourStepReply}
@@ -22,6 +26,10 @@ use Rattle.zone.specs.Calls.Hour.{HourResult}
 abbrev pub operativeReply : Result Float → OperativeReply
 operativeReply (ok x) = OperativeReply.Accepted x
 operativeReply (refused number index) = OperativeReply.Refused number index
+
+abbrev pub whyReply : Result (Reason × Load) → WhyReply
+whyReply (ok r) = WhyReply.Accepted (r .0) (r .1)
+whyReply (refused number index) = WhyReply.Refused number index
 
 -- demand changes no state
 abbrev pub demandReply : State → Result Demand → DemandReply

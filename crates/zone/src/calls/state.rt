@@ -51,6 +51,29 @@ pub enum OperativeReply {
     Refused { number: u32, index: usize },
 }
 
+// Why an hour has its air change rate: the earliest that holds, in the paper's order.
+pub enum Reason {
+    NoChoice,
+    NotAboveVentilationSetpoint,
+    NotAboveSupply,
+    WindowsDoNotCool,
+    StillAboveCoolingSetpoint,
+    WindowsEnough,
+}
+
+// What the hour's demand asks for.
+pub enum Load {
+    Neither,
+    Heating,
+    Cooling,
+}
+
+// Why this rate, why this load.
+pub enum WhyReply {
+    Accepted(Reason, Load),
+    Refused { number: u32, index: usize },
+}
+
 // The answer of a call, and the state: the new one, or the one that was given.
 pub struct DemandReply {
     pub answer: DemandAnswer,

@@ -188,7 +188,7 @@ impl Words {
 
     fn places_must_fit(&self) -> Result<(), Failure> {
         let expected = self.command.places;
-        if let Some(missing) = expected.get(self.places.len()) {
+        if let Some(missing) = expected[..self.command.needed].get(self.places.len()) {
             return Err(self.wrong(format_args!("{missing} is missing")));
         }
         if let Some(more) = self.places.get(expected.len()) {
@@ -213,6 +213,11 @@ impl Words {
     /// The whole number at a place.
     pub fn number(&self, place: usize) -> Result<usize, Failure> {
         self.whole(self.command.places[place], &self.places[place], usize::MAX)
+    }
+
+    /// The whole number at a place that may be left out.
+    pub fn number_if_given(&self, place: usize) -> Result<Option<usize>, Failure> {
+        (place < self.places.len()).then(|| self.number(place)).transpose()
     }
 
     /// The whole number of an option, at most the greatest of its type.

@@ -76,6 +76,11 @@ impl Moment {
         }
     }
 
+    /// The name of its month; none past the end of the year.
+    pub fn month(self) -> Option<&'static str> {
+        month_and_day(self.clock().day).map(|(month, _)| MONTHS[month].0)
+    }
+
     /// For a table, as `2001-01-12T07:00:00`, with milliseconds where they are not 0. Each year has
     /// 365 days.
     pub fn iso(self) -> String {
@@ -143,6 +148,13 @@ mod tests {
         assert_eq!(Moment(0.1 + 0.2).date(), " 1 Jan 00:18");
         assert_eq!(Moment(0.001).date(), " 1 Jan 00:00:03.600");
         assert_eq!(Moment(0.01).date(), " 1 Jan 00:00:36");
+        assert_eq!(
+            [0.0, 743.999, 744.0].map(|h| Moment(h).month().unwrap()),
+            ["Jan", "Jan", "Feb"]
+        );
+        // A beginning that is a rounded sum is in its own month.
+        assert_eq!(Moment(744.0_f64.next_down()).month(), Some("Feb"));
+        assert_eq!((Moment(8759.5).month(), Moment(8760.0).month()), (Some("Dec"), None));
         assert_eq!(months().last(), Some(("Dec", 334, 365)));
         assert_eq!((day_name(0), day_name(364)), ("1 Jan".into(), "31 Dec".into()));
         assert_eq!(hour_name(4000, 4000.0), "hour 4001 (16 Jun 16:00)");

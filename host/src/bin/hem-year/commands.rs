@@ -5,8 +5,20 @@ pub struct Command {
     pub name: &'static str,
     /// The words that are no options, by name.
     pub places: &'static [&'static str],
+    /// How many of them have to be given.
+    pub needed: usize,
     pub options: &'static [&'static str],
     pub help: &'static str,
+}
+
+/// A command all of whose words have to be given.
+const fn command(
+    name: &'static str,
+    places: &'static [&'static str],
+    options: &'static [&'static str],
+    help: &'static str,
+) -> Command {
+    Command { name, places, needed: places.len(), options, help }
 }
 
 /// What the value of an option is, where it is a number.
@@ -43,46 +55,25 @@ pub const VALUED: &[Valued] = &[
 /// Options that take none.
 pub const FLAGS: &[&str] = &["balance", "force", "hours", "nodes"];
 
+/// The options that say how hours are calculated.
+const RULE: &[&str] = &["entry-version", "heating-limit", "cooling-limit"];
+
 pub const COMMANDS: &[Command] = &[
-    Command { name: "sample", places: &["DIR"], options: &[], help: SAMPLE },
-    Command { name: "house", places: &["HOUSE.toml", "HEAD"], options: &["force"], help: HOUSE },
-    Command {
-        name: "hours",
-        places: &["HOURS.csv", "YEAR"],
-        options: &["head", "force"],
-        help: HOURS,
-    },
-    Command {
-        name: "check",
-        places: &["HOUSE", "HOURS"],
-        options: &["entry-version", "heating-limit", "cooling-limit"],
-        help: CHECK,
-    },
-    Command {
-        name: "run",
-        places: &["HOUSE", "HOURS", "BOOK"],
-        options: &["entry-version", "heating-limit", "cooling-limit"],
-        help: RUN,
-    },
-    Command {
-        name: "report",
-        places: &["BOOK"],
-        options: &["csv", "svg", "name", "head", "balance", "nodes", "force"],
-        help: REPORT,
-    },
-    Command {
-        name: "warm",
-        places: &["BOOK"],
-        options: &["above", "within", "nearest"],
-        help: WARM,
-    },
-    Command { name: "show", places: &["FILE"], options: &["hour", "hours", "head"], help: SHOW },
-    Command {
-        name: "cut",
-        places: &["BOOK", "HOURS", "NEW"],
-        options: &["head", "force"],
-        help: CUT,
-    },
+    command("sample", &["DIR"], &[], SAMPLE),
+    command("house", &["HOUSE.toml", "HEAD"], &["force"], HOUSE),
+    command("hours", &["HOURS.csv", "YEAR"], &["head", "force"], HOURS),
+    command("check", &["HOUSE", "HOURS"], RULE, CHECK),
+    command("run", &["HOUSE", "HOURS", "BOOK"], RULE, RUN),
+    command(
+        "report",
+        &["BOOK"],
+        &["csv", "svg", "name", "head", "balance", "nodes", "force"],
+        REPORT,
+    ),
+    command("warm", &["BOOK"], &["above", "within", "nearest"], WARM),
+    Command { name: "why", places: &["BOOK", "HOUR"], needed: 1, options: &[], help: WHY },
+    command("show", &["FILE"], &["hour", "hours", "head"], SHOW),
+    command("cut", &["BOOK", "HOURS", "NEW"], &["head", "force"], CUT),
 ];
 
 pub const HELP: &str = "\
@@ -93,6 +84,7 @@ hem-year: the heating and cooling of a house, hour by hour
   hem-year run HOUSE HOURS BOOK      calculates the hours of a year into a book
   hem-year report BOOK               prints its totals and highest loads, as text, table and drawing
   hem-year warm BOOK                 says when it got warm, and for how many hours
+  hem-year why BOOK [HOUR]           says why an hour has its air change rate and its load
   hem-year cut BOOK HOURS NEW        keeps the first hours of a book
   hem-year house HOUSE.toml HEAD     makes the bytes of a house
   hem-year hours HOURS.csv YEAR      makes the bytes of its hours
@@ -231,6 +223,25 @@ least one of the three is needed; each is answered, in this order.
 
 Hours are named by their number, from 1, and their beginning. T, LOW and HIGH are -1,000,000 to
 1,000,000, below 0 as well (--above -5), and LOW is not above HIGH: others are refused.
+";
+
+const WHY: &str = "\
+hem-year why BOOK [HOUR]
+
+Calculates the hours of BOOK again and says why the hour HOUR, by its number from 1, has its air
+change rate, and why it asks for heating, for cooling or for neither: one sentence, with the
+temperatures, setpoints and rates that decided. Without HOUR it counts the hours by month and reason,
+and how many of each asked for what.
+
+The reason is the first of these that holds, by the temperatures at the end of the hour without the
+heating or cooling that it asks for, of the air or operative as the setpoints are:
+
+  no choice    the rate is fixed, or the same with windows open and closed
+  not warm     with windows closed it would not be above the ventilation setpoint
+  warm air     with windows closed the air would not be above the supplied air
+  no use       open windows would not make it cooler
+  too little   at the rate for the ventilation setpoint it would still be above the cooling setpoint
+  enough       windows are enough, and are opened to that rate
 ";
 
 const SHOW: &str = "\

@@ -47,6 +47,12 @@ mod version;
 mod warm;
 mod warmth;
 mod weather;
+mod why;
+mod why_hour;
+mod why_load;
+mod why_table;
+mod why_text;
+mod why_told;
 mod words;
 
 use args::{Asked, Words};
@@ -105,6 +111,7 @@ fn command(words: &Words) -> Result<(), Failure> {
         }),
         "report" => report(words),
         "warm" => warm(words),
+        "why" => why::why(words.path(0), words.number_if_given(1)?),
         other => Err(Failure::usage(format!("{other:?} is not a command"))),
     }
 }

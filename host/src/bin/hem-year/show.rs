@@ -120,7 +120,7 @@ fn show_year(
 }
 
 /// The place of an hour, from 0.
-fn place_of(file: &Path, number: usize, held: usize) -> Result<usize, Failure> {
+pub fn place_of(file: &Path, number: usize, held: usize) -> Result<usize, Failure> {
     match number {
         1.. if number <= held => Ok(number - 1),
         _ => {

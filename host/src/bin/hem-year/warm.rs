@@ -4,7 +4,7 @@ use crate::damage;
 use crate::failure::Failure;
 use crate::figures::{all_an_hour_long, figures, HourFigures};
 use crate::files;
-use crate::words::{count, grouped, unfinished};
+use crate::words::{self, count, grouped, unfinished};
 use hem_zone::{first_above, hours_within, nearest_hour, Refusal};
 use std::path::Path;
 
@@ -98,29 +98,7 @@ fn name(hour: &HourFigures) -> String {
     hour_name(hour.number - 1, hour.start)
 }
 
-/// A temperature to one decimal, or to as many as it takes to see on which side of a value it lies.
+/// A temperature on its side of a value.
 fn told(temperature: f64, value: f64) -> String {
-    let side = |t: f64| t.partial_cmp(&value);
-    let rounded = (1..=15).map(|decimals| format!("{temperature:.decimals$}"));
-    let mut told = rounded.filter(|text| text.parse().ok().map(side) == Some(side(temperature)));
-    format!("{} °C", told.next().unwrap_or_else(|| temperature.to_string()))
-}
-
-#[cfg(test)]
-mod tests {
-    use super::*;
-
-    #[test]
-    fn a_temperature_is_told_on_its_side_of_the_value() {
-        assert_eq!(told(26.34, 26.0), "26.3 °C");
-        assert_eq!(told(26.04, 26.0), "26.04 °C");
-        assert_eq!(told(25.996, 26.0), "25.996 °C");
-        assert_eq!(told(26.0, 26.0), "26.0 °C");
-        assert_eq!(told(26.0_f64.next_up(), 26.0), "26.000000000000004 °C");
-        assert_eq!(told(26.0_f64.next_down(), 26.0), "25.999999999999996 °C");
-        assert_eq!(told(-5.01, -5.0), "-5.01 °C");
-        // Where 15 decimals do not tell, all of them do.
-        let least = told(5e-324, 0.0);
-        assert_eq!(least.trim_end_matches(" °C").parse(), Ok(5e-324));
-    }
+    format!("{} °C", words::told(temperature, 1, &[value]))
 }

@@ -22,11 +22,53 @@ pub fn watts(power: f64) -> String {
     }
 }
 
-/// An energy, kWh, as `12.3`; what is rounded to nothing has no sign.
+/// An energy, kWh, as `12.3`.
 pub fn energy(kwh: f64) -> String {
-    match format!("{kwh:.1}") {
-        nothing if nothing == "-0.0" => "0.0".into(),
-        number => number,
+    unsigned_nothing(format!("{kwh:.1}"))
+}
+
+/// A number in full.
+fn in_full(number: f64) -> String {
+    // 0 is added, since -0 would show its sign.
+    (number + 0.0).to_string()
+}
+
+/// A number that was given: in full where that is three decimals at most, else as one that is calculated.
+pub fn given(number: f64, beside: &[f64]) -> String {
+    let full = in_full(number);
+    match full.split_once('.') {
+        Some((_, decimals)) if decimals.len() > 3 => told(number, 3, beside),
+        _ => full,
+    }
+}
+
+/// A number to so many decimals, or to as many more as it takes to see on which side it lies of others that
+/// it is told beside.
+pub fn told(number: f64, decimals: usize, beside: &[f64]) -> String {
+    let keeps_sides = |decimals: &usize| {
+        let rounded = value(number, *decimals);
+        beside.iter().all(|other| {
+            let side = number.partial_cmp(other);
+            // The other may be told in full, or rounded itself.
+            [*other, value(*other, *decimals)].iter().all(|o| rounded.partial_cmp(o) == side)
+        })
+    };
+    match (decimals..=15).find(keeps_sides) {
+        Some(enough) => unsigned_nothing(format!("{number:.enough$}")),
+        None => in_full(number),
+    }
+}
+
+/// The value that a number has to so many decimals.
+fn value(number: f64, decimals: usize) -> f64 {
+    format!("{number:.decimals$}").parse().unwrap_or(number)
+}
+
+/// What is rounded to nothing has no sign.
+fn unsigned_nothing(text: String) -> String {
+    match text.strip_prefix('-') {
+        Some(nothing) if nothing.bytes().all(|byte| matches!(byte, b'0' | b'.')) => nothing.into(),
+        _ => text,
     }
 }
 
@@ -109,5 +151,43 @@ mod tests {
             [12.34, -12.34, 0.04, -0.04, -0.0, -0.06].map(energy),
             ["12.3", "-12.3", "0.0", "0.0", "0.0", "-0.1"]
         );
+    }
+
+    #[test]
+    fn a_number_is_told_on_its_side_of_another() {
+        let beside = |number: f64, other: f64| told(number, 1, &[other]);
+        assert_eq!(beside(26.34, 26.0), "26.3");
+        assert_eq!(beside(26.04, 26.0), "26.04");
+        assert_eq!(beside(25.996, 26.0), "25.996");
+        assert_eq!(beside(26.0, 26.0), "26.0");
+        assert_eq!(beside(26.0_f64.next_up(), 26.0), "26.000000000000004");
+        assert_eq!(beside(26.0_f64.next_down(), 26.0), "25.999999999999996");
+        assert_eq!((beside(-5.01, -5.0), beside(-0.01, 0.0)), ("-5.01".into(), "-0.01".into()));
+        assert_eq!((beside(-0.0, 0.0), beside(-0.01, 5.0)), ("0.0".into(), "0.0".into()));
+        // Where 15 decimals do not tell, all of them do.
+        assert_eq!(beside(5e-324, 0.0).parse(), Ok(5e-324));
+        assert_eq!(told(0.004, 2, &[0.0, 1.0]), "0.004");
+    }
+
+    #[test]
+    fn numbers_told_beside_each_other_are_told_apart() {
+        let both = |a: f64, b: f64| (told(a, 1, &[b]), told(b, 1, &[a]));
+        assert_eq!(both(26.41, 26.4), ("26.41".into(), "26.40".into()));
+        // One decimal lies between the two and would be told of both.
+        assert_eq!(both(26.46, 26.54), ("26.46".into(), "26.54".into()));
+        assert_eq!(both(26.4, 26.4), ("26.4".into(), "26.4".into()));
+        // Whatever else each of them is told beside.
+        let (a, b, c) = (26.44, 26.45, 26.4501);
+        let three = [told(a, 1, &[b]), told(b, 1, &[a, c]), given(c, &[b])];
+        assert_eq!(three, ["26.44", "26.4500", "26.4501"]);
+    }
+
+    #[test]
+    fn a_given_number_is_short() {
+        let alone = |number: f64| given(number, &[]);
+        assert_eq!([-0.0, 22.0, 22.5, 0.125].map(alone), ["0", "22", "22.5", "0.125"]);
+        assert_eq!([1.0 / 3.0, 2e-9, -2e-9].map(alone), ["0.333", "0.000", "0.000"]);
+        assert_eq!(given(1.0 / 3.0, &[0.3333]), "0.33333");
+        assert_eq!(given(2e-9, &[0.0]), "0.000000002");
     }
 }
