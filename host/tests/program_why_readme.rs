@@ -52,7 +52,7 @@ fn the_reasons_of_the_readme_are_those_of_the_sample() {
     let cooled = lines.iter().find(|line| line.starts_with("  cooling")).unwrap();
     let cooled: Vec<&str> = cooled.split_whitespace().collect();
     let words = format!(
-        "of the {} hours that were cooled, in {} the air outside was not cooler than inside,",
+        "of the {} hours that were cooled, in {} the supplied air was not cooler than the room,",
         cooled[7], cooled[3]
     );
     let first = fs::read_to_string(top().join("README.md")).unwrap();
