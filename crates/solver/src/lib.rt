@@ -1,4 +1,6 @@
 // A zone's system of heat balance equations: factored once, solved for many right sides; closeness and compensated sums.
+#![tactic(auto)]
+
 mod chain;
 mod closeness;
 mod dense_part;

@@ -7,10 +7,10 @@ use borrow.Author.Rules.{rules}
 use Rattle.solver.proofs.chain.back_substitute_chains.Statement.{statement}
 use Rattle.solver.proofs.chain.back_substitute_chains.Tie as tie
 
-abbrev invariant_loop : tie.invariant-loop
+abbrev invariant_loop : tie.invariant-loop-e
 invariant_loop two_nodes diag next n t₀ e₀ t e = repeat e n (back_substitute_chain two_nodes diag next) t ≡ repeat 0 n (back_substitute_chain two_nodes diag next) t₀
 
-abbrev decreases_loop : tie.decreases-loop
+abbrev decreases_loop : tie.decreases-loop-e
 decreases_loop two_nodes diag next n t₀ e₀ t e = n - e
 
 returns : tie.Need-returns invariant_loop decreases_loop

@@ -11,16 +11,16 @@ use borrow.Author.Rules.{rules}
 use Rattle.solver.proofs.chain.chain_divisors_valid.Statement.{statement}
 use Rattle.solver.proofs.chain.chain_divisors_valid.Tie as tie
 
-abbrev invariant_loop : tie.invariant-loop
+abbrev invariant_loop : tie.invariant-loop-s
 invariant_loop two_nodes diag e given ok₀ s₀ valid s =
     (valid && all s (5 * e + 4) λ i. valid_divisor (get_or diag i nan)) ≡ (ok₀ && all s₀ (5 * e + 4) λ i. valid_divisor (get_or diag i nan))
 
-abbrev decreases_loop : tie.decreases-loop
+abbrev decreases_loop : tie.decreases-loop-s
 decreases_loop two_nodes diag e given ok₀ s₀ valid s = 5 * e + 4 - s
 
 returns : tie.Need-returns invariant_loop decreases_loop
 unfolding chain_divisors_valid
-returns c = rw (← c.before.before.outer_slot.ensures.0) (search (rules, all_end))
+returns c = rw (← c.outer_slot-s.ensures.0) (search (rules, all_end))
 
 pub chain_divisors_valid_spec : {M : Type 1} → statement M
 chain_divisors_valid_spec =

@@ -8,14 +8,14 @@ use borrow.Author.Rules.{rules}
 use Rattle.solver.proofs.chain.divisors_valid.Statement.{statement}
 use Rattle.solver.proofs.chain.divisors_valid.Tie as tie
 
-abbrev invariant_loop : tie.invariant-loop
+abbrev invariant_loop : tie.invariant-loop-e
 invariant_loop two_nodes diag n ok₀ e₀ valid e = (valid && all e n (chain_divisors_valid two_nodes diag)) ≡ all 0 n (chain_divisors_valid two_nodes diag)
 
-abbrev decreases_loop : tie.decreases-loop
+abbrev decreases_loop : tie.decreases-loop-e
 decreases_loop two_nodes diag n ok₀ e₀ valid e = n - e
 
-loop_again : tie.Need-loop-preserved invariant_loop decreases_loop
-loop_again c = rw c.chain_divisors_valid.ensures (search (rules, all_turn))
+loop_again : tie.Need-loop-e-preserved invariant_loop decreases_loop
+loop_again c = rw c.chain_divisors_valid-valid.ensures (search (rules, all_turn))
 
 returns : tie.Need-returns invariant_loop decreases_loop
 unfolding divisors_valid

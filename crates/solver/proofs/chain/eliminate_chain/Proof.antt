@@ -7,16 +7,16 @@ use borrow.Author.Rules.{rules}
 use Rattle.solver.proofs.chain.eliminate_chain.Statement.{statement}
 use Rattle.solver.proofs.chain.eliminate_chain.Tie as tie
 
-abbrev invariant_loop : tie.invariant-loop
+abbrev invariant_loop : tie.invariant-loop-s
 invariant_loop two_nodes next prev e d₀ s₀ diag s = repeat s (5 * e + 4) (adjust_diagonal next prev) diag ≡ repeat s₀ (5 * e + 4) (adjust_diagonal next prev) d₀
 
-abbrev decreases_loop : tie.decreases-loop
+abbrev decreases_loop : tie.decreases-loop-s
 decreases_loop two_nodes next prev e d₀ s₀ diag s = 5 * e + 4 - s
 
 returns : tie.Need-returns invariant_loop decreases_loop
 unfolding eliminate_chain
 returns c =
-    rw (← c.before.before.outer_slot.ensures.0)
+    rw (← c.outer_slot-s.ensures.0)
     (search (rules, repeat_end))
 
 pub eliminate_chain_spec : {M : Type 1} → statement M

@@ -7,10 +7,10 @@ use borrow.Author.Rules.{rules}
 use Rattle.solver.proofs.chain.eliminate_chains.Statement.{statement}
 use Rattle.solver.proofs.chain.eliminate_chains.Tie as tie
 
-abbrev invariant_loop : tie.invariant-loop
+abbrev invariant_loop : tie.invariant-loop-e
 invariant_loop two_nodes next prev n d₀ e₀ diag e = repeat e n (eliminate_chain two_nodes next prev) diag ≡ repeat 0 n (eliminate_chain two_nodes next prev) d₀
 
-abbrev decreases_loop : tie.decreases-loop
+abbrev decreases_loop : tie.decreases-loop-e
 decreases_loop two_nodes next prev n d₀ e₀ diag e = n - e
 
 returns : tie.Need-returns invariant_loop decreases_loop

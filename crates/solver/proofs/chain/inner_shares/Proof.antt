@@ -7,13 +7,13 @@ use borrow.Author.Rules.{rules}
 use Rattle.solver.proofs.chain.inner_shares.Statement.{statement}
 use Rattle.solver.proofs.chain.inner_shares.Tie as tie
 
-abbrev invariant_loop : tie.invariant-loop
+abbrev invariant_loop : tie.invariant-loop-e
 invariant_loop diag prev b n inner₀ e₀ inner e = repeat e n (set_inner_share diag prev b) inner ≡ repeat 0 n (set_inner_share diag prev b) inner₀
 
-abbrev decreases_loop : tie.decreases-loop
+abbrev decreases_loop : tie.decreases-loop-e
 decreases_loop diag prev b n inner₀ e₀ inner e = n - e
 
-loop_again : tie.Need-loop-preserved invariant_loop decreases_loop
+loop_again : tie.Need-loop-e-preserved invariant_loop decreases_loop
 loop_again c = search (rules, repeat_turn)
 
 returns : tie.Need-returns invariant_loop decreases_loop

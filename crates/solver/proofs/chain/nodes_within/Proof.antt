@@ -8,18 +8,18 @@ use borrow.Author.Rules.{rules}
 use Rattle.solver.proofs.chain.nodes_within.Statement.{statement}
 use Rattle.solver.proofs.chain.nodes_within.Tie as tie
 
-abbrev invariant_loop : tie.invariant-loop
+abbrev invariant_loop : tie.invariant-loop-e
 invariant_loop two_nodes t n ok₀ e₀ within e = (within && all e n (element_within two_nodes t)) ≡ (ok₀ && all 0 n (element_within two_nodes t))
 
-abbrev decreases_loop : tie.decreases-loop
+abbrev decreases_loop : tie.decreases-loop-e
 decreases_loop two_nodes t n ok₀ e₀ within e = n - e
 
-loop_again : tie.Need-loop-preserved invariant_loop decreases_loop
-loop_again c = rw c.element_within.ensures (search (rules, all_turn))
+loop_again : tie.Need-loop-e-preserved invariant_loop decreases_loop
+loop_again c = rw c.element_within-within.ensures (search (rules, all_turn))
 
 returns : tie.Need-returns invariant_loop decreases_loop
 unfolding nodes_within
-returns c = rw (← c.before.before.within_state_bound.ensures) (search (rules, all_end))
+returns c = rw (← c.within_state_bound-within.ensures) (search (rules, all_end))
 
 pub nodes_within_spec : {M : Type 1} → statement M
 nodes_within_spec =

@@ -8,18 +8,18 @@ use borrow.Author.Rules.{rules}
 use Rattle.solver.proofs.chain.reduce_chain.Statement.{statement}
 use Rattle.solver.proofs.chain.reduce_chain.Tie as tie
 
-abbrev invariant_loop : tie.invariant-loop
+abbrev invariant_loop : tie.invariant-loop-s
 invariant_loop two_nodes diag prev e b₀ s₀ b s = repeat s (5 * e + 3) (adjust_right_side diag prev) b ≡ repeat s₀ (5 * e + 3) (adjust_right_side diag prev) b₀
 
-abbrev decreases_loop : tie.decreases-loop
+abbrev decreases_loop : tie.decreases-loop-s
 decreases_loop two_nodes diag prev e b₀ s₀ b s = 5 * e + 3 - s
 
-loop_again : tie.Need-loop-preserved invariant_loop decreases_loop
+loop_again : tie.Need-loop-s-preserved invariant_loop decreases_loop
 loop_again c = search (rules, repeat_turn)
 
 returns : tie.Need-returns invariant_loop decreases_loop
 unfolding reduce_chain
-returns c = rw (← c.before.before.outer_slot.ensures.0) (search (rules, repeat_end))
+returns c = rw (← c.outer_slot-s.ensures.0) (search (rules, repeat_end))
 
 pub reduce_chain_spec : {M : Type 1} → statement M
 reduce_chain_spec =

@@ -7,13 +7,13 @@ use borrow.Author.Rules.{rules}
 use Rattle.solver.proofs.chain.reduce_chains.Statement.{statement}
 use Rattle.solver.proofs.chain.reduce_chains.Tie as tie
 
-abbrev invariant_loop : tie.invariant-loop
+abbrev invariant_loop : tie.invariant-loop-e
 invariant_loop two_nodes diag prev n b₀ e₀ b e = repeat e n (reduce_chain two_nodes diag prev) b ≡ repeat 0 n (reduce_chain two_nodes diag prev) b₀
 
-abbrev decreases_loop : tie.decreases-loop
+abbrev decreases_loop : tie.decreases-loop-e
 decreases_loop two_nodes diag prev n b₀ e₀ b e = n - e
 
-loop_again : tie.Need-loop-preserved invariant_loop decreases_loop
+loop_again : tie.Need-loop-e-preserved invariant_loop decreases_loop
 loop_again c = search (rules, repeat_turn)
 
 returns : tie.Need-returns invariant_loop decreases_loop

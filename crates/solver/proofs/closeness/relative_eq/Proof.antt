@@ -1,53 +1,52 @@
-use borrow.Author.Tests.{not-true, not-false}
 use Rattle.solver.specs.Closeness.{relative_eq}
 use Rattle.solver.proofs.closeness.relative_eq.Statement.{statement}
 use Rattle.solver.proofs.closeness.relative_eq.Tie as tie
 
-returns : tie.Need-returns
+returns : tie.Need-returns-then-a-b
 unfolding relative_eq
-returns c = rw c.if1.true
+returns c = rw c.if-a-b.true
 
-returns_2 : tie.Need-returns-2
+returns_2 : tie.Need-returns-then-not-is_finite
 unfolding relative_eq
-returns_2 c = rw (c.before.before.if1.false, ← c.before.is_finite.ensures, not-true c.before.is_finite.result c.if2.true)
+returns_2 c = rw (c.if-a-b.false, ← c.is_finite.ensures, c.if-not-is_finite.true)
 
-returns_3 : tie.Need-returns-3
+returns_3 : tie.Need-returns-then-not-is_finite-2
 unfolding relative_eq
 returns_3 c =
     rw (
-      c.before.before.before.before.if1.false,
-      ← c.before.before.before.is_finite.ensures,
-      not-false c.before.before.before.is_finite.result c.before.before.if2.false,
-      ← c.before.is_finite2.ensures,
-      not-true c.before.is_finite2.result c.if3.true,
+      c.if-a-b.false,
+      ← c.is_finite.ensures,
+      c.if-not-is_finite.false,
+      ← c.is_finite-2.ensures,
+      c.if-not-is_finite-2.true,
     )
 
-returns_4 : tie.Need-returns-4
+returns_4 : tie.Need-returns-then-difference-epsilon
 unfolding relative_eq
 returns_4 c =
     rw (
-      c.before.before.before.before.before.before.if1.false,
-      ← c.before.before.before.before.before.is_finite.ensures,
-      not-false c.before.before.before.before.before.is_finite.result c.before.before.before.before.if2.false,
-      ← c.before.before.before.is_finite2.ensures,
-      not-false c.before.before.before.is_finite2.result c.before.before.if3.false,
-      ← c.before.abs.ensures,
-      c.if4.true,
+      c.if-a-b.false,
+      ← c.is_finite.ensures,
+      c.if-not-is_finite.false,
+      ← c.is_finite-2.ensures,
+      c.if-not-is_finite-2.false,
+      ← c.abs-difference.ensures,
+      c.if-difference-epsilon.true,
     )
 
-returns_5 : tie.Need-returns-5
+returns_5 : tie.Need-returns
 unfolding relative_eq
 returns_5 c =
     rw (
-      c.before.before.before.before.before.before.before.before.before.if1.false,
-      ← c.before.before.before.before.before.before.before.before.is_finite.ensures,
-      not-false c.before.before.before.before.before.before.before.before.is_finite.result c.before.before.before.before.before.before.before.if2.false,
-      ← c.before.before.before.before.before.before.is_finite2.ensures,
-      not-false c.before.before.before.before.before.before.is_finite2.result c.before.before.before.before.before.if3.false,
-      ← c.before.before.before.before.abs.ensures,
-      c.before.before.before.if4.false,
-      ← c.before.before.abs2.ensures,
-      ← c.before.abs3.ensures,
+      c.if-a-b.false,
+      ← c.is_finite.ensures,
+      c.if-not-is_finite.false,
+      ← c.is_finite-2.ensures,
+      c.if-not-is_finite-2.false,
+      ← c.abs-difference.ensures,
+      c.if-difference-epsilon.false,
+      ← c.abs.ensures,
+      ← c.abs-2.ensures,
       ← c.max.ensures,
     )
 

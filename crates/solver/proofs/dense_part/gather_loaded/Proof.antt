@@ -10,20 +10,20 @@ use borrow.Author.Rules.{rules}
 use Rattle.solver.proofs.dense_part.gather_loaded.Statement.{statement}
 use Rattle.solver.proofs.dense_part.gather_loaded.Tie as tie
 
-abbrev invariant_loop : tie.invariant-loop
+abbrev invariant_loop : tie.invariant-loop-e
 invariant_loop b inner gains air n v₀ e₀ v e = repeat e n (gather_loaded_inner b inner gains) v ≡ repeat 0 n (gather_loaded_inner b inner gains) v₀
 
-abbrev decreases_loop : tie.decreases-loop
+abbrev decreases_loop : tie.decreases-loop-e
 decreases_loop b inner gains air n v₀ e₀ v e = n - e
 
-loop_again : tie.Need-loop-preserved invariant_loop decreases_loop
+loop_again : tie.Need-loop-e-preserved invariant_loop decreases_loop
 loop_again c = search (rules, repeat_turn)
 
 returns : tie.Need-returns invariant_loop decreases_loop
 returns c =
-    let l = c.before.loop in
-    let s = c.before.before in
-    ap (λ (z : List Float). set z s.args.n s.args.air) (repeat_end (gather_loaded_inner s.args.b.now s.args.inner.now s.args.gains) l.e s.args.n l.v _ c.loop_test.false l.invariant)
+    let l = c.loop-e in
+    let s = c in
+    ap (λ (z : List Float). set z s.args.n s.args.air) (repeat_end (gather_loaded_inner s.args.b.now s.args.inner.now s.args.gains) l.e s.args.n l.v _ c.loop-e-test.false l.invariant)
 
 pub gather_loaded_spec : {M : Type 1} → statement M
 gather_loaded_spec =

@@ -6,7 +6,7 @@ use Rattle.solver.proofs.dense_part.scatter_dense.Tie as tie
 
 returns : tie.Need-returns
 unfolding scatter_dense
-returns c = rw c.before.scatter_inner.ensures refl
+returns c = rw c.scatter_inner.ensures refl
 
 pub scatter_dense_spec : {M : Type 1} → statement M
 scatter_dense_spec =

@@ -7,10 +7,10 @@ use borrow.Author.Rules.{rules}
 use Rattle.solver.proofs.dense_part.scatter_inner.Statement.{statement}
 use Rattle.solver.proofs.dense_part.scatter_inner.Tie as tie
 
-abbrev invariant_loop : tie.invariant-loop
+abbrev invariant_loop : tie.invariant-loop-e
 invariant_loop v n t₀ e₀ t e = repeat e n (scatter_inner v) t ≡ repeat 0 n (scatter_inner v) t₀
 
-abbrev decreases_loop : tie.decreases-loop
+abbrev decreases_loop : tie.decreases-loop-e
 decreases_loop v n t₀ e₀ t e = n - e
 
 pub scatter_inner_spec : {M : Type 1} → statement M

@@ -10,10 +10,10 @@ use borrow.Author.Rules.{rules}
 use Rattle.solver.proofs.dense_part.set_inner_diagonals.Statement.{statement}
 use Rattle.solver.proofs.dense_part.set_inner_diagonals.Tie as tie
 
-abbrev invariant_loop : tie.invariant-loop
+abbrev invariant_loop : tie.invariant-loop-e
 invariant_loop diag n m₀ e₀ dense e = repeat e n (λ k. set_entry k k (get_or diag (5 * k + 4) nan)) dense ≡ repeat 0 n (λ k. set_entry k k (get_or diag (5 * k + 4) nan)) m₀
 
-abbrev decreases_loop : tie.decreases-loop
+abbrev decreases_loop : tie.decreases-loop-e
 decreases_loop diag n m₀ e₀ dense e = n - e
 
 returns : tie.Need-returns invariant_loop decreases_loop

@@ -7,13 +7,13 @@ use borrow.Author.Rules.{rules}
 use Rattle.solver.proofs.lu.forward_substitution.Statement.{statement}
 use Rattle.solver.proofs.lu.forward_substitution.Tie as tie
 
-abbrev invariant_loop : tie.invariant-loop
+abbrev invariant_loop : tie.invariant-loop-k
 invariant_loop m b₀ w k₀ b k = repeat k w (forward_step w m) b ≡ repeat 0 w (forward_step w m) b₀
 
-abbrev decreases_loop : tie.decreases-loop
+abbrev decreases_loop : tie.decreases-loop-k
 decreases_loop m b₀ w k₀ b k = w - k
 
-loop_again : tie.Need-loop-preserved invariant_loop decreases_loop
+loop_again : tie.Need-loop-k-preserved invariant_loop decreases_loop
 unfolding forward_step
 loop_again c = search (rules, repeat_turn)
 

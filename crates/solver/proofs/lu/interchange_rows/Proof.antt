@@ -5,18 +5,18 @@ use borrow.Author.Rules.{rules}
 use Rattle.solver.proofs.lu.interchange_rows.Statement.{statement}
 use Rattle.solver.proofs.lu.interchange_rows.Tie as tie
 
-returns : tie.Need-returns
+returns : tie.Need-returns-then-q-k
 unfolding interchange_rows
-returns c = rw (eq-eqb c.before.args.q c.before.args.k c.if1.true) refl
+returns c = rw (eq-eqb c.args.q c.args.k c.if-q-k.true) refl
 
-returns_2 : tie.Need-returns-2
+returns_2 : tie.Need-returns
 unfolding interchange_rows
 returns_2 c =
     rw (
-      ne_eqb c.before.before.before.before.before.before.before.before.args.q c.before.before.before.before.before.before.before.before.args.k c.before.before.before.before.before.before.before.if1.false,
-      c.set_row2.ensures,
-      c.before.before.set_row.ensures,
-      c.before.before.before.before.before.row.ensures,
+      ne_eqb c.args.q c.args.k c.if-q-k.false,
+      c.set_row-2.ensures,
+      c.set_row.ensures,
+      c.row-old.ensures,
     ) refl
 
 pub interchange_rows_spec : {M : Type 1} → statement M

@@ -6,8 +6,8 @@ use Rattle.solver.proofs.lu.lu_factor_column.Tie as tie
 
 returns : tie.Need-returns
 unfolding factor_column factor_column_by
-returns c = rw (← c.before.before.before.before.before.before.before.before.before.before.pivot_row_from.ensures.0)
-    (rw (c.eliminate_rows.ensures, c.before.before.before.interchange_rows.ensures, c.before.before.before.before.before.before.row.ensures, c.before.before.before.before.before.before.before.before.entry.ensures) refl)
+returns c = rw (← c.pivot_row_from-q.ensures.0)
+    (rw (c.eliminate_rows.ensures, c.interchange_rows.ensures, c.row-pivots.ensures, c.entry-pivot.ensures) refl)
 
 pub lu_factor_column_spec : {M : Type 1} → statement M
 lu_factor_column_spec =

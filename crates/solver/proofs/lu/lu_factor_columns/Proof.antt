@@ -8,13 +8,13 @@ use borrow.Author.Rules.{rules}
 use Rattle.solver.proofs.lu.lu_factor_columns.Statement.{statement}
 use Rattle.solver.proofs.lu.lu_factor_columns.Tie as tie
 
-abbrev invariant_loop : tie.invariant-loop
+abbrev invariant_loop : tie.invariant-loop-k
 invariant_loop m₀ x₀ n k₀ m interchanges k = repeat k n (factor_column n) (lu_with m interchanges) ≡ repeat 0 n (factor_column n) (lu_with m₀ x₀)
 
-abbrev decreases_loop : tie.decreases-loop
+abbrev decreases_loop : tie.decreases-loop-k
 decreases_loop m₀ x₀ n k₀ m interchanges k = n - k
 
-loop_again : tie.Need-loop-preserved invariant_loop decreases_loop
+loop_again : tie.Need-loop-k-preserved invariant_loop decreases_loop
 loop_again c = search (rules, repeat_turn)
 
 returns : tie.Need-returns invariant_loop decreases_loop

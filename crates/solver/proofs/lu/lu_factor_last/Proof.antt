@@ -6,7 +6,7 @@ use Rattle.solver.proofs.lu.lu_factor_last.Tie as tie
 
 returns : tie.Need-returns
 unfolding factor_last
-returns c = rw (c.forward_substitution.ensures, c.before.before.apply_interchanges.ensures) refl
+returns c = rw (c.forward_substitution.ensures, c.apply_interchanges.ensures) refl
 
 pub lu_factor_last_spec : {M : Type 1} → statement M
 lu_factor_last_spec =

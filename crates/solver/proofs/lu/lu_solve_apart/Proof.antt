@@ -6,7 +6,7 @@ use Rattle.solver.proofs.lu.lu_solve_apart.Tie as tie
 
 returns : tie.Need-returns
 unfolding lu_solve_apart
-returns c = rw (c.back_substitution.ensures, c.before.before.back_last.ensures, c.before.before.before.before.lu_factor_last.ensures) refl
+returns c = rw (c.back_substitution.ensures, c.back_last.ensures, c.lu_factor_last.ensures) refl
 
 pub lu_solve_apart_spec : {M : Type 1} → statement M
 lu_solve_apart_spec =

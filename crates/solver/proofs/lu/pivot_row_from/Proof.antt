@@ -8,7 +8,7 @@ use Rattle.solver.proofs.lu.pivot_row_from.Tie as tie
 
 returns : tie.Need-returns
 returns c =
-    let s = c.before.before.before in
+    let s = c in
     let h = rw (part_to_end s.args.m.now (25 * s.args.k)) at c.pivot_row.ensures in
     (ap (λ (x : ℕ). s.args.k + x) h.0, omega (arith, h.1))
 

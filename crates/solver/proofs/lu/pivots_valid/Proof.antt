@@ -10,15 +10,15 @@ use borrow.Author.Rules.{rules}
 use Rattle.solver.proofs.lu.pivots_valid.Statement.{statement}
 use Rattle.solver.proofs.lu.pivots_valid.Tie as tie
 
-abbrev invariant_loop : tie.invariant-loop
+abbrev invariant_loop : tie.invariant-loop-k
 invariant_loop m w ok₀ k₀ valid k = (valid && all k w λ i. valid_divisor (entry i i m)) ≡ all 0 w λ i. valid_divisor (entry i i m)
 
-abbrev decreases_loop : tie.decreases-loop
+abbrev decreases_loop : tie.decreases-loop-k
 decreases_loop m w ok₀ k₀ valid k = w - k
 
-loop_again : tie.Need-loop-preserved invariant_loop decreases_loop
+loop_again : tie.Need-loop-k-preserved invariant_loop decreases_loop
 loop_again c =
-    let e = c.valid_divisor.ensures ∙ ap valid_divisor c.before.entry.ensures in
+    let e = c.valid_divisor-valid.ensures ∙ ap valid_divisor c.entry.ensures in
     search (rules, all_turn)
 
 returns : tie.Need-returns invariant_loop decreases_loop

@@ -7,13 +7,13 @@ use borrow.Author.Rules.{rules}
 use Rattle.solver.proofs.lu.subtract_last_multiples.Statement.{statement}
 use Rattle.solver.proofs.lu.subtract_last_multiples.Tie as tie
 
-abbrev invariant_loop : tie.invariant-loop
+abbrev invariant_loop : tie.invariant-loop-i
 invariant_loop last b₀ x n i₀ b i = repeat i n (subtract_last_multiple last x) b ≡ repeat 0 n (subtract_last_multiple last x) b₀
 
-abbrev decreases_loop : tie.decreases-loop
+abbrev decreases_loop : tie.decreases-loop-i
 decreases_loop last b₀ x n i₀ b i = n - i
 
-loop_again : tie.Need-loop-preserved invariant_loop decreases_loop
+loop_again : tie.Need-loop-i-preserved invariant_loop decreases_loop
 loop_again c = search (rules, repeat_turn)
 
 returns : tie.Need-returns invariant_loop decreases_loop

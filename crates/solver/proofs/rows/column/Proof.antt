@@ -7,13 +7,13 @@ use borrow.Author.Rules.{rules}
 use Rattle.solver.proofs.rows.column.Statement.{statement}
 use Rattle.solver.proofs.rows.column.Tie as tie
 
-abbrev invariant_loop : tie.invariant-loop
+abbrev invariant_loop : tie.invariant-loop-i
 invariant_loop m j c₀ i₀ c i = repeat i 25 (column_entry j m) c ≡ repeat 0 25 (column_entry j m) c₀
 
-abbrev decreases_loop : tie.decreases-loop
+abbrev decreases_loop : tie.decreases-loop-i
 decreases_loop m j c₀ i₀ c i = 25 - i
 
-loop_again : tie.Need-loop-preserved invariant_loop decreases_loop
+loop_again : tie.Need-loop-i-preserved invariant_loop decreases_loop
 loop_again c = search (rules, repeat_turn)
 
 returns : tie.Need-returns invariant_loop decreases_loop

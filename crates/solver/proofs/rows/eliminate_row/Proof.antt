@@ -7,19 +7,19 @@ use borrow.Author.Rules.{rules}
 use Rattle.solver.proofs.rows.eliminate_row.Statement.{statement}
 use Rattle.solver.proofs.rows.eliminate_row.Tie as tie
 
-abbrev invariant_loop : tie.invariant-loop
+abbrev invariant_loop : tie.invariant-loop-j
 invariant_loop m₀ w k pivots reciprocal i factor j₀ m j = repeat j w (eliminate_entry pivots i factor) m ≡ repeat (k + 1) w (eliminate_entry pivots i factor) m₀
 
-abbrev decreases_loop : tie.decreases-loop
+abbrev decreases_loop : tie.decreases-loop-j
 decreases_loop m₀ w k pivots reciprocal i factor j₀ m j = w - j
 
-loop_again : tie.Need-loop-preserved invariant_loop decreases_loop
-loop_again c = rw (c.set_entry2.ensures, c.before.before.before.entry2.ensures) (search (rules, repeat_turn))
+loop_again : tie.Need-loop-j-preserved invariant_loop decreases_loop
+loop_again c = rw (c.set_entry-in-loop-j.ensures, c.entry-in-loop-j.ensures) (search (rules, repeat_turn))
 
 returns : tie.Need-returns invariant_loop decreases_loop
 unfolding eliminate_row
 returns c =
-    rw (← c.before.before.before.before.entry.ensures, ← c.before.before.set_entry.ensures)
+    rw (← c.entry.ensures, ← c.set_entry.ensures)
     (search (rules, repeat_end))
 
 pub eliminate_row_spec : {M : Type 1} → statement M

@@ -7,38 +7,38 @@ use borrow.Author.Rules.{rules}
 use Rattle.solver.proofs.rows.eliminate_rows.Statement.{statement}
 use Rattle.solver.proofs.rows.eliminate_rows.Tie as tie
 
-abbrev invariant_loop : tie.invariant-loop
+abbrev invariant_loop : tie.invariant-loop-i
 invariant_loop m₀ h w k pivots reciprocal i₀ m i = repeat i h (eliminate_row w k pivots reciprocal) m ≡ repeat (k + 1) h (eliminate_row w k pivots reciprocal) m₀
 
-abbrev decreases_loop : tie.decreases-loop
+abbrev decreases_loop : tie.decreases-loop-i
 decreases_loop m₀ h w k pivots reciprocal i₀ m i = h - i
 
-add_i : tie.Need-overflow-add-i invariant_loop decreases_loop
+add_i : tie.Need-overflow_add-i invariant_loop decreases_loop
 add_i c = search rules
 
-loop_holds : tie.Need-loop-init invariant_loop decreases_loop
+loop_holds : tie.Need-loop-i-init invariant_loop decreases_loop
 loop_holds c = refl
 
-eliminate_row_requires : tie.Need-eliminate-row-requires invariant_loop decreases_loop
+eliminate_row_requires : tie.Need-eliminate_row-requires invariant_loop decreases_loop
 eliminate_row_requires c κs = search rules
 
-add_i_2 : tie.Need-overflow-add-i-2 invariant_loop decreases_loop
+add_i_2 : tie.Need-overflow_add-i-in-loop-i invariant_loop decreases_loop
 add_i_2 c = search rules
 
-loop_less : tie.Need-loop-smaller invariant_loop decreases_loop
+loop_less : tie.Need-loop-i-smaller invariant_loop decreases_loop
 loop_less c = search rules
 
-loop_again : tie.Need-loop-preserved invariant_loop decreases_loop
+loop_again : tie.Need-loop-i-preserved invariant_loop decreases_loop
 loop_again c =
-    let l = c.before.before.before.loop in
-    let s = c.before.before.before.before in
-    rw c.eliminate_row.ensures (sym (repeat_next (eliminate_row s.args.w s.args.k s.args.pivots.now s.args.reciprocal) l.i s.args.h l.m c.before.before.loop_test.true) ∙ l.invariant)
+    let l = c.loop-i in
+    let s = c in
+    rw c.eliminate_row.ensures (sym (repeat_next (eliminate_row s.args.w s.args.k s.args.pivots.now s.args.reciprocal) l.i s.args.h l.m c.loop-i-test.true) ∙ l.invariant)
 
 returns : tie.Need-returns invariant_loop decreases_loop
 returns c =
-    let l = c.before.loop in
-    let s = c.before.before in
-    sym (repeat_done (eliminate_row s.args.w s.args.k s.args.pivots.now s.args.reciprocal) l.i s.args.h l.m c.loop_test.false) ∙ l.invariant
+    let l = c.loop-i in
+    let s = c in
+    sym (repeat_done (eliminate_row s.args.w s.args.k s.args.pivots.now s.args.reciprocal) l.i s.args.h l.m c.loop-i-test.false) ∙ l.invariant
 
 pub eliminate_rows_spec : {M : Type 1} → statement M
 eliminate_rows_spec =

@@ -9,10 +9,10 @@ use borrow.Author.Rules.{rules}
 use Rattle.solver.proofs.rows.row.Statement.{statement}
 use Rattle.solver.proofs.rows.row.Tie as tie
 
-abbrev invariant_loop : tie.invariant-loop
+abbrev invariant_loop : tie.invariant-loop-j
 invariant_loop m i r₀ j₀ r j = (length r ≡ 25) × (take j r ++ (terms j 25 λ k. entry i k m) ≡ terms 0 25 λ k. entry i k m)
 
-abbrev decreases_loop : tie.decreases-loop
+abbrev decreases_loop : tie.decreases-loop-j
 decreases_loop m i r₀ j₀ r j = 25 - j
 
 returns : tie.Need-returns invariant_loop decreases_loop

@@ -9,10 +9,10 @@ use borrow.Author.Rules.{rules}
 use Rattle.solver.proofs.rows.set_row.Statement.{statement}
 use Rattle.solver.proofs.rows.set_row.Tie as tie
 
-abbrev invariant_loop : tie.invariant-loop
+abbrev invariant_loop : tie.invariant-loop-j
 invariant_loop m₀ i r j₀ m j = repeat j 25 (λ k. set_entry i k (get_or r k nan)) m ≡ repeat 0 25 (λ k. set_entry i k (get_or r k nan)) m₀
 
-abbrev decreases_loop : tie.decreases-loop
+abbrev decreases_loop : tie.decreases-loop-j
 decreases_loop m₀ i r j₀ m j = 25 - j
 
 returns : tie.Need-returns invariant_loop decreases_loop

@@ -6,7 +6,7 @@ use Rattle.solver.proofs.system.factor_columns.Tie as tie
 
 returns : tie.Need-returns
 unfolding factor_apart
-returns c = rw (← c.before.before.before.before.before.before.before.before.before.before.before.before.at_most_24.ensures.0, ← c.before.before.before.before.before.before.before.before.before.before.eliminate_chains.ensures, ← c.before.before.before.before.before.before.before.set_inner_diagonals.ensures, ← c.before.before.before.before.lu_factor_columns.ensures, ← c.before.before.divisors_valid.ensures, ← c.pivots_valid.ensures) refl
+returns c = rw (← c.at_most_24-k.ensures.0, ← c.eliminate_chains.ensures, ← c.set_inner_diagonals.ensures, ← c.lu_factor_columns.ensures, ← c.divisors_valid-chains.ensures, ← c.pivots_valid-pivots.ensures) refl
 
 pub factor_columns_spec : {M : Type 1} → statement M
 factor_columns_spec =

@@ -4,13 +4,13 @@ use borrow.Author.Rules.{rules}
 use Rattle.solver.proofs.system.substitute_apart.Statement.{statement}
 use Rattle.solver.proofs.system.substitute_apart.Tie as tie
 
-returns : tie.Need-returns
+returns : tie.Need-returns-then-nodes_within
 unfolding substitute_apart temperatures_apart
-returns c = rw (← c.before.before.before.before.before.before.before.before.lu_solve_apart.ensures, ← c.before.before.before.before.before.scatter_dense.ensures, ← c.before.before.before.back_substitute_chains.ensures, ← c.before.nodes_within.ensures, c.if1.true) refl
+returns c = rw (← c.lu_solve_apart.ensures, ← c.scatter_dense.ensures, ← c.back_substitute_chains.ensures, ← c.nodes_within.ensures, c.if-nodes_within.true) refl
 
-returns_2 : tie.Need-returns-2
+returns_2 : tie.Need-returns-else-nodes_within
 unfolding substitute_apart temperatures_apart
-returns_2 c = rw (← c.before.before.before.before.before.before.before.before.lu_solve_apart.ensures, ← c.before.before.before.before.before.scatter_dense.ensures, ← c.before.before.before.back_substitute_chains.ensures, ← c.before.nodes_within.ensures, c.if1.false) refl
+returns_2 c = rw (← c.lu_solve_apart.ensures, ← c.scatter_dense.ensures, ← c.back_substitute_chains.ensures, ← c.nodes_within.ensures, c.if-nodes_within.false) refl
 
 pub substitute_apart_spec : {M : Type 1} → statement M
 substitute_apart_spec =

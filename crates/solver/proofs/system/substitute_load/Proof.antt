@@ -5,7 +5,7 @@ use Rattle.solver.proofs.system.substitute_load.Tie as tie
 
 returns : tie.Need-returns
 unfolding gather_loaded
-returns c = rw (← c.before.before.before.before.before.before.at_most_24.ensures.0, ← c.before.before.before.gather_loaded_lem.ensures) c.substitute_apart.ensures
+returns c = rw (← c.at_most_24-k.ensures.0, ← c.gather_loaded.ensures) c.substitute_apart.ensures
 
 pub substitute_load_spec : {M : Type 1} → statement M
 substitute_load_spec =
