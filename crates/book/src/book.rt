@@ -21,7 +21,7 @@ use zone::{
 
 // What a call is given and hands back: the node temperatures, the count of entries, the used length and the version of the last entry, 1 where there is
 // none.
-#[derive(Drop)]
+#[derive(Clone, Copy)]
 pub struct BookState {
     pub state: State,
     pub count: usize,
@@ -30,7 +30,7 @@ pub struct BookState {
 }
 
 // Acceptance, or number and index, with the values handed back: the new ones, or those that were given.
-#[derive(Drop)]
+#[derive(Clone, Copy)]
 pub struct Reply {
     pub verdict: Verdict,
     pub values: BookState,

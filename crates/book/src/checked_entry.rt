@@ -18,7 +18,7 @@ use crate::versions::may_follow;
 use zone::{DemandAnswer, State, Verdict, ZoneFront, read_limits};
 
 // One whole entry against the hour step: the state after it and its version, or 18 and those before it.
-#[derive(Drop)]
+#[derive(Clone, Copy)]
 pub struct CheckedEntry {
     pub verdict: Verdict,
     pub state: State,

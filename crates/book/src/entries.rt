@@ -93,7 +93,7 @@ fn check_entries(
 }
 
 // A book that is read: its head, whose zone stands in the lent arrays, the state of its start-up, and what a take-up replies.
-#[derive(Drop)]
+#[derive(Clone, Copy)]
 pub struct ReadBook {
     pub head: Head,
     pub start: State,

@@ -9,7 +9,7 @@ use crate::layout::{FRONT_SIZE, LENGTH_SIZE};
 use zone::{ZoneFront, hour_version};
 
 // What a rest begins with: nothing that counts, or a whole record of so many bytes.
-#[derive(Drop)]
+#[derive(Clone, Copy)]
 pub enum Record {
     Dropped,
     Whole(usize),

@@ -10,7 +10,7 @@ use book::{BookState, Reply};
 use zone::{Limits, ZoneFront};
 
 // Appends that were refused in one way, or accepted in another.
-#[derive(Drop)]
+#[derive(Clone, Copy)]
 pub struct Appends {
     pub unknown: Tally,
     pub out_of_range: Tally,

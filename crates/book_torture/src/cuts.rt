@@ -32,7 +32,7 @@ pub fn small_plan() -> Plan {
 pub const CUT_OFF: u8 = 170;
 
 // `count` places, `step` bytes apart.
-#[derive(Drop)]
+#[derive(Clone, Copy)]
 pub struct Places {
     pub from: usize,
     pub step: usize,

@@ -10,7 +10,7 @@ use std::num::{wrapping_add_usize, wrapping_sub_usize};
 use zone::{State, Verdict, ZoneFront};
 
 // Number and index; of an acceptance 0, and the values that are handed back.
-#[derive(Drop)]
+#[derive(Clone, Copy)]
 pub struct Expected {
     pub number: u64,
     pub index: usize,

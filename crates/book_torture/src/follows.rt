@@ -17,7 +17,7 @@ use zone::ZoneFront;
 const MADE_UP: u64 = 1;
 
 // Entries that may follow, entries that may not, and either without its last byte.
-#[derive(Drop)]
+#[derive(Clone, Copy)]
 pub struct Follows {
     pub may: Tally,
     pub may_not: Tally,

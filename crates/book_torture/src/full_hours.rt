@@ -12,7 +12,7 @@ use zone::ZoneFront;
 const FIXED_RATE: f64 = 0.75;
 
 // How many hours have heating, cooling, windows open.
-#[derive(Drop)]
+#[derive(Clone, Copy)]
 struct Hours {
     heating: u64,
     cooling: u64,

@@ -23,7 +23,7 @@ const RADIATIVE: usize = CONDITIONS_PLACE + 11 * 8;
 
 // Hours whose power a limit holds, those of version 3 that none holds, and the first of each with a limit above 0. Hours that an
 // update can be asked for, and those where it gives the entry's temperatures.
-#[derive(Drop)]
+#[derive(Clone, Copy)]
 pub struct Held {
     pub heating: u64,
     pub cooling: u64,

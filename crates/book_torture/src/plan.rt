@@ -3,7 +3,7 @@ use crate::layout::{ENTRY, HEAD, LIMITS, LONG_ENTRY};
 use std::num::wrapping_sub_usize;
 
 // The first hours of version 2 and of version 3; where they are the same, no hour has version 2.
-#[derive(Drop)]
+#[derive(Clone, Copy)]
 pub struct Plan {
     pub two: usize,
     pub three: usize,

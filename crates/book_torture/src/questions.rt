@@ -14,7 +14,7 @@ const NONE: u64 = 4294967295;
 const NOWHERE: f64 = 1e9;
 
 // The value that is to be exceeded, or come near to, and the ends of a band.
-#[derive(Drop)]
+#[derive(Clone, Copy)]
 pub struct Question {
     pub value: f64,
     pub lower: f64,
@@ -22,7 +22,7 @@ pub struct Question {
 }
 
 // What the hours so far give, and the least distance from the value.
-#[derive(Drop)]
+#[derive(Clone, Copy)]
 struct Found {
     above: u64,
     within: u64,

@@ -15,7 +15,7 @@ const MOST: usize = LONG_ENTRY + 7;
 const WITH_REST: usize = ROOM + MOST;
 
 // By what they are: too few for a version byte, a version that no hour has, fewer bytes than the version's entry, or as many.
-#[derive(Drop)]
+#[derive(Clone, Copy)]
 pub struct Rests {
     pub under_front: Tally,
     pub unknown: Tally,

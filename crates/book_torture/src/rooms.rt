@@ -14,7 +14,7 @@ const MOST: usize = LONG_ENTRY + 3;
 
 // Appends into each room; those of version 3 that were refused where an entry of version 2 has room, and those accepted with none
 // to spare.
-#[derive(Drop)]
+#[derive(Clone, Copy)]
 pub struct Rooms {
     pub appends: Tally,
     pub too_long: u64,

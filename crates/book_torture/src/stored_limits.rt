@@ -22,7 +22,7 @@ const MINUS_INFINITY: u64 = 18442240474082181120;
 // The number below 0 that is next to it.
 const BELOW_ZERO: u64 = 9223372036854775809;
 
-#[derive(Drop)]
+#[derive(Clone, Copy)]
 pub struct OtherLimits {
     pub outside: Tally,
     pub within: Tally,

@@ -1,7 +1,7 @@
 // How many of something there were, and how many of them were right.
 use std::num::wrapping_add_u64;
 
-#[derive(Drop)]
+#[derive(Clone, Copy)]
 pub struct Tally {
     pub all: u64,
     pub right: u64,

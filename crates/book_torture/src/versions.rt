@@ -11,7 +11,7 @@ use std::num::{wrapping_add_u64, wrapping_add_usize};
 use zone::ZoneFront;
 
 // How many bytes were changed, how many of the answers were as expected, and which answers were expected.
-#[derive(Drop)]
+#[derive(Clone, Copy)]
 pub struct Changes {
     pub books: u64,
     pub books_right: u64,

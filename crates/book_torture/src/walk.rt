@@ -15,7 +15,7 @@ use std::num::{wrapping_add_usize, wrapping_sub_usize};
 use zone::{AchToTriggerHeating, Demand, HourAnswer, Limits, State, ZoneFront};
 
 // How far the bytes are read: so many entries were true, the next begins here. What comes of it, once it is known.
-#[derive(Drop)]
+#[derive(Clone, Copy)]
 pub struct Walk {
     pub at: usize,
     pub count: usize,

@@ -14,7 +14,7 @@ const MADE_UP_COUNT: usize = 9999;
 const MADE_UP_USED: usize = 79;
 
 // The values after some appends, and how many of them were refused or handed back another version than the one named.
-#[derive(Drop)]
+#[derive(Clone, Copy)]
 pub struct Filled {
     pub values: BookState,
     pub wrong: u64,

@@ -6,7 +6,7 @@ use zone::{
     HeatBalanceInternalBoundary, State,
 };
 
-#[derive(Drop)]
+#[derive(Clone, Copy)]
 pub struct Answer {
     pub number: u32,
     pub index: usize,

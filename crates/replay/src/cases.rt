@@ -8,7 +8,7 @@ use std::num::wrapping_add_usize;
 use zone::{Limits, Verdict, ZoneFront};
 
 // Where the parts of a record lie.
-#[derive(Drop)]
+#[derive(Clone, Copy)]
 struct Case {
     profile: usize,
     op: usize,

@@ -16,7 +16,7 @@ const VALUE_COUNT: usize = 28;
 
 const VALUES: usize = 30;
 
-#[derive(Drop)]
+#[derive(Clone, Copy)]
 pub struct Row {
     pub call: usize,
     pub number: usize,

@@ -17,7 +17,7 @@ pub const REASONS: usize = 6;
 
 pub const LOADS: usize = 3;
 
-#[derive(Drop)]
+#[derive(Clone, Copy)]
 pub struct CaseTally {
     pub total: u64,
     pub differ: u64,
@@ -128,7 +128,7 @@ impl CaseTally {
     }
 }
 
-#[derive(Drop)]
+#[derive(Clone, Copy)]
 pub struct RowTally {
     pub total: u64,
     pub differ: u64,

@@ -3,7 +3,7 @@ ghost use Rattle.std.specs.Prelude.{◌≡◌};
 ghost use Rattle.solver.specs.Sums.{sum2_zero, sum2_add, sum2_sum};
 
 // The total s so far, and the correction c: what its roundings lost.
-#[derive(Drop)]
+#[derive(Clone, Copy)]
 pub struct Sum2 {
     pub s: f64,
     pub c: f64,

@@ -22,7 +22,7 @@ use crate::rows::column;
 // The matrix in the form that is kept: the number of elements, which of them have two nodes; for each slot its own coefficient and those of
 // the next and the previous slot of its chain; and the dense part, 25 places a row: the couplings between the inner surfaces, the air's column
 // and row. Where an inner surface meets itself, the dense part has the chain's adjusted diagonal once it is factored.
-#[derive(Drop)]
+#[derive(Clone, Copy)]
 pub struct Matrix {
     pub n: usize,
     pub two_nodes: [bool; 24],
@@ -33,7 +33,7 @@ pub struct Matrix {
 }
 
 // 0 and the temperatures in their slots; 12 and the right side as it was; or 13 and the temperatures that were found.
-#[derive(Drop)]
+#[derive(Clone, Copy)]
 pub struct Solved {
     pub number: u32,
     pub temps: [f64; 121],

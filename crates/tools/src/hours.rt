@@ -8,7 +8,7 @@ use book::{BookState, Record, read_entry};
 use zone::{State, ZoneFront, operative_of};
 
 // The end of the book, or the length of the next hour's entry and the operative temperature after it.
-#[derive(Drop)]
+#[derive(Clone, Copy)]
 pub enum NextHour {
     End,
     Next { length: usize, temperature: f64 },

@@ -1,7 +1,7 @@
 // What the questions answer.
 
 // An hour, from 0, or that there is none.
-#[derive(Drop)]
+#[derive(Clone, Copy)]
 pub enum HourReply {
     Hour(usize),
     NoHour,
@@ -9,7 +9,7 @@ pub enum HourReply {
 }
 
 // How many hours.
-#[derive(Drop)]
+#[derive(Clone, Copy)]
 pub enum HoursReply {
     Hours(usize),
     Refused { number: u32, index: usize },

@@ -11,7 +11,7 @@ use crate::numbers::{DIGIT_0, DIGIT_9, MINUS_SIGN, MOST_DIGITS, POINT};
 use crate::split::piece_length;
 
 // The fraction `number` / `power`, of at most 12 digits, negative where there is a minus.
-#[derive(Drop)]
+#[derive(Clone, Copy)]
 pub enum Decimal {
     NotDecimal,
     Written {

@@ -9,7 +9,7 @@ use crate::decimal::{Decimal, read_decimal, value};
 use crate::numbers::{INVALID, MISSING};
 
 // The value of a field, or a refusal.
-#[derive(Drop)]
+#[derive(Clone, Copy)]
 pub enum FieldReply {
     Accepted(f64),
     Refused { number: u32, index: usize },

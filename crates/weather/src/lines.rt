@@ -7,7 +7,7 @@ use crate::numbers::{CARRIAGE_RETURN, COMMA, HEADER_LINES, LINE_FEED};
 use crate::split::{Start, piece_length, piece_start};
 
 // A part of some bytes, or that there is none.
-#[derive(Drop)]
+#[derive(Clone, Copy)]
 pub enum Span {
     Absent,
     Found { start: usize, length: usize },

@@ -3,7 +3,7 @@ ghost use Rattle.std.specs.Prelude.{◌≡◌};
 ghost use Rattle.weather.specs.Inner.Pieces.{BeginsAt, FirstEnds};
 
 // Where a piece begins, or that there is none.
-#[derive(Drop)]
+#[derive(Clone, Copy)]
 pub enum Start {
     Absent,
     At(usize),

@@ -16,7 +16,7 @@ const MISSED: f64 = 0.1;
 const NOWHERE: f64 = -273.15;
 
 // The demand that is asked before an hour is met.
-#[derive(Drop)]
+#[derive(Clone, Copy)]
 pub struct Asked {
     pub heating: f64,
     pub cooling: f64,

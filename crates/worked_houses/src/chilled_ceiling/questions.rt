@@ -16,7 +16,7 @@ use zone::ZoneFront;
 const ROOM: usize = HEAD + 3 * ENTRY + LIMITED_ENTRY;
 
 // The operative temperature after each hour.
-#[derive(Drop)]
+#[derive(Clone, Copy)]
 struct Temperatures {
     too_warm: f64,
     heated: f64,

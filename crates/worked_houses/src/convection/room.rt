@@ -37,7 +37,7 @@ pub const K_DOWNWARDS: f64 = 2520.0;
 const NO_CONTROL: f64 = 1.4e32;
 
 // The temperatures of air and surfaces are those before the hour.
-#[derive(Drop)]
+#[derive(Clone, Copy)]
 pub struct Room {
     pub bridges: f64,
     pub air: f64,

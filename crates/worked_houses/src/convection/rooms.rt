@@ -4,7 +4,7 @@
 use crate::convection::room::{K_DOWNWARDS, K_HORIZONTAL, K_UPWARDS, Room};
 
 // What the air gives to all surfaces, and by direction of heat flow, W.
-#[derive(Drop)]
+#[derive(Clone, Copy)]
 pub struct Given {
     pub total: f64,
     pub horizontal: f64,

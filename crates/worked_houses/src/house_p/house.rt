@@ -2,7 +2,7 @@
 use crate::bytes::{put_byte, write_f64s_be};
 
 // What the rows change of House P.
-#[derive(Drop)]
+#[derive(Clone, Copy)]
 pub struct House {
     pub k_inner: f64,
     pub h_ce: f64,
@@ -58,7 +58,7 @@ pub fn head_of(p: House) -> [u8; 180] {
 }
 
 // What the rows change of its hours: setpoints, convective fractions of heating and cooling, and what other systems give.
-#[derive(Drop)]
+#[derive(Clone, Copy)]
 pub struct Hour {
     pub heat: f64,
     pub cool: f64,

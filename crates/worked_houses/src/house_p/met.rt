@@ -5,7 +5,7 @@ use zone::{Demand, HeatBalance, HourAnswer, Limits, State, ZoneFront};
 
 // What is expected of an hour: the demand in k_wh, the temperatures above 20, the total gains and what of them goes to the
 // air.
-#[derive(Drop)]
+#[derive(Clone, Copy)]
 pub struct Met {
     pub heating: f64,
     pub cooling: f64,

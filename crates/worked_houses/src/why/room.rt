@@ -32,7 +32,7 @@ pub const BY_OPERATIVE: u8 = 1;
 const VOLUME: f64 = 237.7760017965298;
 
 // The temperatures of surface and air are those before the hour.
-#[derive(Drop)]
+#[derive(Clone, Copy)]
 pub struct Room {
     pub basis: u8,
     pub surface: f64,
@@ -61,7 +61,7 @@ pub fn warm() -> Room {
 }
 
 // Rate code 0 has the target alone.
-#[derive(Drop)]
+#[derive(Clone, Copy)]
 pub struct Hour {
     pub heat: f64,
     pub cool: f64,

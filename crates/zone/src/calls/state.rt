@@ -8,21 +8,21 @@ use crate::physics::node_layout::{to_nodes, to_slots, two_nodes_of};
 use crate::record::zone_record::{Verdict, ZoneFront, node_count};
 
 // Node temperatures: element by element from the outer to the inner surface, then the air. The first `nodes` of `temps` count.
-#[derive(Drop)]
+#[derive(Clone, Copy)]
 pub struct State {
     pub nodes: usize,
     pub temps: [f64; 121],
 }
 
 // The air change rate at which heating would be triggered, where there is a choice of rates.
-#[derive(Drop)]
+#[derive(Clone, Copy)]
 pub enum AchToTriggerHeating {
     Absent,
     At(f64),
 }
 
 // Heating and cooling demand in k_wh, the chosen air change rate and the one that triggers heating.
-#[derive(Drop)]
+#[derive(Clone, Copy)]
 pub struct Demand {
     pub space_heat_demand: f64,
     pub space_cool_demand: f64,
@@ -30,33 +30,33 @@ pub struct Demand {
     pub ach_to_trigger_heating: AchToTriggerHeating,
 }
 
-#[derive(Drop)]
+#[derive(Clone, Copy)]
 pub enum DemandAnswer {
     Accepted(Demand),
     Refused { number: u32, index: usize },
 }
 
-#[derive(Drop)]
+#[derive(Clone, Copy)]
 pub enum UpdateAnswer {
     Accepted(HeatBalance),
     Refused { number: u32, index: usize },
 }
 
-#[derive(Drop)]
+#[derive(Clone, Copy)]
 pub enum HourAnswer {
     Accepted(Demand, HeatBalance),
     Refused { number: u32, index: usize },
 }
 
 // The operative temperature in °C.
-#[derive(Drop)]
+#[derive(Clone, Copy)]
 pub enum OperativeReply {
     Accepted(f64),
     Refused { number: u32, index: usize },
 }
 
 // Why an hour has its air change rate: the earliest that holds, in the paper's order.
-#[derive(Drop)]
+#[derive(Clone, Copy)]
 pub enum Reason {
     NoChoice,
     NotAboveVentilationSetpoint,
@@ -67,7 +67,7 @@ pub enum Reason {
 }
 
 // What the hour's demand asks for.
-#[derive(Drop)]
+#[derive(Clone, Copy)]
 pub enum Load {
     Neither,
     Heating,
@@ -75,33 +75,33 @@ pub enum Load {
 }
 
 // Why this rate, why this load.
-#[derive(Drop)]
+#[derive(Clone, Copy)]
 pub enum WhyReply {
     Accepted(Reason, Load),
     Refused { number: u32, index: usize },
 }
 
 // The answer of a call, and the state: the new one, or the one that was given.
-#[derive(Drop)]
+#[derive(Clone, Copy)]
 pub struct DemandReply {
     pub answer: DemandAnswer,
     pub state: State,
 }
 
-#[derive(Drop)]
+#[derive(Clone, Copy)]
 pub struct UpdateReply {
     pub answer: UpdateAnswer,
     pub state: State,
 }
 
-#[derive(Drop)]
+#[derive(Clone, Copy)]
 pub struct HourStepReply {
     pub answer: HourAnswer,
     pub state: State,
 }
 
 // Of a refused start-up: no nodes, every temperature 0.0.
-#[derive(Drop)]
+#[derive(Clone, Copy)]
 pub struct StartUp {
     pub verdict: Verdict,
     pub state: State,

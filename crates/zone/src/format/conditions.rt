@@ -3,14 +3,14 @@ use crate::record::building_element::ElementHour;
 use crate::record::zone_record::Verdict;
 
 // A fixed air change rate, or a target with the rate of open windows.
-#[derive(Drop)]
+#[derive(Clone, Copy)]
 pub enum AirChangesPerHourArgument {
     Cooling(f64),
     TargetAndWindowsOpen(f64, f64),
 }
 
 // What an hour's conditions say beside the elements' parts. The names are those of the arguments of `space_heat_cool_demand`.
-#[derive(Drop)]
+#[derive(Clone, Copy)]
 pub struct HourFront {
     pub delta_t_h: f64,
     pub temp_ext_air: f64,
@@ -28,7 +28,7 @@ pub struct HourFront {
 }
 
 // The whole hour, of which the definitions speak.
-#[derive(Drop)]
+#[derive(Clone, Copy)]
 pub struct Conditions {
     pub delta_t_h: f64,
     pub temp_ext_air: f64,
@@ -47,7 +47,7 @@ pub struct Conditions {
 }
 
 // What a byte string is as an hour's conditions, beside the arrays with the elements' parts: when refused, the front is a fixed one.
-#[derive(Drop)]
+#[derive(Clone, Copy)]
 pub struct HourConditions {
     pub verdict: Verdict,
     pub front: HourFront,

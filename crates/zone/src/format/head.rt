@@ -21,7 +21,7 @@ use crate::record::numbers::{HEAD_LENGTH, HEAD_SHORT, HEAD_VERSION, STRUCTURE};
 use crate::record::zone_record::{Verdict, ZoneFront};
 
 // What a byte string is as a head, beside the arrays with its elements: when refused, the front is a fixed one and the length 0.
-#[derive(Drop)]
+#[derive(Clone, Copy)]
 pub struct Head {
     pub verdict: Verdict,
     pub zone: ZoneFront,
@@ -29,7 +29,7 @@ pub struct Head {
 }
 
 // Where a head, or its elements, end.
-#[derive(Drop)]
+#[derive(Clone, Copy)]
 pub enum Extent {
     End(usize),
     Refused { number: u32, index: usize },

@@ -6,7 +6,7 @@ use crate::format::bytes::read_f64_be;
 use crate::format::layout::FLOAT_SIZE;
 
 // Greatest heating and greatest cooling, W.
-#[derive(Drop)]
+#[derive(Clone, Copy)]
 pub struct Limits {
     pub heating: f64,
     pub cooling: f64,

@@ -15,7 +15,7 @@ use crate::hour::windows::{
 };
 use crate::record::zone_record::ZoneFront;
 
-#[derive(Drop)]
+#[derive(Clone, Copy)]
 pub enum VentilationAnswer {
     Accepted(VentilationChoice),
     Refused { number: u32, index: usize },

@@ -16,7 +16,7 @@ use crate::physics::operative::areas_of;
 use crate::physics::slots::at_most_24;
 use crate::record::zone_record::ZoneFront;
 
-#[derive(Drop)]
+#[derive(Clone, Copy)]
 pub enum FreeAnswer {
     Accepted(ZoneTemperatures),
     Refused { number: u32, index: usize },

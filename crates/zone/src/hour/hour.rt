@@ -20,7 +20,7 @@ use crate::record::zone_record::ZoneFront;
 
 // Whether the demand is met, and how: with the total gains and their convective share, by the rule of an entry version and its limits, or alone with the
 // fraction of heating.
-#[derive(Drop)]
+#[derive(Clone, Copy)]
 pub enum Meeting {
     NotMet,
     WithGains(u64, Limits),
@@ -28,7 +28,7 @@ pub enum Meeting {
 }
 
 // What an hour is asked for: its demand, or the temperatures with a given load.
-#[derive(Drop)]
+#[derive(Clone, Copy)]
 pub enum Asked {
     Demand(Meeting),
     Update {
@@ -39,7 +39,7 @@ pub enum Asked {
 }
 
 // The load of the last calculation.
-#[derive(Drop)]
+#[derive(Clone, Copy)]
 pub enum MetLoad {
     NoLoad,
     Load { gains: f64, fraction: f64 },

@@ -16,7 +16,7 @@ use crate::record::units::WATTS_PER_KILOWATT;
 use solver::close_in_demand;
 
 // The setpoint to be reached and the load with which the second calculation is made, with its convective fraction.
-#[derive(Drop)]
+#[derive(Clone, Copy)]
 pub enum HeatCoolLoad {
     NoLoad,
     Toward {
@@ -26,7 +26,7 @@ pub enum HeatCoolLoad {
     },
 }
 
-#[derive(Drop)]
+#[derive(Clone, Copy)]
 pub enum Interpolated {
     Accepted(f64),
     Refused { number: u32, index: usize },

@@ -9,7 +9,7 @@ use crate::hour::free::{FreeAnswer, free_at};
 use crate::hour::windows::{ZoneTemperatures, above_cooling_setpoint, ach_to_reach};
 use crate::record::zone_record::ZoneFront;
 
-#[derive(Drop)]
+#[derive(Clone, Copy)]
 pub enum ReasonAnswer {
     Accepted(Reason),
     Refused { number: u32, index: usize },

@@ -14,7 +14,7 @@ use crate::record::zone_record::ZoneFront;
 use solver::{factor_last, substitute_load};
 
 // The terms of the zone's equation (38), and of the gains, that neither rate nor load changes.
-#[derive(Drop)]
+#[derive(Clone, Copy)]
 pub struct ZoneTerms {
     pub n: usize,
     pub area_el_total: f64,

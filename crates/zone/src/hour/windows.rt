@@ -15,14 +15,14 @@ use crate::record::zone_record::ZoneTemperatureControlBasis;
 use solver::close_in_windows_test;
 
 // Of a calculation's temperatures, what the choice of a rate looks at.
-#[derive(Drop)]
+#[derive(Clone, Copy)]
 pub struct ZoneTemperatures {
     pub temp_control: f64,
     pub temp_int_air: f64,
 }
 
 // The free temperature, the chosen rate and the rate that triggers heating.
-#[derive(Drop)]
+#[derive(Clone, Copy)]
 pub struct VentilationChoice {
     pub temp_free: f64,
     pub ach_cooling: f64,

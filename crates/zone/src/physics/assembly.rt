@@ -67,7 +67,7 @@ pub fn assemble_sides(
 }
 
 // The sums over all elements.
-#[derive(Drop)]
+#[derive(Clone, Copy)]
 pub struct ElementSums {
     pub area_el_total: f64,
     pub convective: f64,

@@ -13,7 +13,7 @@ use crate::physics::ventilation::calc_vent_heat_transfer_coeff;
 use crate::record::building_element::Coefficients;
 use crate::record::zone_record::ZoneFront;
 
-#[derive(Drop)]
+#[derive(Clone, Copy)]
 pub struct HeatBalanceAirNode {
     pub solar_gains: f64,
     pub internal_gains: f64,
@@ -25,7 +25,7 @@ pub struct HeatBalanceAirNode {
 }
 
 // The Rust's four, then the convective total's terms by direction of heat flow.
-#[derive(Drop)]
+#[derive(Clone, Copy)]
 pub struct HeatBalanceInternalBoundary {
     pub fabric_int_air_convective: f64,
     pub fabric_int_sol: f64,
@@ -36,7 +36,7 @@ pub struct HeatBalanceInternalBoundary {
     pub fabric_int_air_convective_downwards: f64,
 }
 
-#[derive(Drop)]
+#[derive(Clone, Copy)]
 pub struct HeatBalanceExternalBoundary {
     pub solar_gains: f64,
     pub internal_gains: f64,
@@ -54,7 +54,7 @@ pub struct HeatBalanceExternalBoundary {
     pub ztu_fabric_ext: f64,
 }
 
-#[derive(Drop)]
+#[derive(Clone, Copy)]
 pub struct HeatBalance {
     pub air_node: HeatBalanceAirNode,
     pub internal_boundary: HeatBalanceInternalBoundary,

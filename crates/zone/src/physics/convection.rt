@@ -8,7 +8,7 @@ use crate::record::arrays::element_of;
 use crate::record::building_element::{Coefficients, HeatFlowDirection, h_ci};
 
 // The sums over the elements at the internal boundary: one over all, then three by direction of heat flow.
-#[derive(Drop)]
+#[derive(Clone, Copy)]
 pub struct ConvectiveSums {
     pub total: f64,
     pub horizontal: f64,

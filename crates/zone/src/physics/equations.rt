@@ -5,7 +5,7 @@ ghost use Rattle.zone.specs.Physics.Equations.{rows_five, rows_two, rows_of, rig
 use crate::record::building_element::{Element, ElementHour, h_pli_transparent, is_two_nodes};
 
 // The coefficients of each slot's own temperature, of the next slot's and of the previous slot's.
-#[derive(Drop)]
+#[derive(Clone, Copy)]
 pub struct Rows {
     pub diag: [f64; 5],
     pub next: [f64; 5],

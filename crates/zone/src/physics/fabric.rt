@@ -10,7 +10,7 @@ use crate::record::arrays::{element_hour_of, element_of};
 use crate::record::building_element::{Element, ElementHour, Kind, is_two_nodes};
 
 // The sums over the elements at the external boundary: four over all, then five by kind (a party wall counts with the unconditioned spaces).
-#[derive(Drop)]
+#[derive(Clone, Copy)]
 pub struct FabricSums {
     pub convective: f64,
     pub radiative: f64,

@@ -76,7 +76,7 @@ pub fn temp_operative_by_temp_vector(
 }
 
 // The same sum of temperatures in node order, and the node of the air.
-#[derive(Drop)]
+#[derive(Clone, Copy)]
 struct RadiantSum {
     sum: f64,
     air: usize,

@@ -13,7 +13,7 @@ ghost use Rattle.zone.specs.Record.BuildingElement.{
 };
 
 // The Rust's BuildingElement, in the order of its variants.
-#[derive(Drop)]
+#[derive(Clone, Copy)]
 pub enum Kind {
     Opaque,
     AdjacentConditionedSpace,
@@ -25,7 +25,7 @@ pub enum Kind {
 
 // What an hour says of one element: external temperature, direct and diffuse irradiance and their shading factors,
 // and a byte whose bit j means that window treatment j is open.
-#[derive(Drop)]
+#[derive(Clone, Copy)]
 pub struct ElementHour {
     pub temp_ext: f64,
     pub i_sol_dir: f64,
@@ -37,7 +37,7 @@ pub struct ElementHour {
 
 // The coefficients of an element. A Transparent uses the first two of k_pli, the first of h_pli and the first
 // `treatments` of delta_r; any other kind all of k_pli and h_pli.
-#[derive(Drop)]
+#[derive(Clone, Copy)]
 pub struct Element {
     pub kind: Kind,
     pub treatments: usize,
@@ -55,7 +55,7 @@ pub struct Element {
 }
 
 // The standards' numbers that assembly and h_ci use.
-#[derive(Drop)]
+#[derive(Clone, Copy)]
 pub struct Coefficients {
     pub f_int_c: f64,
     pub f_sol_c: f64,
@@ -67,7 +67,7 @@ pub struct Coefficients {
     pub pitch_limit_horiz_floor: f64,
 }
 
-#[derive(Drop)]
+#[derive(Clone, Copy)]
 pub enum HeatFlowDirection {
     Horizontal,
     Upwards,
@@ -75,7 +75,7 @@ pub enum HeatFlowDirection {
 }
 
 // The internal convective heat transfer coefficient, in W / (m2.K), with the direction of heat flow that it is for.
-#[derive(Drop)]
+#[derive(Clone, Copy)]
 pub struct SurfaceConvection {
     pub direction: HeatFlowDirection,
     pub h_ci: f64,

@@ -4,7 +4,7 @@ ghost use Rattle.zone.specs.Physics.Ventilation.{density_kg_per_m3, air_properti
 
 use crate::record::units::LITRES_PER_CUBIC_METRE;
 
-#[derive(Drop)]
+#[derive(Clone, Copy)]
 pub struct MaterialProperties {
     // kg / litre
     pub density: f64,

@@ -6,14 +6,14 @@ ghost use Rattle.zone.specs.Record.BuildingElement.{node_count};
 use crate::record::arrays::element_of;
 use crate::record::building_element::{Element, at_most, number_of_nodes};
 
-#[derive(Drop)]
+#[derive(Clone, Copy)]
 pub enum ZoneTemperatureControlBasis {
     Air,
     Operative,
 }
 
 // What a head says of a zone beside its elements.
-#[derive(Drop)]
+#[derive(Clone, Copy)]
 pub struct ZoneFront {
     pub temp_setpnt_basis: ZoneTemperatureControlBasis,
     pub count: usize,
@@ -28,7 +28,7 @@ pub struct ZoneFront {
 
 // The whole zone, of which the definitions speak. The first `count` of `building_elements` are its elements. The code has a front and lent arrays
 // instead (arrays.rt): a function copies each record that it is given.
-#[derive(Drop)]
+#[derive(Clone, Copy)]
 pub struct Zone {
     pub temp_setpnt_basis: ZoneTemperatureControlBasis,
     pub count: usize,
@@ -43,7 +43,7 @@ pub struct Zone {
 }
 
 // An answer's verdict: accepted, or refused with the papers' number and index (0 where the paper gives none).
-#[derive(Drop)]
+#[derive(Clone, Copy)]
 pub enum Verdict {
     Accepted,
     Refused { number: u32, index: usize },
