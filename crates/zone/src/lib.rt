@@ -1,4 +1,6 @@
 // A zone, hour by hour: heads, start-up, operative temperature, demand, why it is what it is, update and hour step. What the layers above may use is exported here.
+#![tactic(auto)]
+
 mod calls;
 mod check;
 mod format;

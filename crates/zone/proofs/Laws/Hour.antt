@@ -9,7 +9,6 @@ use Rattle.solver.specs.Result.{Result, ok, refused, bind}
 use Rattle.zone.specs.declared.record.building_element.Coefficients.{Coefficients}
 use Rattle.zone.specs.declared.record.zone_record.Zone.{Zone}
 use Rattle.zone.specs.declared.record.zone_record.Verdict.{Verdict}
-use Rattle.zone.specs.declared.record.zone_record.Verdict.TheVariants as Verdict
 use Rattle.zone.specs.declared.format.conditions.Conditions.{Conditions}
 use Rattle.zone.specs.declared.format.limits.Limits.{Limits}
 use Rattle.zone.specs.declared.format.conditions.HourFront.{HourFront}
@@ -22,7 +21,6 @@ use Rattle.zone.specs.Physics.HeatBalance.{heat_balance}
 use Rattle.zone.specs.declared.calls.state.State.{State}
 use Rattle.zone.specs.declared.calls.state.Demand.{Demand}
 use Rattle.zone.specs.declared.calls.state.DemandAnswer.{DemandAnswer}
-use Rattle.zone.specs.declared.calls.state.DemandAnswer.TheVariants as DemandAnswer
 use Rattle.zone.specs.declared.calls.state.UpdateAnswer.TheVariants as UpdateAnswer
 use Rattle.zone.specs.declared.calls.state.HourAnswer.TheVariants as HourAnswer
 use Rattle.zone.specs.declared.calls.state.DemandReply.{DemandReply}

@@ -28,7 +28,6 @@ use Rattle.zone.specs.declared.format.conditions.Conditions.{Conditions}
 use Rattle.zone.specs.declared.format.limits.Limits.{Limits}
 use Rattle.zone.specs.declared.record.zone_record.ZoneFront.{ZoneFront}
 use Rattle.zone.specs.declared.record.zone_record.Verdict.{Verdict}
-use Rattle.zone.specs.declared.record.zone_record.Verdict.TheVariants as Verdict
 use Rattle.zone.specs.declared.calls.state.State.{State}
 use Rattle.zone.specs.Record.BuildingElement.{node_count}
 use Rattle.zone.specs.Record.Numbers.{state_invalid, false_entry, limit_value}

@@ -16,7 +16,6 @@ use Rattle.zone.specs.declared.hour.load.HeatCoolLoad.TheVariants.{NoLoad, Towar
 use Rattle.zone.specs.declared.hour.hour.Meeting.{Meeting}
 use Rattle.zone.specs.declared.hour.hour.Meeting.TheVariants.{NotMet, WithGains, Alone}
 use Rattle.zone.specs.declared.hour.hour.Asked.{Asked}
-use Rattle.zone.specs.declared.hour.hour.Asked.TheVariants as Asked
 use Rattle.zone.specs.Inner.Lent.{hour_of}
 use Rattle.zone.specs.Hour.Demand.{ach_target, wanted, frac_conv_gains_heat_cool, frac_upper}
 use Rattle.zone.specs.Calls.Hour.{delivered, delivered_by, delivered_fraction, convective_share}

@@ -1,13 +1,13 @@
 -- The key of a matrix that is kept: the timestep, the directions of heat flow and the open treatments.
 use mathlib.Core.Path.{◌≡◌, refl, sym, ap, subst, ◌∙◌}
 use mathlib.Core.Logic.{⊎_elim}
-use mathlib.Core.Bool.{Bool, true, false, cond, not, ◌&&◌}
+use mathlib.Core.Bool.{Bool, true, false, cond, ◌&&◌}
 use mathlib.Core.List.{List}
 use Prim.Native.Nat.{ℕ, suc, zero, ◌+◌, ◌-◌, ◌<◌, ◌≤◌}
 use native.Mathlib.Nat.{eq-or-lt_of_le}
 use native.Mathlib.Numerals.{add-one}
 use native.Mathlib.Omega.{arith}
-use borrow.Author.Tests.{not-true, not-false, eqb-true, eq-eqb, ne_eqb, lt-ltb, le-ltb, ltb-true, ltb-false}
+use borrow.Author.Tests.{eqb-true, eq-eqb, ne_eqb, lt-ltb, le-ltb, ltb-true, ltb-false}
 use lib.Dec.{eqb, ltb}
 use lib.ListN.{length, get_or, set, length-set}
 use lib.Seq.{take_all, get_or-set_same, get_or-set_other}
@@ -59,17 +59,17 @@ module _ (key d o : List ℕ) where
       elements_differ e n h (ap (λ (b : Bool). eqb (get_or key e 0) (get_or d e 0) && b) (ne_eqb (get_or key (24 + e) 0) (get_or o e 0) p) ∙ off (eqb (get_or key e 0) (get_or d e 0)))
 
   module _ (is_held : Bool) (kept dt : Float) (n : ℕ) where
-    pub key_none : not is_held ≡ true → false ≡ same_key is_held kept dt n key d o
+    pub key_none : is_held ≡ false → false ≡ same_key is_held kept dt n key d o
     unfolding same_key
-    key_none e = rw (not-true is_held e) refl
+    key_none e = rw e refl
 
-    pub key_step : not is_held ≡ false → (bits bits' : ℕ) → bits ≡ to_bits binary64 kept → bits' ≡ to_bits binary64 dt → (bits ≡ bits' → ⊥) → false ≡ same_key is_held kept dt n key d o
+    pub key_step : is_held ≡ true → (bits bits' : ℕ) → bits ≡ to_bits binary64 kept → bits' ≡ to_bits binary64 dt → (bits ≡ bits' → ⊥) → false ≡ same_key is_held kept dt n key d o
     unfolding same_key
-    key_step e bits bits' is is' p = rw (not-false is_held e, ← is, ← is', ne_eqb bits bits' p) refl
+    key_step e bits bits' is is' p = rw (e, ← is, ← is', ne_eqb bits bits' p) refl
 
-    pub key_elements : not is_held ≡ false → (bits bits' : ℕ) → bits ≡ to_bits binary64 kept → bits' ≡ to_bits binary64 dt → bits ≡ bits' → (test : Bool) → same_elements n key d o ≡ test → test ≡ same_key is_held kept dt n key d o
+    pub key_elements : is_held ≡ true → (bits bits' : ℕ) → bits ≡ to_bits binary64 kept → bits' ≡ to_bits binary64 dt → bits ≡ bits' → (test : Bool) → same_elements n key d o ≡ test → test ≡ same_key is_held kept dt n key d o
     unfolding same_key
-    key_elements e bits bits' is is' p test q = rw (not-false is_held e, ← is, ← is', eq-eqb bits bits' p) (sym q)
+    key_elements e bits bits' is is' p test q = rw (e, ← is, ← is', eq-eqb bits bits' p) (sym q)
 
   -- open treatments that agree
   pub elements_agree : (o' : List ℕ) (n : ℕ) → ((e : ℕ) → e < n → get_or o e 0 ≡ get_or o' e 0) → same_elements n key d o ≡ same_elements n key d o'

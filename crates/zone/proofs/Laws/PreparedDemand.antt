@@ -22,9 +22,7 @@ use Rattle.zone.specs.declared.hour.load.HeatCoolLoad.{HeatCoolLoad}
 use Rattle.zone.specs.declared.hour.load.HeatCoolLoad.TheVariants.{NoLoad, Toward}
 use Rattle.zone.specs.declared.hour.hour.Meeting.{Meeting}
 use Rattle.zone.specs.declared.hour.hour.Asked.{Asked}
-use Rattle.zone.specs.declared.hour.hour.Asked.TheVariants as Asked
 use Rattle.zone.specs.declared.hour.hour.MetLoad.{MetLoad}
-use Rattle.zone.specs.declared.hour.hour.MetLoad.TheVariants as MetLoad
 use Rattle.zone.specs.Record.BuildingElement.{standard_coefficients}
 use Rattle.zone.specs.Inner.Lent.{hour_of}
 use Rattle.zone.specs.Physics.Slots.{air}

@@ -11,7 +11,6 @@ use Rattle.zone.specs.declared.calls.state.DemandAnswer.{DemandAnswer}
 use Rattle.zone.specs.declared.calls.state.DemandAnswer.TheVariants.{Accepted, Refused}
 use Rattle.zone.specs.declared.hour.hour.Meeting.{Meeting}
 use Rattle.zone.specs.declared.hour.hour.Asked.{Asked}
-use Rattle.zone.specs.declared.hour.hour.Asked.TheVariants as Asked
 use Rattle.zone.specs.declared.hour.hour.MetLoad.{MetLoad}
 use Rattle.zone.specs.declared.hour.hour.MetLoad.TheVariants.{NoLoad, Load}
 use Rattle.zone.specs.Physics.Ventilation.{calc_vent_heat_transfer_coeff}

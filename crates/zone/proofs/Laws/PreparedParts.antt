@@ -20,11 +20,9 @@ use Rattle.zone.specs.declared.calls.state.DemandAnswer.TheVariants.{Accepted, R
 use Rattle.zone.specs.declared.hour.windows.ZoneTemperatures.{ZoneTemperatures}
 use Rattle.zone.specs.declared.hour.windows.VentilationChoice.{VentilationChoice}
 use Rattle.zone.specs.declared.hour.cooling_potential.VentilationAnswer.{VentilationAnswer}
-use Rattle.zone.specs.declared.hour.cooling_potential.VentilationAnswer.TheVariants as VentilationAnswer
 use Rattle.zone.specs.declared.hour.load.HeatCoolLoad.{HeatCoolLoad}
 use Rattle.zone.specs.declared.hour.load.HeatCoolLoad.TheVariants.{NoLoad, Toward}
 use Rattle.zone.specs.declared.hour.load.Interpolated.{Interpolated}
-use Rattle.zone.specs.declared.hour.load.Interpolated.TheVariants as Interpolated
 use Rattle.zone.specs.Physics.Ventilation.{calc_vent_heat_transfer_coeff}
 use Rattle.zone.specs.Hour.Demand.{
   ach_target,

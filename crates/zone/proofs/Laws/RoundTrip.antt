@@ -113,7 +113,7 @@ row_back front (x ∷ xs) rest at l h =
     let whole : front ++ ((bs ++ row_bytes xs) ++ rest) ≡ front ++ (bs ++ (row_bytes xs ++ rest)) = rw (append_assoc bs (row_bytes xs) rest) refl in
     let moved : front ++ (bs ++ (row_bytes xs ++ rest)) ≡ (front ++ bs) ++ (row_bytes xs ++ rest) = rw (append_assoc front bs (row_bytes xs ++ rest)) refl in
     let long : length (front ++ bs) ≡ at + float_size = omega (arith, length-append front bs, length_bytes_of float_size (to_bits binary64 x)) in
-    rw whole
-    (ap (λ (y : Float). y ∷ floats_at (front ++ (bs ++ (row_bytes xs ++ rest))) (at + float_size) (length xs)) (float_back front (row_bytes xs ++ rest) at x l (h 0))
+    ap (λ (b : List ℕ). floats_at b at (suc (length xs))) whole
+    ∙ (ap (λ (y : Float). y ∷ floats_at (front ++ (bs ++ (row_bytes xs ++ rest))) (at + float_size) (length xs)) (float_back front (row_bytes xs ++ rest) at x l (h 0))
     ∙ ap (λ (b : List ℕ). x ∷ floats_at b (at + float_size) (length xs)) moved
     ∙ ap (λ (ys : List Float). x ∷ ys) (row_back (front ++ bs) xs rest (at + float_size) long (λ i. h (suc i))))

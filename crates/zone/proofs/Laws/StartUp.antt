@@ -17,7 +17,6 @@ use Rattle.zone.specs.declared.record.building_element.Element.{Element}
 use Rattle.zone.specs.declared.record.building_element.ElementHour.{ElementHour}
 use Rattle.zone.specs.declared.record.zone_record.Zone.{Zone}
 use Rattle.zone.specs.declared.record.zone_record.Verdict.{Verdict}
-use Rattle.zone.specs.declared.record.zone_record.Verdict.TheVariants as Verdict
 use Rattle.zone.specs.declared.format.conditions.Conditions.{Conditions}
 use Rattle.zone.specs.declared.format.conditions.AirChangesPerHourArgument.{AirChangesPerHourArgument}
 use Rattle.zone.specs.declared.format.conditions.AirChangesPerHourArgument.TheVariants.{Cooling}
@@ -27,7 +26,6 @@ use Rattle.zone.proofs.Laws.Ranges.{verdict_accepted, verdict_refused}
 use Rattle.zone.proofs.Laws.Lists.{one_left}
 use Rattle.zone.specs.declared.calls.state.Demand.{Demand}
 use Rattle.zone.specs.declared.calls.state.DemandAnswer.{DemandAnswer}
-use Rattle.zone.specs.declared.calls.state.DemandAnswer.TheVariants as DemandAnswer
 use Rattle.zone.specs.declared.calls.state.StartUp.{StartUp}
 use Rattle.zone.specs.declared.calls.state.AchToTriggerHeating.TheVariants.{Absent}
 use Rattle.zone.specs.declared.hour.windows.VentilationChoice.{VentilationChoice}

@@ -13,7 +13,6 @@ use Rattle.solver.specs.FastSolver.{at_most24}
 use Rattle.solver.specs.Result.{refused}
 use Rattle.zone.specs.declared.record.zone_record.Zone.{Zone}
 use Rattle.zone.specs.declared.record.zone_record.Verdict.{Verdict}
-use Rattle.zone.specs.declared.record.zone_record.Verdict.TheVariants as Verdict
 use Rattle.zone.specs.declared.calls.state.State.{State}
 use Rattle.zone.specs.declared.calls.state.OperativeReply.TheVariants as OperativeReply
 use Rattle.zone.specs.Check.ZoneTest.{verdict_of}

@@ -12,7 +12,6 @@ use Rattle.solver.specs.Closeness.{close_in_windows_test}
 use Rattle.zone.specs.declared.record.building_element.ElementHour.{ElementHour}
 use Rattle.zone.specs.declared.record.zone_record.Zone.{Zone}
 use Rattle.zone.specs.declared.record.zone_record.Verdict.{Verdict}
-use Rattle.zone.specs.declared.record.zone_record.Verdict.TheVariants as Verdict
 use Rattle.zone.specs.declared.format.conditions.Conditions.{Conditions}
 use Rattle.zone.specs.declared.format.conditions.HourFront.{HourFront}
 use Rattle.zone.specs.declared.format.conditions.AirChangesPerHourArgument.{AirChangesPerHourArgument}
@@ -20,19 +19,15 @@ use Rattle.zone.specs.declared.format.conditions.AirChangesPerHourArgument.TheVa
 use Rattle.zone.specs.declared.calls.state.State.{State}
 use Rattle.zone.specs.declared.calls.state.Demand.{Demand}
 use Rattle.zone.specs.declared.calls.state.DemandAnswer.{DemandAnswer}
-use Rattle.zone.specs.declared.calls.state.DemandAnswer.TheVariants as DemandAnswer
 use Rattle.zone.specs.declared.calls.state.Reason.{Reason}
 use Rattle.zone.specs.declared.calls.state.Reason.TheVariants.{NotAboveVentilationSetpoint, NotAboveSupply, WindowsDoNotCool, StillAboveCoolingSetpoint, WindowsEnough}
 use Rattle.zone.specs.declared.calls.state.Load.{Load}
 use Rattle.zone.specs.declared.calls.state.WhyReply.{WhyReply}
-use Rattle.zone.specs.declared.calls.state.WhyReply.TheVariants as WhyReply
 use Rattle.zone.specs.declared.hour.hour.Meeting.TheVariants.{NotMet}
 use Rattle.zone.specs.declared.hour.hour.Asked.TheVariants as Asked
 use Rattle.zone.specs.declared.hour.windows.ZoneTemperatures.{ZoneTemperatures}
 use Rattle.zone.specs.declared.hour.free.FreeAnswer.{FreeAnswer}
-use Rattle.zone.specs.declared.hour.free.FreeAnswer.TheVariants as FreeAnswer
 use Rattle.zone.specs.declared.hour.reason.ReasonAnswer.{ReasonAnswer}
-use Rattle.zone.specs.declared.hour.reason.ReasonAnswer.TheVariants as ReasonAnswer
 use Rattle.zone.specs.Record.BuildingElement.{standard_coefficients}
 use Rattle.zone.specs.Hour.Demand.{control_temperature, gains_heat_cool, share_or_zero, frac_conv_gains_heat_cool, free_temperatures, ach_to_reach}
 use Rattle.zone.specs.Calls.State.{slots_of}

@@ -13,7 +13,6 @@ use Rattle.zone.specs.declared.calls.state.Demand.{Demand}
 use Rattle.zone.specs.declared.calls.state.Reason.{Reason}
 use Rattle.zone.specs.declared.calls.state.Reason.TheVariants.{NoChoice, NotAboveVentilationSetpoint, NotAboveSupply, WindowsDoNotCool, StillAboveCoolingSetpoint, WindowsEnough}
 use Rattle.zone.specs.declared.calls.state.Load.{Load}
-use Rattle.zone.specs.declared.calls.state.Load.TheVariants as Load
 use Rattle.zone.specs.Physics.Slots.{air}
 use Rattle.zone.specs.Hour.Demand.{control_temperature, ach_target, free_temperatures, ach_to_reach}
 use Rattle.zone.specs.Calls.State.{slots_of}

@@ -20,9 +20,7 @@ use Rattle.solver.specs.Inner.Factored.{solved_res}
 use Rattle.zone.specs.declared.hour.load.HeatCoolLoad.{HeatCoolLoad}
 use Rattle.zone.specs.declared.hour.load.HeatCoolLoad.TheVariants.{NoLoad, Toward}
 use Rattle.zone.specs.declared.hour.cooling_potential.VentilationAnswer.{VentilationAnswer}
-use Rattle.zone.specs.declared.hour.cooling_potential.VentilationAnswer.TheVariants as VentilationAnswer
 use Rattle.zone.specs.declared.calls.state.DemandAnswer.{DemandAnswer}
-use Rattle.zone.specs.declared.calls.state.DemandAnswer.TheVariants as DemandAnswer
 use Rattle.zone.specs.Record.Numbers.{cooling_below_heating, ventilation_below_heating}
 use Rattle.zone.specs.Physics.Ventilation.{calc_vent_heat_transfer_coeff}
 use Rattle.zone.specs.Hour.Demand.{ventilated, wanted, ach_target, gains_upper, frac_upper, interp_heat_cool_demand, demand_record}

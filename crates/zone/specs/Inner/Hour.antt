@@ -12,7 +12,6 @@ use Rattle.zone.specs.declared.calls.state.AchToTriggerHeating.TheVariants.{Abse
 use Rattle.zone.specs.declared.hour.hour.Meeting.{Meeting}
 use Rattle.zone.specs.declared.hour.hour.Meeting.TheVariants.{NotMet, WithGains, Alone}
 use Rattle.zone.specs.declared.hour.hour.Asked.{Asked}
-use Rattle.zone.specs.declared.hour.hour.Asked.TheVariants as Asked
 use Rattle.zone.specs.declared.hour.hour.MetLoad.{MetLoad}
 use Rattle.zone.specs.declared.hour.hour.MetLoad.TheVariants.{NoLoad, Load}
 use Rattle.zone.specs.Record.BuildingElement.{standard_coefficients}

@@ -7,9 +7,7 @@ use Rattle.zone.specs.Record.BuildingElement.{standard_coefficients}
 use Rattle.zone.specs.Inner.Assembled.{Assembled, assemble_step}
 use Rattle.zone.specs.declared.calls.state.Demand.{Demand}
 use Rattle.zone.specs.declared.calls.state.DemandAnswer.{DemandAnswer}
-use Rattle.zone.specs.declared.calls.state.DemandAnswer.TheVariants as DemandAnswer
 use Rattle.zone.specs.declared.hour.load.Interpolated.{Interpolated}
-use Rattle.zone.specs.declared.hour.load.Interpolated.TheVariants as Interpolated
 use Rattle.zone.specs.Hour.Demand.{delta_t}
 
 unfoldable pub hour_system : Zone → List Float → Conditions → Assembled

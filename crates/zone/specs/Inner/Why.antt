@@ -11,9 +11,7 @@ use Rattle.zone.specs.declared.calls.state.Reason.{Reason}
 use Rattle.zone.specs.declared.calls.state.Reason.TheVariants.{NoChoice, NotAboveVentilationSetpoint, NotAboveSupply, WindowsDoNotCool, StillAboveCoolingSetpoint, WindowsEnough}
 use Rattle.zone.specs.declared.hour.windows.ZoneTemperatures.{ZoneTemperatures}
 use Rattle.zone.specs.declared.hour.free.FreeAnswer.{FreeAnswer}
-use Rattle.zone.specs.declared.hour.free.FreeAnswer.TheVariants as FreeAnswer
 use Rattle.zone.specs.declared.hour.reason.ReasonAnswer.{ReasonAnswer}
-use Rattle.zone.specs.declared.hour.reason.ReasonAnswer.TheVariants as ReasonAnswer
 use Rattle.zone.specs.Record.BuildingElement.{standard_coefficients}
 use Rattle.zone.specs.Hour.Demand.{control_temperature, free_temperatures}
 use Rattle.zone.specs.Inner.Demand.{zone_temperatures, rate_to_reach}

@@ -6,6 +6,7 @@ use crate::format::layout::{FIVE_NODES_SIZE, TRANSPARENT_SIZE};
 use crate::record::building_element::{Kind, is_two_nodes};
 
 // The kind of a number, 0 to 5.
+#[tactic(auto, unfolding(crate::specs::Format::ElementLayout::kind_of))]
 pub fn kind_of(number: u8) -> Kind
     ensures { result ≡ kind_of number }
 {

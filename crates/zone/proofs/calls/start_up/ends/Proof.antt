@@ -3,11 +3,11 @@ use borrow.Author.Rules.{rules}
 use Rattle.zone.proofs.calls.start_up.ends.Statement.{statement}
 use Rattle.zone.proofs.calls.start_up.ends.Tie as tie
 
-returns : tie.Need-returns
-returns c = rw c.enum_told.given.1 refl
+returns : tie.Need-returns-in-Refused
+returns c = rw c.in-Refused.is refl
 
-returns_2 : tie.Need-returns-2
-returns_2 c = rw c.before.enum_told2.given.1 c.close.ensures
+returns_2 : tie.Need-returns-in-Accepted
+returns_2 c = rw c.in-Accepted.is c.close.ensures
 
 pub ends_spec : {M : Type 1} → statement M
 ends_spec = tie.close (tie.spec (λ c. search rules) (λ c. search rules) (λ c κs. tt) returns returns_2)

@@ -3,18 +3,18 @@ use borrow.Author.Rules.{rules}
 use Rattle.zone.proofs.calls.start_up.start_up_lent.Statement.{statement}
 use Rattle.zone.proofs.calls.start_up.start_up_lent.Tie as tie
 
-settle_requires : tie.Need-settle-requires
-settle_requires c κs = c.before.before.before.before.before.before.before.before.before.before.before.before.before.hold_none.ensures
+settle_requires : tie.Need-settle-s-requires
+settle_requires c κs = c.hold_none.ensures
 
-returns : tie.Need-returns
-returns c = let t = c.before.before.before.before in
-    (t.before.hold_none.ensures, start_refused _ _ t.zone_test.ensures _ _ _ c.before.before.zone.given.1 c.no_state.ensures)
+returns : tie.Need-returns-in-Refused
+returns c = let t = c in
+    (t.hold_none.ensures, start_refused _ _ t.zone_test-zone.ensures _ _ _ c.in-Refused.is c.no_state.ensures)
 
-returns_2 : tie.Need-returns-2
+returns_2 : tie.Need-returns
 returns_2 c =
     let s = c.before.before.before.before.before.before.before.before.before.before.before in
-    let e = s.before.before.before.before.before.before.before.before.before.before.before in
-    (c.hold_none2.ensures, start_settle _ _ e.before.before.zone_test.ensures _ e.enum_told.given.1 s.settle.ensures)
+    let e = s in
+    (c.hold_none-2.ensures, start_settle _ _ e.zone_test-zone.ensures _ e.in-Accepted.is s.settle-s.ensures)
 
 pub start_up_lent_spec : {M : Type 1} → statement M
 start_up_lent_spec =

@@ -8,27 +8,27 @@ use Rattle.zone.proofs.Laws.StartUp.{close_next, close_not, close_first, close_s
 use Rattle.zone.proofs.calls.start_up_parts.all_close.Statement.{statement}
 use Rattle.zone.proofs.calls.start_up_parts.all_close.Tie as tie
 
-abbrev invariant_loop : tie.invariant-loop
+abbrev invariant_loop : tie.invariant-loop-i
 invariant_loop a b i₀ i = all_close a b ≡ all_close (drop i a) (drop i b)
 
-abbrev decreases_loop : tie.decreases-loop
+abbrev decreases_loop : tie.decreases-loop-i
 decreases_loop a b i₀ i = length a - i
 
-returns : tie.Need-returns invariant_loop decreases_loop
-returns c = let a = c.before.before.before.before.before.args in sym (c.before.before.loop.invariant ∙ close_second a.a.now a.b.now c.before.before.loop.i c.if1.true)
+returns : tie.Need-returns-then-b-i invariant_loop decreases_loop
+returns c = let a = c.args in sym (c.loop-i.invariant ∙ close_second a.a.now a.b.now c.loop-i.i c.if-b-i.true)
 
 shared_slice_read_isclose_2 :
-    tie.Need-shared-slice-read-isclose-2 invariant_loop decreases_loop
+    tie.Need-bounds-b-i invariant_loop decreases_loop
 shared_slice_read_isclose_2 c = search rules
 
-loop_again : tie.Need-loop-preserved invariant_loop decreases_loop
-loop_again c = let a = c.before.before.before.before.before.before.before.before.before.args in c.before.before.before.before.before.before.loop.invariant ∙ close_next a.a.now a.b.now c.before.before.before.before.before.before.loop.i (omega (arith, c.before.before.before.before.before.loop_test.true)) (omega (arith, c.before.before.before.before.if1.false)) (sym c.before.isclose.ensures ∙ c.if2.true)
+loop_again : tie.Need-loop-i-preserved invariant_loop decreases_loop
+loop_again c = let a = c.args in c.loop-i.invariant ∙ close_next a.a.now a.b.now c.loop-i.i (omega (arith, c.loop-i-test.true)) (omega (arith, c.if-b-i.false)) (sym c.isclose.ensures ∙ c.if-isclose.true)
 
-returns_2 : tie.Need-returns-2 invariant_loop decreases_loop
-returns_2 c = let a = c.before.before.before.before.before.before.before.before.before.args in sym (c.before.before.before.before.before.before.loop.invariant ∙ close_not a.a.now a.b.now c.before.before.before.before.before.before.loop.i (omega (arith, c.before.before.before.before.before.loop_test.true)) (omega (arith, c.before.before.before.before.if1.false)) (sym c.before.isclose.ensures ∙ c.if2.false))
+returns_2 : tie.Need-returns-else-isclose invariant_loop decreases_loop
+returns_2 c = let a = c.args in sym (c.loop-i.invariant ∙ close_not a.a.now a.b.now c.loop-i.i (omega (arith, c.loop-i-test.true)) (omega (arith, c.if-b-i.false)) (sym c.isclose.ensures ∙ c.if-isclose.false))
 
-returns_3 : tie.Need-returns-3 invariant_loop decreases_loop
-returns_3 c = let a = c.before.before.before.before.args in sym (c.before.loop.invariant ∙ close_first a.a.now a.b.now c.before.loop.i (omega (arith, c.loop_test.false)))
+returns_3 : tie.Need-returns invariant_loop decreases_loop
+returns_3 c = let a = c.args in sym (c.loop-i.invariant ∙ close_first a.a.now a.b.now c.loop-i.i (omega (arith, c.loop-i-test.false)))
 
 pub all_close_spec : {M : Type 1} → statement M
 all_close_spec =

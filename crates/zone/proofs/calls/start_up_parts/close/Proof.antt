@@ -7,7 +7,7 @@ use Rattle.zone.proofs.calls.start_up_parts.close.Tie as tie
 
 returns : tie.Need-returns
 unfolding close state_of
-returns c = c.all_close.ensures ∙ rw (c.before.before.before.before.before.to_nodes.ensures, c.before.before.before.to_nodes2.ensures, c.before.before.before.before.before.before.before.two_nodes_of.ensures) refl
+returns c = c.all_close.ensures ∙ rw (c.to_nodes-new_temps.ensures, c.to_nodes-old_temps.ensures, c.two_nodes_of-two_nodes.ensures) refl
 
 pub close_spec : {M : Type 1} → statement M
 close_spec =

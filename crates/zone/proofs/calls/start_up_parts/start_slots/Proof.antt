@@ -5,7 +5,7 @@ use Rattle.zone.proofs.calls.start_up_parts.start_slots.Tie as tie
 
 returns : tie.Need-returns
 unfolding slots_of
-returns c = c.to_slots.ensures ∙ rw (c.before.before.before.before.two_nodes_of.ensures, c.before.before.before.temp_start.ensures) refl
+returns c = c.to_slots.ensures ∙ rw (c.two_nodes_of-two_nodes.ensures, c.temp_start-temp.ensures) refl
 
 pub start_slots_spec : {M : Type 1} → statement M
 start_slots_spec =

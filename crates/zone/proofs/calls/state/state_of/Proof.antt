@@ -5,7 +5,7 @@ use Rattle.zone.proofs.calls.state.state_of.Tie as tie
 
 returns : tie.Need-returns
 unfolding state_of
-returns c = rw (← c.before.before.before.two_nodes_of.ensures, ← c.before.before.node_count.ensures, ← c.to_nodes.ensures) refl
+returns c = rw (← c.two_nodes_of-two_nodes.ensures, ← c.node_count-nodes.ensures, ← c.to_nodes-temps.ensures) refl
 
 pub state_of_spec : {M : Type 1} → statement M
 state_of_spec =

@@ -7,8 +7,8 @@ use borrow.Author.Rules.{rules}
 use Rattle.zone.proofs.check.arguments.all_within_state_bound.Statement.{statement}
 use Rattle.zone.proofs.check.arguments.all_within_state_bound.Tie as tie
 
-returns : tie.Need-returns
-returns c = let a = c.before.before.before.args in c.first_within_state_bound.ensures ∙ ap (all_in within_state_bound) (take-length a.t.now ∙ sym (take_all a.n a.t.now (omega arith)))
+returns : tie.Need-returns-then-t-n
+returns c = let a = c.args in c.first_within_state_bound.ensures ∙ ap (all_in within_state_bound) (take-length a.t.now ∙ sym (take_all a.n a.t.now (omega arith)))
 
 pub all_within_state_bound_spec : {M : Type 1} → statement M
 all_within_state_bound_spec =

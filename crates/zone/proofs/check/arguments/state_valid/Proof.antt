@@ -4,7 +4,7 @@ use Rattle.zone.proofs.check.arguments.state_valid.Statement.{statement}
 use Rattle.zone.proofs.check.arguments.state_valid.Tie as tie
 
 returns : tie.Need-returns
-returns c = rw (c.all_within_state_bound.ensures, c.before.before.node_count.ensures) refl
+returns c = rw (c.all_within_state_bound-within.ensures, c.node_count.ensures) refl
 
 pub state_valid_spec : {M : Type 1} → statement M
 state_valid_spec =

@@ -4,18 +4,18 @@ use borrow.Author.Rules.{rules}
 use Rattle.zone.proofs.check.arguments.tested_step.Statement.{statement}
 use Rattle.zone.proofs.check.arguments.tested_step.Tie as tie
 
-returns : tie.Need-returns
+returns : tie.Need-returns-then-hour_version
 returns c =
-    let v = c.before.before.before.before in
-    c.tested_hour_and_limits.ensures ∙ sym (step_on _ _ _ v.before.before.before.zone_test.ensures v.before.enum_told.given.1 _ _ _ v.hour_version.ensures _ c.before.before.before.if1.true)
+    let v = c in
+    c.tested_hour_and_limits.ensures ∙ sym (step_on _ _ _ v.zone_test-zone.ensures v.in-Accepted.is _ _ _ v.hour_version.ensures _ c.if-hour_version.true)
 
-returns_2 : tie.Need-returns-2
-returns_2 c = rw c.refuse.ensures (sym (step_refused _ _ _ c.before.before.before.before.zone_test.ensures _ _ c.before.before.zone.given.1 _ _ _))
+returns_2 : tie.Need-returns-in-Refused
+returns_2 c = rw c.refuse.ensures (sym (step_refused _ _ _ c.zone_test-zone.ensures _ _ c.in-Refused.is _ _ _))
 
-returns_3 : tie.Need-returns-3
+returns_3 : tie.Need-returns-else-hour_version
 returns_3 c =
-    let v = c.before.before in
-    rw c.refuse2.ensures (sym (step_unknown _ _ _ v.before.before.before.zone_test.ensures v.before.enum_told.given.1 _ _ _ v.hour_version.ensures _ c.before.if1.false))
+    let v = c in
+    rw c.refuse-in-Accepted.ensures (sym (step_unknown _ _ _ v.zone_test-zone.ensures v.in-Accepted.is _ _ _ v.hour_version.ensures _ c.if-hour_version.false))
 
 pub tested_step_spec : {M : Type 1} → statement M
 tested_step_spec =

@@ -4,7 +4,7 @@ use Rattle.zone.proofs.check.conditions_tests.setpoints_in_range.Tie as tie
 
 returns : tie.Need-returns
 unfolding setpoints_in_range
-returns c = rw (c.before.before.before.before.before.heating_setpoint_in_range.ensures, c.before.before.before.before.setpoint_in_range.ensures, c.before.before.before.setpoint_in_range2.ensures, c.before.before.temperature_in_range.ensures, c.before.gains_in_range.ensures, c.gains_in_range2.ensures)
+returns c = rw (c.heating_setpoint_in_range-heating.ensures, c.setpoint_in_range-cooling.ensures, c.setpoint_in_range-ventilation.ensures, c.temperature_in_range-supply.ensures, c.gains_in_range-convective.ensures, c.gains_in_range-radiative.ensures)
 
 pub setpoints_in_range_spec : {M : Type 1} → statement M
 setpoints_in_range_spec =

@@ -7,8 +7,8 @@ use borrow.Author.Rules.{rules}
 use Rattle.zone.proofs.check.ranges.all_inside.Statement.{statement}
 use Rattle.zone.proofs.check.ranges.all_inside.Tie as tie
 
-returns : tie.Need-returns
-returns c = let a = c.before.before.before.args in
+returns : tie.Need-returns-then-a-n
+returns c = let a = c.args in
     c.first_inside.ensures
     ∙ ap (all_in (cond a.strict above_to from_to a.low a.high)) (take-length a.a.now ∙ sym (take_all a.n a.a.now (omega arith)))
 

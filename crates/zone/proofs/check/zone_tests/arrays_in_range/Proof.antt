@@ -5,7 +5,7 @@ use Rattle.zone.proofs.check.zone_tests.arrays_in_range.Tie as tie
 
 returns : tie.Need-returns
 unfolding arrays_in_range
-returns c = rw (c.before.before.before.before.k_pli_in_range.ensures, c.before.before.h_pli_in_range.ensures, c.delta_r_in_range.ensures)
+returns c = rw (c.k_pli_in_range-a.ensures, c.h_pli_in_range-b.ensures, c.delta_r_in_range-c.ensures)
 
 pub arrays_in_range_spec : {M : Type 1} → statement M
 arrays_in_range_spec =

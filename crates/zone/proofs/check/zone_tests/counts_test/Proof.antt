@@ -1,17 +1,17 @@
-use Prim.Native.Nat.{◌+◌, ◌-◌, ◌≤◌}
+use Prim.Native.Nat.{ℕ, ◌+◌, ◌-◌, ◌≤◌}
 use mathlib.Core.Path.{◌≡◌, refl, sym, ap, ◌∙◌}
 use mathlib.Core.Bool.{true, false}
 use mathlib.Core.List.{List}
 use native.Mathlib.Omega.{arith}
 use lib.Dec.{leb}
+use lib.Ieee.{Float}
 use lib.ListN.{length, take, drop}
-use borrow.Author.Tests.{not-true, not-false, le-leb, lt-leb}
+use borrow.Author.Tests.{le-leb, lt-leb}
 use Rattle.zone.specs.Record.Numbers.{structure}
 use Rattle.zone.specs.Inner.Lent.{elements_in}
 use Rattle.zone.specs.Physics.Slots.{element}
 use Rattle.zone.specs.Format.Decode.{no_element}
 use Rattle.zone.specs.Check.ZoneTest.{count_valid, element_treatments_valid, all_required, counts_test, verdict_of}
-use Rattle.zone.specs.declared.record.building_element.Element.{Element}
 use Rattle.zone.proofs.Laws.Ranges.{count_few}
 use Rattle.zone.proofs.Laws.Required.{required_out, required_in, required_done}
 use Rattle.zone.proofs.Laws.Arrays.{elements_length}
@@ -19,47 +19,44 @@ use borrow.Author.Rules.{rules}
 use Rattle.zone.proofs.check.zone_tests.counts_test.Statement.{statement}
 use Rattle.zone.proofs.check.zone_tests.counts_test.Tie as tie
 
-abbrev invariant_loop : tie.invariant-loop
+abbrev invariant_loop : tie.invariant-loop-i
 invariant_loop codes values n i₀ i =
     (i ≤ n)
     × (n ≤ 24)
     × (count_valid n ≡ true)
     × (all_required element_treatments_valid structure (take n (elements_in codes values)) 1 ≡ all_required element_treatments_valid structure (drop i (take n (elements_in codes values))) (i + 1))
 
-abbrev decreases_loop : tie.decreases-loop
+abbrev decreases_loop : tie.decreases-loop-i
 decreases_loop codes values n i₀ i = n - i
 
 -- the elements, of which there are 24
-abbrev all : tie.Start invariant_loop decreases_loop → List Element
-all c = elements_in c.args.codes.now c.args.values.now
+few : (codes : List ℕ) (values : List Float) (n : ℕ) → n ≤ 24 → n ≤ length (elements_in codes values)
+few codes values n h = omega (arith, elements_length codes values, h)
 
-few : (c : tie.Start invariant_loop decreases_loop) → c.args.z.count ≤ 24 → c.args.z.count ≤ length (all c)
-few c h = omega (arith, elements_length c.args.codes.now c.args.values.now, h)
-
-returns : tie.Need-returns invariant_loop decreases_loop
+returns : tie.Need-returns-then-not-count_valid invariant_loop decreases_loop
 unfolding counts_test
-returns c = rw (sym c.before.count_valid.ensures ∙ not-true _ c.if1.true)
+returns c = rw (sym c.count_valid.ensures ∙ c.if-not-count_valid.true)
 
-loop_holds : tie.Need-loop-init invariant_loop decreases_loop
-loop_holds c = let n = c.before.before.args.z.count in
-    let v : count_valid n ≡ true = sym c.before.count_valid.ensures ∙ not-false _ c.if1.false in
+loop_holds : tie.Need-loop-i-init invariant_loop decreases_loop
+loop_holds c = let n = c.args.z.count in
+    let v : count_valid n ≡ true = sym c.count_valid.ensures ∙ c.if-not-count_valid.false in
     (omega arith, count_few (leb 1 n) n v, v, refl)
 
-returns_2 : tie.Need-returns-2 invariant_loop decreases_loop
+returns_2 : tie.Need-returns-then-most-e invariant_loop decreases_loop
 unfolding counts_test
-returns_2 c = let l = c.before.before.before.before.before.loop in let s = c.before.before.before.before.before.before.before.before in
-    let out : element_treatments_valid (element (all s) l.i) ≡ false = rw (← c.before.before.before.element_of.ensures) (lt-leb _ _ (rw c.before.before.max_treatments.ensures at c.if2.true)) in
-    rw l.invariant.2 (sym (ap verdict_of (l.invariant.3 ∙ required_out element_treatments_valid structure (all s) l.i s.args.z.count no_element (omega arith) (few s l.invariant.1) out)))
+returns_2 c = let l = c.loop-i in let s = c in
+    let out : element_treatments_valid (element (elements_in s.args.codes.now s.args.values.now) l.i) ≡ false = rw (← c.element_of-e.ensures) (lt-leb _ _ (rw c.max_treatments-most.ensures at c.if-most-e.true)) in
+    rw l.invariant.2 (sym (ap verdict_of (l.invariant.3 ∙ required_out element_treatments_valid structure (elements_in s.args.codes.now s.args.values.now) l.i s.args.z.count no_element (omega arith) (few s.args.codes.now s.args.values.now s.args.z.count l.invariant.1) out)))
 
-loop_again : tie.Need-loop-preserved invariant_loop decreases_loop
-loop_again c = let l = c.before.before.before.before.before.loop in let s = c.before.before.before.before.before.before.before.before in
-    let in' : element_treatments_valid (element (all s) l.i) ≡ true = rw (← c.before.before.before.element_of.ensures) (le-leb _ _ (rw c.before.before.max_treatments.ensures at c.if2.false)) in
-    (omega arith, l.invariant.1, l.invariant.2, l.invariant.3 ∙ required_in element_treatments_valid structure (all s) l.i s.args.z.count no_element (omega arith) (few s l.invariant.1) in')
+loop_again : tie.Need-loop-i-preserved invariant_loop decreases_loop
+loop_again c = let l = c.loop-i in let s = c in
+    let in' : element_treatments_valid (element (elements_in s.args.codes.now s.args.values.now) l.i) ≡ true = rw (← c.element_of-e.ensures) (le-leb _ _ (rw c.max_treatments-most.ensures at c.if-most-e.false)) in
+    (omega arith, l.invariant.1, l.invariant.2, l.invariant.3 ∙ required_in element_treatments_valid structure (elements_in s.args.codes.now s.args.values.now) l.i s.args.z.count no_element (omega arith) (few s.args.codes.now s.args.values.now s.args.z.count l.invariant.1) in')
 
-returns_3 : tie.Need-returns-3 invariant_loop decreases_loop
+returns_3 : tie.Need-returns invariant_loop decreases_loop
 unfolding counts_test
-returns_3 c = let l = c.before.loop in let s = c.before.before.before.before in
-    rw l.invariant.2 (sym (ap verdict_of (l.invariant.3 ∙ required_done element_treatments_valid structure (all s) l.i s.args.z.count (omega arith))))
+returns_3 c = let l = c.loop-i in let s = c in
+    rw l.invariant.2 (sym (ap verdict_of (l.invariant.3 ∙ required_done element_treatments_valid structure (elements_in s.args.codes.now s.args.values.now) l.i s.args.z.count (omega arith))))
 
 pub counts_test_spec : {M : Type 1} → statement M
 counts_test_spec =

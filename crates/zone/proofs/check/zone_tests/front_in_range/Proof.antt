@@ -4,7 +4,7 @@ use Rattle.zone.proofs.check.zone_tests.front_in_range.Tie as tie
 
 returns : tie.Need-returns
 unfolding front_in_range
-returns c = rw (c.before.before.before.before.before.before.limit_in_range.ensures, c.before.before.before.before.before.area_in_range.ensures, c.before.before.before.before.area_in_range2.ensures, c.before.before.before.coefficient_in_range.ensures, c.before.before.temperature_in_range.ensures, c.before.heating_setpoint_in_range.ensures, c.setpoint_in_range.ensures)
+returns c = rw (c.limit_in_range-limit.ensures, c.area_in_range-useful_area.ensures, c.area_in_range-volume.ensures, c.coefficient_in_range-bridges.ensures, c.temperature_in_range-temp_ext_air.ensures, c.heating_setpoint_in_range-setpnt.ensures, c.setpoint_in_range-vent.ensures)
 
 pub front_in_range_spec : {M : Type 1} → statement M
 front_in_range_spec =

@@ -5,14 +5,14 @@ use borrow.Author.Rules.{rules}
 use Rattle.zone.proofs.format.bytes.read_f64_be.Statement.{statement}
 use Rattle.zone.proofs.format.bytes.read_f64_be.Tie as tie
 
-float_from_bits_result : tie.Need-float-from-bits-result
-float_from_bits_result c = no_nan c.before.read_u64_be.result c.if1.true
+float_from_bits_result : tie.Need-float_from_bits-result
+float_from_bits_result c = no_nan c.read_u64_be-n.result c.if-abs-le9218868437227405312.true
 
-returns : tie.Need-returns
-returns c = ap (of_bits binary64) c.before.read_u64_be.ensures
+returns : tie.Need-returns-then-abs-le9218868437227405312
+returns c = ap (of_bits binary64) c.read_u64_be-n.ensures
 
-returns_2 : tie.Need-returns-2
-returns_2 c = nan_made ∙ sym (nan_bits_lem c.before.read_u64_be.result c.if1.false) ∙ ap (of_bits binary64) c.before.read_u64_be.ensures
+returns_2 : tie.Need-returns-else-abs-le9218868437227405312
+returns_2 c = nan_made ∙ sym (nan_bits_lem c.read_u64_be-n.result c.if-abs-le9218868437227405312.false) ∙ ap (of_bits binary64) c.read_u64_be-n.ensures
 
 pub read_f64_be_spec : {M : Type 1} → statement M
 read_f64_be_spec = tie.close (tie.spec (λ c κs. search rules) float_from_bits_result returns returns_2)

@@ -6,17 +6,17 @@ use Rattle.zone.proofs.format.decode.front_at.Tie as tie
 -- field by field
 returns : tie.Need-returns
 unfolding zone_at
-returns c = let f₁ = c.before.before.before.before.before in let limit = f₁.before in let n = limit.before in
+returns c = let f₁ = c in let limit = f₁ in let n = limit in
     λ i. record {
-      temp_setpnt_basis = n.before.before.basis_of.ensures i;
-      count = n.count_of.ensures.0 i;
-      start_up_limit = limit.read_u16_be.ensures.0 i;
+      temp_setpnt_basis = n.basis_of-basis.ensures i;
+      count = n.count_of-n.ensures.0 i;
+      start_up_limit = limit.read_u16_be-limit.ensures.0 i;
       useful_area = f₁.read_f64_be.ensures i;
-      volume = c.before.before.before.before.read_f64_be2.ensures i;
-      tb_heat_trans_coeff = c.before.before.before.read_f64_be3.ensures i;
-      temp_ext_air_init = c.before.before.read_f64_be4.ensures i;
-      temp_setpnt_init = c.before.read_f64_be5.ensures i;
-      temp_setpnt_cool_vent_init = c.read_f64_be6.ensures i;
+      volume = c.read_f64_be-2.ensures i;
+      tb_heat_trans_coeff = c.read_f64_be-3.ensures i;
+      temp_ext_air_init = c.read_f64_be-4.ensures i;
+      temp_setpnt_init = c.read_f64_be-5.ensures i;
+      temp_setpnt_cool_vent_init = c.read_f64_be-6.ensures i;
     }
 
 pub front_at_spec : {M : Type 1} → statement M

@@ -3,7 +3,7 @@ use Rattle.zone.proofs.format.decode.size_at.Statement.{statement}
 use Rattle.zone.proofs.format.decode.size_at.Tie as tie
 
 returns : tie.Need-returns
-returns c = rw (c.element_size_lem.ensures, c.before.count_of.ensures.0, c.before.before.before.kind_of.ensures)
+returns c = rw (c.element_size.ensures, c.count_of-t.ensures.0, c.kind_of-kind.ensures)
 
 pub size_at_spec : {M : Type 1} → statement M
 size_at_spec =

@@ -26,9 +26,9 @@ stored b a m s p kc hc t zeros room fits hk hh ht e₁ e₂ e₃ e₄ e₅ =
     rw (e₅, e₄, e₃, e₂, e₁) (values_put b a m s p kc hc t zeros room fits hk hh ht)
 
 returns : tie.Need-returns
-returns c = let f₃ = c.before.before.before.before in let f₁ = f₃.before.before.before.before in let s = f₁.before.before.before in let a = s.args in
+returns c = let f₃ = c.before.before.before.before in let f₁ = f₃ in let s = f₁ in let a = s.args in
     stored a.values.now (25 * a.e) (600 - 25 * a.e) a.s.now a.p a.kc a.hc a.t s.requires.5 (omega arith) (omega arith) s.requires.2 s.requires.3 s.requires.4
-    f₁.floats_to.ensures f₃.before.before.floats_to2.ensures f₃.floats_to3.ensures c.before.before.floats_to4.ensures c.floats_to5.ensures
+    f₁.floats_to.ensures f₃.floats_to-2.ensures f₃.floats_to-3.ensures c.floats_to-4.ensures c.floats_to-5.ensures
 
 pub values_to_spec : {M : Type 1} → statement M
 values_to_spec =

@@ -13,20 +13,20 @@ use borrow.Author.Rules.{rules}
 use Rattle.zone.proofs.format.head.read_head.Statement.{statement}
 use Rattle.zone.proofs.format.head.read_head.Tie as tie
 
-front_at_requires : tie.Need-front-at-requires
-front_at_requires c κs = let o = c.before.before.before in let s = o.before.before.args.bytes.now in
-    let q = structured s _ (answer_end (structure_of s) _ (sym o.structure_of.ensures ∙ c.before.structure2.given.1)) in
+front_at_requires : tie.Need-front_at-zone-requires
+front_at_requires c κs = let o = c in let s = o.args.bytes.now in
+    let q = structured s _ (answer_end (structure_of s) _ (sym o.structure_of-structure.ensures ∙ c.in-End.is)) in
     omega (arith, q.low, q.there)
 
-elements_to_requires : tie.Need-elements-to-requires
+elements_to_requires : tie.Need-elements_to-requires
 unfolding zone_at
-elements_to_requires c κs = let f = c.before.before.before.before in let o = f.before.before.before.before in let s = o.before.before.args.bytes.now in
-    let q = structured s _ (answer_end (structure_of s) _ (sym o.structure_of.ensures ∙ f.before.before.structure2.given.1)) in
-    rw f.Front-at.ensures (q.few, q.there, q.elements, record { no_codes = refl; no_values = refl })
+elements_to_requires c κs = let f = c in let o = f in let s = o.args.bytes.now in
+    let q = structured s _ (answer_end (structure_of s) _ (sym o.structure_of-structure.ensures ∙ f.in-End.is)) in
+    rw f.front_at-zone.ensures (q.few, q.there, q.elements, record { no_codes = refl; no_values = refl })
 
-returns : tie.Need-returns
-returns c = let o = c.before.before.before.before in let s = o.before.before.args.bytes.now in (
-  rw c.refuse.ensures (sym (structured_wrong s _ _ (answer_refused (structure_of s) _ _ (sym o.structure_of.ensures ∙ c.before.before.structure.given.1)))),
+returns : tie.Need-returns-in-Refused
+returns c = let o = c in let s = o.args.bytes.now in (
+  rw c.refuse.ensures (sym (structured_wrong s _ _ (answer_refused (structure_of s) _ _ (sym o.structure_of-structure.ensures ∙ c.in-Refused.is)))),
   λ number index e. record {
     no_zone_lem = ap (λ (r : Head). r.zone) c.refuse.ensures;
     no_length = ap (λ (r : Head). r.length) c.refuse.ensures;
@@ -35,10 +35,10 @@ returns c = let o = c.before.before.before.before in let s = o.before.before.arg
   },
 )
 
-returns_2 : tie.Need-returns-2
-returns_2 c = let f = c.before.before.before.before.before in let o = f.before.before.before.before in let s = o.before.before.args.bytes.now in
-    let right = structured_right s _ (answer_end (structure_of s) _ (sym o.structure_of.ensures ∙ f.before.before.structure2.given.1)) in (
-      ap (λ (z : Zone). ok (record { zone = z; length = f.before.before.structure2.given.0.0 })) (zone_whole s _ _ f.Front-at.ensures c.elements_to.ensures) ∙ sym right,
+returns_2 : tie.Need-returns-in-End
+returns_2 c = let f = c in let o = f in let s = o.args.bytes.now in
+    let right = structured_right s _ (answer_end (structure_of s) _ (sym o.structure_of-structure.ensures ∙ f.in-End.is)) in (
+      ap (λ (z : Zone). ok (record { zone = z; length = f.in-End.end })) (zone_whole s _ _ f.front_at-zone.ensures c.elements_to.ensures) ∙ sym right,
       λ number index e. ok_not_refused _ number index (sym right ∙ e),
     )
 

@@ -1,30 +1,29 @@
 use Prim.Native.Nat.{ℕ, ◌+◌}
 use mathlib.Core.Path.{sym, ap, ◌∙◌}
 use native.Mathlib.Omega.{arith}
-use borrow.Author.Tests.{not-true, not-false}
 use Rattle.zone.specs.Inner.Format.{extent_answer, structure_within}
 use Rattle.zone.proofs.Laws.Structure.{length_valid, too_short, bad_length, cut_short, all_there, length_good}
 use borrow.Author.Rules.{rules}
 use Rattle.zone.proofs.format.head.structure_of.Statement.{statement}
 use Rattle.zone.proofs.format.head.structure_of.Tie as tie
 
-returns : tie.Need-returns
-returns c = c.refuse_extent.ensures ∙ sym (ap extent_answer (too_short c.before.before.before.args.s.now c.before.if1.true))
+returns : tie.Need-returns-then-s-lt-LENGTH_SIZE
+returns c = c.refuse_extent.ensures ∙ sym (ap extent_answer (too_short c.args.s.now c.if-s-lt-LENGTH_SIZE.true))
 
-returns_2 : tie.Need-returns-2
-returns_2 c = c.refuse_extent2.ensures ∙ sym (ap extent_answer (bad_length c.before.before.before.before.before.args.s.now c.before.before.before.if1.false (ap length_valid (sym c.before.before.read_u32_be.ensures.0) ∙ not-true (length_valid c.before.before.read_u32_be.result) c.before.if2.true)))
+returns_2 : tie.Need-returns-then-not-length_good
+returns_2 c = c.refuse_extent-then-not-length_good.ensures ∙ sym (ap extent_answer (bad_length c.args.s.now c.if-s-lt-LENGTH_SIZE.false (ap length_valid (sym c.read_u32_be-length.ensures.0) ∙ c.if-not-length_good.true)))
 
-returns_3 : tie.Need-returns-3
-returns_3 c = c.refuse_extent3.ensures ∙ sym (ap extent_answer (cut_short c.before.before.before.before.before.before.args.s.now c.before.before.before.before.if1.false (ap length_valid (sym c.before.before.before.read_u32_be.ensures.0) ∙ not-false (length_valid c.before.before.before.read_u32_be.result) c.before.before.if2.false) (omega (arith, c.before.before.before.read_u32_be.ensures.0, c.before.if3.true))))
+returns_3 : tie.Need-returns-then-s-end
+returns_3 c = c.refuse_extent-then-s-end.ensures ∙ sym (ap extent_answer (cut_short c.args.s.now c.if-s-lt-LENGTH_SIZE.false (ap length_valid (sym c.read_u32_be-length.ensures.0) ∙ c.if-not-length_good.false) (omega (arith, c.read_u32_be-length.ensures.0, c.if-s-end.true))))
 
-structure_within_requires : tie.Need-structure-within-requires
-structure_within_requires c κs = let g = length_good c.before.before.read_u32_be.result (not-false (length_valid c.before.before.read_u32_be.result) c.before.if2.false) in (omega (arith, g.0), c.if3.false)
+structure_within_requires : tie.Need-structure_within-requires
+structure_within_requires c κs = let g = length_good c.read_u32_be-length.result (c.if-not-length_good.false) in (omega (arith, g.0), c.if-s-end.false)
 
-returns_4 : tie.Need-returns-4
-returns_4 c = let e = c.before.before.before.read_u32_be in let s = c.before.before.before.before.before.before.args.s.now in
+returns_4 : tie.Need-returns
+returns_4 c = let e = c.read_u32_be-length in let s = c.args.s.now in
     c.structure_within.ensures
     ∙ ap (λ (n : ℕ). extent_answer (structure_within s (4 + n))) e.ensures.0
-    ∙ sym (ap extent_answer (all_there s c.before.before.before.before.if1.false (ap length_valid (sym e.ensures.0) ∙ not-false (length_valid e.result) c.before.before.if2.false) (omega (arith, e.ensures.0, c.before.if3.false))))
+    ∙ sym (ap extent_answer (all_there s c.if-s-lt-LENGTH_SIZE.false (ap length_valid (sym e.ensures.0) ∙ c.if-not-length_good.false) (omega (arith, e.ensures.0, c.if-s-end.false))))
 
 pub structure_of_spec : {M : Type 1} → statement M
 structure_of_spec =

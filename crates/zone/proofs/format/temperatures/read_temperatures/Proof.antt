@@ -25,18 +25,18 @@ module _ (n : ℕ) (bytes : List ℕ) (temps : List Float) where
   unfolding temperatures_from
   many h = rw (lt-leb n most_nodes h) refl
 
-returns : tie.Need-returns
-returns c = let a = c.before.before.before.before.before.args in
-    filled a.nodes a.bytes.now a.temps.now c.before.before.before.if1.true c.before.before.if2.true _ c.floats_to.ensures
+returns : tie.Need-returns-then-nodes-bytes
+returns c = let a = c.args in
+    filled a.nodes a.bytes.now a.temps.now c.if-nodes-le-MOST_NODES.true c.if-nodes-bytes.true _ c.floats_to.ensures
 
-returns_2 : tie.Need-returns-2
-returns_2 c = let a = c.before.before.before.args in
-    short a.nodes a.bytes.now a.temps.now c.before.if1.true c.if2.false
+returns_2 : tie.Need-returns-else-nodes-bytes
+returns_2 c = let a = c.args in
+    short a.nodes a.bytes.now a.temps.now c.if-nodes-le-MOST_NODES.true c.if-nodes-bytes.false
 
-returns_3 : tie.Need-returns-3
-returns_3 c = let a = c.before.before.args in many a.nodes a.bytes.now a.temps.now c.if1.false
+returns_3 : tie.Need-returns-else-nodes-le-MOST_NODES
+returns_3 c = let a = c.args in many a.nodes a.bytes.now a.temps.now c.if-nodes-le-MOST_NODES.false
 
 pub read_temperatures_spec : {M : Type 1} → statement M
 read_temperatures_spec =
     tie.close
-    (tie.spec (λ c. omega (arith, c.if1.true)) (λ c κs. (omega (arith, c.before.before.if1.true), omega (arith, c.before.if2.true))) returns returns_2 returns_3)
+    (tie.spec (λ c. omega (arith, c.if-nodes-le-MOST_NODES.true)) (λ c κs. (omega (arith, c.if-nodes-le-MOST_NODES.true), omega (arith, c.if-nodes-bytes.true))) returns returns_2 returns_3)

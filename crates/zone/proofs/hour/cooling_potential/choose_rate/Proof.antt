@@ -2,11 +2,11 @@ use Rattle.zone.proofs.Laws.PreparedParts.{choose_refused, choose_choice}
 use Rattle.zone.proofs.hour.cooling_potential.choose_rate.Statement.{statement}
 use Rattle.zone.proofs.hour.cooling_potential.choose_rate.Tie as tie
 
-returns : tie.Need-returns
-returns c = choose_refused _ _ _ _ _ _ _ _ _ _ _ c.before.free_temperatures.ensures c.if1.true
+returns : tie.Need-returns-then-number-ne0
+returns c = choose_refused _ _ _ _ _ _ _ _ _ _ _ c.free_temperatures-number.ensures c.if-number-ne0.true
 
-returns_2 : tie.Need-returns-2
-returns_2 c = choose_choice _ _ _ _ _ _ _ _ _ _ _ c.before.before.before.before.before.before.free_temperatures.ensures _ _ c.before.before.before.before.before.if1.false c.before.before.before.zone_temperatures.ensures c.with_choice.ensures
+returns_2 : tie.Need-returns
+returns_2 c = choose_choice _ _ _ _ _ _ _ _ _ _ _ c.free_temperatures-number.ensures _ _ c.if-number-ne0.false c.zone_temperatures-vent_max.ensures c.with_choice.ensures
 
 pub choose_rate_spec : {M : Type 1} → statement M
 choose_rate_spec =

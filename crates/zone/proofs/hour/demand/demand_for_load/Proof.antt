@@ -3,11 +3,11 @@ use borrow.Author.Rules.{rules}
 use Rattle.zone.proofs.hour.demand.demand_for_load.Statement.{statement}
 use Rattle.zone.proofs.hour.demand.demand_for_load.Tie as tie
 
-returns : tie.Need-returns
-returns c = towards_neither _ _ _ _ _ _ _ _ c.before.enum_told.given.1 c.demand_record.ensures
+returns : tie.Need-returns-in-NoLoad
+returns c = towards_neither _ _ _ _ _ _ _ _ c.in-NoLoad.is c.demand_record.ensures
 
-returns_2 : tie.Need-returns-2
-returns_2 c = towards_loaded _ _ _ _ _ _ _ _ _ _ _ c.before.before.before.w.given.1 c.loaded_demand.ensures
+returns_2 : tie.Need-returns-in-Toward
+returns_2 c = towards_loaded _ _ _ _ _ _ _ _ _ _ _ c.in-Toward.is c.loaded_demand.ensures
 
 pub demand_for_load_spec : {M : Type 1} → statement M
 demand_for_load_spec =

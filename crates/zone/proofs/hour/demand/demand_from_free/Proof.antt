@@ -3,11 +3,11 @@ use borrow.Author.Rules.{rules}
 use Rattle.zone.proofs.hour.demand.demand_from_free.Statement.{statement}
 use Rattle.zone.proofs.hour.demand.demand_from_free.Tie as tie
 
-returns : tie.Need-returns
-returns c = from_refused _ _ _ _ _ _ _ _ _ c.before.before.before.calc_cooling_potential_from_ventilation.ensures _ _ c.before.ventilated.given.1
+returns : tie.Need-returns-in-Refused
+returns c = from_refused _ _ _ _ _ _ _ _ _ c.calc_cooling_potential_from_ventilation-ventilated.ensures _ _ c.in-Refused.is
 
-returns_2 : tie.Need-returns-2
-returns_2 c = from_towards _ _ _ _ _ _ _ _ _ c.before.before.before.before.before.before.before.calc_cooling_potential_from_ventilation.ensures _ _ _ c.before.before.before.before.before.ventilated2.given.1 c.before.before.before.wanted_of.ensures c.demand_for_load.ensures
+returns_2 : tie.Need-returns-in-Accepted
+returns_2 c = from_towards _ _ _ _ _ _ _ _ _ c.calc_cooling_potential_from_ventilation-ventilated.ensures _ _ _ c.in-Accepted.is c.wanted_of-w.ensures c.demand_for_load.ensures
 
 pub demand_from_free_spec : {M : Type 1} → statement M
 demand_from_free_spec =

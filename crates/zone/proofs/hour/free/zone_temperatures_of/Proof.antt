@@ -6,8 +6,8 @@ use Rattle.zone.proofs.hour.free.zone_temperatures_of.Tie as tie
 
 returns : tie.Need-returns
 returns c =
-    let g = c.before.before.before.before.before.before.args in
-    temperatures_of_lem (zone_in g.z g.codes.now g.values.now) g.t.now _ c.before.before.before.before.before.at_most_24.ensures.0 _ c.before.before.before.before.areas_of.ensures _ c.before.before.area_total.ensures _ c.zone_temperatures.ensures
+    let g = c.args in
+    temperatures_of_lem (zone_in g.z g.codes.now g.values.now) g.t.now _ c.at_most_24-n.ensures.0 _ c.areas_of-area.ensures _ c.area_total-area_el_total.ensures _ c.zone_temperatures.ensures
 
 pub zone_temperatures_of_spec : {M : Type 1} → statement M
 zone_temperatures_of_spec =

@@ -3,11 +3,11 @@ use borrow.Author.Rules.{rules}
 use Rattle.zone.proofs.hour.hour.answer_in.Statement.{statement}
 use Rattle.zone.proofs.hour.hour.answer_in.Tie as tie
 
-returns : tie.Need-returns
-returns c = asked_demand _ _ _ _ _ _ _ _ _ c.before.before.before.asked.given.1 c.demand_met.ensures
+returns : tie.Need-returns-in-Demand
+returns c = asked_demand _ _ _ _ _ _ _ _ _ c.in-Demand.is c.demand_met.ensures
 
-returns_2 : tie.Need-returns-2
-returns_2 c = asked_update _ _ _ _ _ _ _ _ _ _ _ c.before.before.before.asked2.given.1 c.update_in_lem.ensures
+returns_2 : tie.Need-returns-in-Update
+returns_2 c = asked_update _ _ _ _ _ _ _ _ _ _ _ c.in-Update.is c.update_in.ensures
 
 pub answer_in_spec : {M : Type 1} → statement M
 answer_in_spec =

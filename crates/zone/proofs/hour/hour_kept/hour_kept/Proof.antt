@@ -6,11 +6,10 @@ use Rattle.zone.proofs.hour.hour_kept.hour_kept.Tie as tie
 -- back from the last call: the factors, the directions, the timestep
 returns : tie.Need-returns
 returns c =
-    let f = c.before.before.before.before.before.before.before.before.before.before.before in
-    let d = f.before.before.before.before.before.before.before.before.before.before.before.before in
-    let s = d.before.before.args in (
+    let d = c in
+    let s = d.args in (
       keeps_hour s.z (elements_in s.codes.now s.values.now) s.t.now s.h (element_hours_in s.parts.now s.opens.now) s.opens.now
-          _ _ d.directions_of.ensures d.before.delta_t_of.ensures _ _ f.keep_factors.ensures,
+          _ _ d.directions_of-directions.ensures d.delta_t_of-delta_t.ensures _ _ d.keep_factors.ensures,
       c.hour_with.ensures,
     )
 

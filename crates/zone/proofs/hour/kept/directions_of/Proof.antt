@@ -9,23 +9,23 @@ use borrow.Author.Rules.{rules}
 use Rattle.zone.proofs.hour.kept.directions_of.Statement.{statement}
 use Rattle.zone.proofs.hour.kept.directions_of.Tie as tie
 
-abbrev invariant_loop : tie.invariant-loop
+abbrev invariant_loop : tie.invariant-loop-e
 invariant_loop codes values t c n directions₀ e₀ directions e = repeat e n (set_term (direction_code_at c (elements_in codes values) t)) directions ≡ repeat 0 n (set_term (direction_code_at c (elements_in codes values) t)) directions₀
 
-abbrev decreases_loop : tie.decreases-loop
+abbrev decreases_loop : tie.decreases-loop-e
 decreases_loop codes values t c n directions₀ e₀ directions e = n - e
 
-loop_again : tie.Need-loop-preserved invariant_loop decreases_loop
+loop_again : tie.Need-loop-e-preserved invariant_loop decreases_loop
 loop_again c =
-    store_turn _ _ _ _ _ _ c.before.before.before.before.before.loop_test.true
-    (rw (c.direction_code.ensures, c.before.heat_flow_direction.ensures, c.before.before.before.before.element_of.ensures) refl)
-    c.before.before.before.before.before.before.loop.invariant
+    store_turn _ _ _ _ _ _ c.loop-e-test.true
+    (rw (c.direction_code.ensures, c.heat_flow_direction-direction.ensures, c.element_of-el.ensures) refl)
+    c.loop-e.invariant
 
 returns : tie.Need-returns invariant_loop decreases_loop
 unfolding with_terms
 returns c =
-    let n = c.before.before in
-    rw (← n.before.standard_coefficients.ensures, ← n.at_most_24.ensures.0) (repeat_end _ _ _ _ _ c.loop_test.false c.before.loop.invariant)
+    let n = c in
+    rw (← n.standard_coefficients-c.ensures, ← n.at_most_24-n.ensures.0) (repeat_end _ _ _ _ _ c.loop-e-test.false c.loop-e.invariant)
 
 pub directions_of_spec : {M : Type 1} → statement M
 directions_of_spec =

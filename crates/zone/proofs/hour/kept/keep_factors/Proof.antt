@@ -3,22 +3,22 @@ use borrow.Author.Rules.{rules}
 use Rattle.zone.proofs.hour.kept.keep_factors.Statement.{statement}
 use Rattle.zone.proofs.hour.kept.keep_factors.Tie as tie
 
-returns : tie.Need-returns
-returns c = let b = c.before.before.before.before.before in
-    keep_same _ _ _ _ _ _ _ _ _ _ b.at_most_24.ensures.0 _ c.before.same_key.ensures c.if1.true
+returns : tie.Need-returns-then-same_key
+returns c = let b = c in
+    keep_same _ _ _ _ _ _ _ _ _ _ b.at_most_24-n.ensures.0 _ c.same_key.ensures c.if-same_key.true
 
 -- back from the stores: the columns, the last column, the assembly, the emptied arrays, the test of the key
-returns_2 : tie.Need-returns-2
+returns_2 : tie.Need-returns
 returns_2 c =
-    let f = c.before.before.before in
-    let l = f.before.before.before.before.before.before.before in
+    let f = c in
+    let l = f in
     let s = l.before.before in
-    let e = s.before.before.before.before.before.before in
+    let e = s in
     let t = e.before.before.before.before.before.before.before in
-    let b = t.before.before.before.before.before in
-    let a = s.assemble_elements.ensures in
-    keep_anew _ _ _ _ _ _ _ _ _ _ b.at_most_24.ensures.0 _ t.before.same_key.ensures t.if1.false
-    _ _ _ _ _ _ e.clear.ensures _ _ _ _ _ a.0 a.1 a.2 _ _ a.3 a.4 _ l.last_column.ensures _ _ _ _ f.factor_columns.ensures
+    let b = t in
+    let a = s.assemble_elements-total.ensures in
+    keep_anew _ _ _ _ _ _ _ _ _ _ b.at_most_24-n.ensures.0 _ t.same_key.ensures t.if-same_key.false
+    _ _ _ _ _ _ e.clear.ensures _ _ _ _ _ a.0 a.1 a.2 _ _ a.3 a.4 _ l.last_column-last.ensures _ _ _ _ f.factor_columns-valid.ensures
     _ c.key_of.ensures
 
 pub keep_factors_spec : {M : Type 1} → statement M

@@ -5,21 +5,21 @@ use borrow.Author.Rules.{rules}
 use Rattle.zone.proofs.hour.kept.key_of.Statement.{statement}
 use Rattle.zone.proofs.hour.kept.key_of.Tie as tie
 
-abbrev invariant_loop : tie.invariant-loop
+abbrev invariant_loop : tie.invariant-loop-e
 invariant_loop directions opens key₀ e₀ key e = Marked e key directions opens
 
-abbrev decreases_loop : tie.decreases-loop
+abbrev decreases_loop : tie.decreases-loop-e
 decreases_loop directions opens key₀ e₀ key e = 24 - e
 
-loop_holds : tie.Need-loop-init invariant_loop decreases_loop
+loop_holds : tie.Need-loop-e-init invariant_loop decreases_loop
 loop_holds c = none_marked _ _ _ refl
 
-loop_again : tie.Need-loop-preserved invariant_loop decreases_loop
-loop_again c = let l = c.before.before.before in
-    one_more_marked _ _ _ _ _ _ c.before.before.loop_test.true refl refl l.loop.invariant
+loop_again : tie.Need-loop-e-preserved invariant_loop decreases_loop
+loop_again c = let l = c in
+    one_more_marked _ _ _ _ _ _ c.loop-e-test.true refl refl l.loop-e.invariant
 
 returns : tie.Need-returns invariant_loop decreases_loop
-returns c = all_marked _ _ _ _ c.before.loop.invariant c.loop_test.false
+returns c = all_marked _ _ _ _ c.loop-e.invariant c.loop-e-test.false
 
 pub key_of_spec : {M : Type 1} → statement M
 key_of_spec =

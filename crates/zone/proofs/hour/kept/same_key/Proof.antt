@@ -8,41 +8,41 @@ use borrow.Author.Rules.{rules}
 use Rattle.zone.proofs.hour.kept.same_key.Statement.{statement}
 use Rattle.zone.proofs.hour.kept.same_key.Tie as tie
 
-abbrev invariant_loop : tie.invariant-loop
+abbrev invariant_loop : tie.invariant-loop-e
 invariant_loop held kept_delta_t delta_t n key directions opens e₀ e = (e ≤ n) × (same_elements e key directions opens ≡ true)
 
-abbrev decreases_loop : tie.decreases-loop
+abbrev decreases_loop : tie.decreases-loop-e
 decreases_loop held kept_delta_t delta_t n key directions opens e₀ e = n - e
 
-returns : tie.Need-returns invariant_loop decreases_loop
-returns c = key_none _ _ _ _ _ _ _ c.if1.true
+returns : tie.Need-returns-then-not-held invariant_loop decreases_loop
+returns c = key_none _ _ _ _ _ _ _ c.if-not-held.true
 
-returns_2 : tie.Need-returns-2 invariant_loop decreases_loop
-returns_2 c = let b = c.before in
-    key_step _ _ _ _ _ _ _ b.before.before.if1.false _ _ b.before.bits_of.ensures b.bits_of2.ensures c.if2.true
+returns_2 : tie.Need-returns-then-bits_of invariant_loop decreases_loop
+returns_2 c = let b = c in
+    key_step _ _ _ _ _ _ _ b.if-not-held.false _ _ b.bits_of.ensures b.bits_of-2.ensures c.if-bits_of.true
 
-loop_holds : tie.Need-loop-init invariant_loop decreases_loop
+loop_holds : tie.Need-loop-e-init invariant_loop decreases_loop
 unfolding same_elements
 loop_holds c = (omega arith, refl)
 
-returns_3 : tie.Need-returns-3 invariant_loop decreases_loop
-returns_3 c = let l = c.before.before.before.before in let b = l.before.before in
-    key_elements _ _ _ _ _ _ _ b.before.before.if1.false _ _ b.before.bits_of.ensures b.bits_of2.ensures l.before.if2.false false
-    (direction_differs _ _ _ _ _ l.loop.invariant.1 c.if3.true (omega arith))
+returns_3 : tie.Need-returns-then-key-e invariant_loop decreases_loop
+returns_3 c = let l = c.before.before.before.before in let b = l in
+    key_elements _ _ _ _ _ _ _ b.if-not-held.false _ _ b.bits_of.ensures b.bits_of-2.ensures l.if-bits_of.false false
+    (direction_differs _ _ _ _ _ l.loop-e.invariant.1 c.if-key-e.true (omega arith))
 
-returns_4 : tie.Need-returns-4 invariant_loop decreases_loop
-returns_4 c = let l = c.before.before.before.before.before.before.before in let b = l.before.before in
-    key_elements _ _ _ _ _ _ _ b.before.before.if1.false _ _ b.before.bits_of.ensures b.bits_of2.ensures l.before.if2.false false
-    (open_differs _ _ _ _ _ l.loop.invariant.1 c.if4.true (omega arith))
+returns_4 : tie.Need-returns-then-key-e-2 invariant_loop decreases_loop
+returns_4 c = let l = c.before.before.before.before.before.before.before in let b = l in
+    key_elements _ _ _ _ _ _ _ b.if-not-held.false _ _ b.bits_of.ensures b.bits_of-2.ensures l.if-bits_of.false false
+    (open_differs _ _ _ _ _ l.loop-e.invariant.1 c.if-key-e-2.true (omega arith))
 
-loop_again : tie.Need-loop-preserved invariant_loop decreases_loop
-loop_again c = let l = c.before.before.before.before.before.before.before.loop in
-    (omega arith, one_more_same _ _ _ _ l.invariant.1 c.before.before.before.if3.false c.if4.false)
+loop_again : tie.Need-loop-e-preserved invariant_loop decreases_loop
+loop_again c = let l = c.loop-e in
+    (omega arith, one_more_same _ _ _ _ l.invariant.1 c.if-key-e.false c.if-key-e-2.false)
 
-returns_5 : tie.Need-returns-5 invariant_loop decreases_loop
-returns_5 c = let l = c.before in let b = l.before.before in
-    key_elements _ _ _ _ _ _ _ b.before.before.if1.false _ _ b.before.bits_of.ensures b.bits_of2.ensures l.before.if2.false true
-    (all_same _ _ _ _ _ l.loop.invariant.1 (omega arith) (omega arith))
+returns_5 : tie.Need-returns invariant_loop decreases_loop
+returns_5 c = let l = c.before in let b = l in
+    key_elements _ _ _ _ _ _ _ b.if-not-held.false _ _ b.bits_of.ensures b.bits_of-2.ensures l.if-bits_of.false true
+    (all_same _ _ _ _ _ l.loop-e.invariant.1 (omega arith) (omega arith))
 
 pub same_key_spec : {M : Type 1} → statement M
 same_key_spec =

@@ -3,17 +3,17 @@ use mathlib.Core.Path.{refl}
 use Rattle.zone.proofs.hour.load.demand_record.Statement.{statement}
 use Rattle.zone.proofs.hour.load.demand_record.Tie as tie
 
-returns : tie.Need-returns
+returns : tie.Need-returns-then-kwh
 unfolding demand_record
-returns c = rw c.if1.true refl
+returns c = rw c.if-kwh.true refl
 
-returns_2 : tie.Need-returns-2
+returns_2 : tie.Need-returns-then-kwh-2
 unfolding demand_record
-returns_2 c = rw (c.before.if1.false, c.if2.true) refl
+returns_2 c = rw (c.if-kwh.false, c.if-kwh-2.true) refl
 
-returns_3 : tie.Need-returns-3
+returns_3 : tie.Need-returns-else-kwh-2
 unfolding demand_record
-returns_3 c = rw (c.before.if1.false, c.if2.false) refl
+returns_3 c = rw (c.if-kwh.false, c.if-kwh-2.false) refl
 
 pub demand_record_spec : {M : Type 1} → statement M
 demand_record_spec = tie.close (tie.spec returns returns_2 returns_3)

@@ -5,7 +5,7 @@ use Rattle.zone.proofs.hour.load.frac_upper.Tie as tie
 
 returns : tie.Need-returns
 unfolding frac_upper
-returns c = rw (c.before.gains_heat_cool_of.ensures, c.frac_conv_gains_heat_cool_of.ensures) refl
+returns c = rw (c.gains_heat_cool_of-gains.ensures, c.frac_conv_gains_heat_cool_of-frac_conv.ensures) refl
 
 pub frac_upper_spec : {M : Type 1} → statement M
 frac_upper_spec =

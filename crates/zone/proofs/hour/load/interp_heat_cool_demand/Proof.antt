@@ -3,17 +3,17 @@ use mathlib.Core.Path.{refl}
 use Rattle.zone.proofs.hour.load.interp_heat_cool_demand.Statement.{statement}
 use Rattle.zone.proofs.hour.load.interp_heat_cool_demand.Tie as tie
 
-returns : tie.Need-returns
+returns : tie.Need-returns-then-close_in_demand
 unfolding interp_heat_cool_demand
-returns c = rw (← c.before.close_in_demand.ensures, c.if1.true) refl
+returns c = rw (← c.close_in_demand.ensures, c.if-close_in_demand.true) refl
 
-returns_2 : tie.Need-returns-2
+returns_2 : tie.Need-returns-then-close_in_demand-2
 unfolding interp_heat_cool_demand
-returns_2 c = rw (← c.before.before.before.close_in_demand.ensures, c.before.before.if1.false, ← c.before.close_in_demand2.ensures, c.if2.true) refl
+returns_2 c = rw (← c.close_in_demand.ensures, c.if-close_in_demand.false, ← c.close_in_demand-2.ensures, c.if-close_in_demand-2.true) refl
 
-returns_3 : tie.Need-returns-3
+returns_3 : tie.Need-returns
 unfolding interp_heat_cool_demand
-returns_3 c = rw (← c.before.before.before.before.close_in_demand.ensures, c.before.before.before.if1.false, ← c.before.before.close_in_demand2.ensures, c.before.if2.false, c.kwh_of.ensures) refl
+returns_3 c = rw (← c.close_in_demand.ensures, c.if-close_in_demand.false, ← c.close_in_demand-2.ensures, c.if-close_in_demand-2.false, c.kwh_of.ensures) refl
 
 pub interp_heat_cool_demand_spec : {M : Type 1} → statement M
 interp_heat_cool_demand_spec =

@@ -3,17 +3,17 @@ use mathlib.Core.Path.{refl}
 use Rattle.zone.proofs.hour.load.wanted_of.Statement.{statement}
 use Rattle.zone.proofs.hour.load.wanted_of.Tie as tie
 
-returns : tie.Need-returns
+returns : tie.Need-returns-then-above
 unfolding wanted
-returns c = rw (← c.before.before.above.ensures, c.before.if1.true, c.cooling_load_of.ensures) refl
+returns c = rw (← c.above.ensures, c.if-above.true, c.cooling_load_of.ensures) refl
 
-returns_2 : tie.Need-returns-2
+returns_2 : tie.Need-returns-then-below
 unfolding wanted
-returns_2 c = rw (← c.before.before.before.before.above.ensures, c.before.before.before.if1.false, ← c.before.before.below.ensures, c.before.if2.true, c.load_of.ensures) refl
+returns_2 c = rw (← c.above.ensures, c.if-above.false, ← c.below.ensures, c.if-below.true, c.load_of.ensures) refl
 
-returns_3 : tie.Need-returns-3
+returns_3 : tie.Need-returns
 unfolding wanted
-returns_3 c = rw (← c.before.before.before.above.ensures, c.before.before.if1.false, ← c.before.below.ensures, c.if2.false) refl
+returns_3 c = rw (← c.above.ensures, c.if-above.false, ← c.below.ensures, c.if-below.false) refl
 
 pub wanted_of_spec : {M : Type 1} → statement M
 wanted_of_spec =

@@ -4,17 +4,17 @@ use borrow.Author.Rules.{rules}
 use Rattle.zone.proofs.hour.reason.reason_of.Statement.{statement}
 use Rattle.zone.proofs.hour.reason.reason_of.Tie as tie
 
-returns : tie.Need-returns
+returns : tie.Need-returns-then-windows-target
 unfolding reason_in
-returns c = rw (c.before.before.ach_args.given.1, c.if1.true) refl
+returns c = rw (c.in-TargetAndWindowsOpen.is, c.if-windows-target.true) refl
 
-returns_2 : tie.Need-returns-2
+returns_2 : tie.Need-returns-in-Cooling
 unfolding reason_in
-returns_2 c = rw c.enum_told.given.1 refl
+returns_2 c = rw c.in-Cooling.is refl
 
-returns_3 : tie.Need-returns-3
+returns_3 : tie.Need-returns-else-windows-target
 unfolding reason_in
-returns_3 c = rw (c.before.before.before.ach_args.given.1, c.before.if1.false) c.choice_reason.ensures
+returns_3 c = rw (c.in-TargetAndWindowsOpen.is, c.if-windows-target.false) (rw c.in-TargetAndWindowsOpen.is at c.choice_reason.ensures)
 
 pub reason_of_spec : {M : Type 1} → statement M
 reason_of_spec =

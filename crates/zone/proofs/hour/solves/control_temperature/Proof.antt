@@ -3,11 +3,11 @@ use borrow.Author.Rules.{rules}
 use Rattle.zone.proofs.hour.solves.control_temperature.Statement.{statement}
 use Rattle.zone.proofs.hour.solves.control_temperature.Tie as tie
 
-returns : tie.Need-returns
-returns c = rw c.before.enum_told.given.1 refl
+returns : tie.Need-returns-in-Air
+returns c = rw c.in-Air.is refl
 
-returns_2 : tie.Need-returns-2
-returns_2 c = c.temp_operative_by_temp_vector.ensures ∙ rw c.before.enum_told2.given.1 refl
+returns_2 : tie.Need-returns-in-Operative
+returns_2 c = c.temp_operative_by_temp_vector.ensures ∙ rw c.in-Operative.is refl
 
 pub control_temperature_spec : {M : Type 1} → statement M
 control_temperature_spec =

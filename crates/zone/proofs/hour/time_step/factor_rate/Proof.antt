@@ -4,8 +4,8 @@ use Rattle.zone.proofs.hour.time_step.factor_rate.Statement.{statement}
 use Rattle.zone.proofs.hour.time_step.factor_rate.Tie as tie
 
 returns : tie.Need-returns
-returns c = let made = c.factor_last.ensures in
-    (rw (c.before.before.zone_diagonal.ensures, c.before.before.before.before.at_most_24.ensures.0) at made.0, rw (← made.1) refl)
+returns c = let made = c.factor_last-pivot.ensures in
+    (rw (c.zone_diagonal.ensures, c.at_most_24-n.ensures.0) at made.0, rw (← made.1) refl)
 
 pub factor_rate_spec : {M : Type 1} → statement M
 factor_rate_spec =

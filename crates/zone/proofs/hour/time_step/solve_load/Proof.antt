@@ -4,7 +4,7 @@ use Rattle.zone.proofs.hour.time_step.solve_load.Tie as tie
 
 returns : tie.Need-returns
 unfolding load_of
-returns c = rw (← c.before.before.before.gains_per_area.ensures, ← c.before.before.zone_right_side.ensures) c.substitute_load.ensures
+returns c = rw (← c.gains_per_area.ensures, ← c.zone_right_side.ensures) c.substitute_load.ensures
 
 pub solve_load_spec : {M : Type 1} → statement M
 solve_load_spec = tie.close (tie.spec (λ c κs. tt) (λ c κs. tt) (λ c κs. tt) returns)

@@ -4,7 +4,7 @@ use Rattle.zone.proofs.hour.windows.zone_temperatures.Statement.{statement}
 use Rattle.zone.proofs.hour.windows.zone_temperatures.Tie as tie
 
 returns : tie.Need-returns
-returns c = rw c.before.control_temperature.ensures refl
+returns c = rw c.control_temperature-temp_control.ensures refl
 
 pub zone_temperatures_spec : {M : Type 1} → statement M
 zone_temperatures_spec =

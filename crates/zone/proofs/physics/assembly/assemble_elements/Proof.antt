@@ -10,24 +10,24 @@ use borrow.Author.Rules.{rules}
 use Rattle.zone.proofs.physics.assembly.assemble_elements.Statement.{statement}
 use Rattle.zone.proofs.physics.assembly.assemble_elements.Tie as tie
 
-couple_rows_requires : tie.Need-couple-rows-requires
-couple_rows_requires c κs = omega (arith, c.before.before.before.before.before.before.before.before.before.before.before.before.before.before.before.before.before.before.before.before.requires)
+couple_rows_requires : tie.Need-couple_rows-requires
+couple_rows_requires c κs = omega (arith, c.requires)
 
-convective_sum_requires : tie.Need-convective-sum-requires
-convective_sum_requires c κs = omega (arith, c.before.before.before.before.before.before.before.before.before.before.before.before.before.before.before.before.before.before.before.before.before.before.before.requires)
+convective_sum_requires : tie.Need-convective_sum-convective-requires
+convective_sum_requires c κs = omega (arith, c.requires)
 
 returns : tie.Need-returns
-returns c = let s = c.before.before.before.before.before.before.before.before.before.before.before.before.before.before.before.before.before.before.before.before.before.before.before.before in
-    let taken = c.before.before.before.before.before.before.before.before.before.before.before.before.before.before.before.before.before.before.before.before.fill_surfaces.ensures in
+returns c = let s = c in
+    let taken = c.fill_surfaces.ensures in
     let es = elements_in s.args.codes.now s.args.values.now in
     let by = h_ci_in s.args.directions.now in
     let small : s.args.n ≤ length (replicate 24 zero64) = s.requires in
-    let k = surfaces s.args.n es by _ _ _ _ (replicate 24 zero64) c.before.before.before.before.before.before.before.before.before.before.before.before.before.before.before.before.before.before.area_total.result small taken.0 taken.1 c.before.before.before.before.before.before.before.before.before.before.before.before.before.before.before.before.before.before.area_total.ensures c.before.before.before.before.before.before.before.before.before.before.before.before.before.before.before.before.shares_of.ensures c.before.before.before.before.before.before.before.before.before.before.before.before.before.before.before.h_ci_of.ensures in (
+    let k = surfaces s.args.n es by _ _ _ _ (replicate 24 zero64) c.area_total-total.result small taken.0 taken.1 c.area_total-total.ensures c.shares_of-share.ensures c.h_ci_of-h_ci.ensures in (
       taken.2,
-      c.before.before.before.before.before.before.before.before.before.assemble_chains.ensures ∙ chains_is s.args.n es by _ _ _ _ _ k s.args.opens.now s.args.delta_t _,
-      c.before.before.before.couple_rows.ensures ∙ couplings_is s.args.n es by _ _ _ _ _ k _,
+      c.assemble_chains.ensures ∙ chains_is s.args.n es by _ _ _ _ _ k s.args.opens.now s.args.delta_t _,
+      c.couple_rows.ensures ∙ couplings_is s.args.n es by _ _ _ _ _ k _,
       k.total_is,
-      c.convective_sum.ensures ∙ convective_is s.args.n es by _ _ _ _ _ k,
+      c.convective_sum-convective.ensures ∙ convective_is s.args.n es by _ _ _ _ _ k,
     )
 
 pub assemble_elements_spec : {M : Type 1} → statement M

@@ -9,25 +9,25 @@ use borrow.Author.Rules.{rules}
 use Rattle.zone.proofs.physics.assembly.assemble_sides.Statement.{statement}
 use Rattle.zone.proofs.physics.assembly.assemble_sides.Tie as tie
 
-abbrev invariant_loop : tie.invariant-loop
+abbrev invariant_loop : tie.invariant-loop-e
 invariant_loop n codes values parts opens delta_t t b₀ e₀ b e = let turn = element_right_sides (elements_in codes values) (element_hours_in parts opens) delta_t t in repeat e n turn b ≡ repeat 0 n turn b₀
 
-abbrev decreases_loop : tie.decreases-loop
+abbrev decreases_loop : tie.decreases-loop-e
 decreases_loop n codes values parts opens delta_t t b₀ e₀ b e = n - e
 
-loop_again : tie.Need-loop-preserved invariant_loop decreases_loop
+loop_again : tie.Need-loop-e-preserved invariant_loop decreases_loop
 unfolding element_right_sides
 loop_again c = let r = c.before.before.before in
-    let el = r.before.before.before in
-    let l = el.before.before.loop in
-    let a = el.before.before.before.args in
-    repeat_turn (element_right_sides (elements_in a.codes.now a.values.now) (element_hours_in a.parts.now a.opens.now) a.delta_t a.t.now) l.e a.n l.b _ _ el.before.loop_test.true
-    (rw (c.set_slots.ensures, r.right_sides_of.ensures, r.before.element_slots.ensures, el.element_of.ensures, r.before.before.element_hour_of.ensures) refl)
+    let el = r in
+    let l = el.loop-e in
+    let a = el.args in
+    repeat_turn (element_right_sides (elements_in a.codes.now a.values.now) (element_hours_in a.parts.now a.opens.now) a.delta_t a.t.now) l.e a.n l.b _ _ el.loop-e-test.true
+    (rw (c.set_slots.ensures, r.right_sides_of-sides.ensures, r.element_slots-before.ensures, el.element_of-el.ensures, r.element_hour_of-hour.ensures) refl)
     l.invariant
 
 returns : tie.Need-returns invariant_loop decreases_loop
 unfolding element_sides
-returns c = repeat_end _ _ _ _ _ c.loop_test.false c.before.loop.invariant
+returns c = repeat_end _ _ _ _ _ c.loop-e-test.false c.loop-e.invariant
 
 pub assemble_sides_spec : {M : Type 1} → statement M
 assemble_sides_spec =

@@ -9,22 +9,22 @@ use borrow.Author.Rules.{rules}
 use Rattle.zone.proofs.physics.convection.convective_sums.Statement.{statement}
 use Rattle.zone.proofs.physics.convection.convective_sums.Tie as tie
 
-abbrev invariant_loop : tie.invariant-loop
+abbrev invariant_loop : tie.invariant-loop-e
 invariant_loop c n codes values temp_prev vector_x sums₀ e₀ sums e = let add = add_loss_at c (elements_in codes values) temp_prev vector_x in repeat e n add sums ≡ repeat 0 n add sums₀
 
-abbrev decreases_loop : tie.decreases-loop
+abbrev decreases_loop : tie.decreases-loop-e
 decreases_loop c n codes values temp_prev vector_x sums₀ e₀ sums e = n - e
 
-loop_again : tie.Need-loop-preserved invariant_loop decreases_loop
+loop_again : tie.Need-loop-e-preserved invariant_loop decreases_loop
 unfolding h_ci
 loop_again c = let surface = c.before.before.before.before.before in
-    let el = surface.before.before.before in
-    repeat_turn _ _ _ _ _ _ el.before.loop_test.true (rw (c.add_loss.ensures, surface.h_ci.ensures, el.element_of.ensures) refl) el.before.before.loop.invariant
+    let el = surface in
+    repeat_turn _ _ _ _ _ _ el.loop-e-test.true (rw (c.add_loss-sums.ensures, surface.h_ci-at_surface.ensures, el.element_of-el.ensures) refl) el.loop-e.invariant
 
 returns : tie.Need-returns invariant_loop decreases_loop
-returns c = let s = c.before.before.before in
-    repeat_end _ _ _ _ _ c.loop_test.false c.before.loop.invariant
-    ∙ ap (repeat 0 s.args.n (add_loss_at s.args.c (elements_in s.args.codes.now s.args.values.now) s.args.temp_prev.now s.args.vector_x.now)) c.before.before.no_convection.ensures
+returns c = let s = c in
+    repeat_end _ _ _ _ _ c.loop-e-test.false c.loop-e.invariant
+    ∙ ap (repeat 0 s.args.n (add_loss_at s.args.c (elements_in s.args.codes.now s.args.values.now) s.args.temp_prev.now s.args.vector_x.now)) c.no_convection-sums.ensures
 
 pub convective_sums_spec : {M : Type 1} → statement M
 convective_sums_spec =

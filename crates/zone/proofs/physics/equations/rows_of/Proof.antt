@@ -3,13 +3,13 @@ use borrow.Author.Rules.{rules}
 use Rattle.zone.proofs.physics.equations.rows_of.Statement.{statement}
 use Rattle.zone.proofs.physics.equations.rows_of.Tie as tie
 
-returns : tie.Need-returns
+returns : tie.Need-returns-then-is_two_nodes
 unfolding rows_of
-returns c = rw (← c.before.before.before.before.before.is_two_nodes.ensures, c.before.before.before.before.if1.true, ← c.before.h_pli_transparent.ensures) c.rows_two.ensures
+returns c = rw (← c.is_two_nodes.ensures, c.if-is_two_nodes.true, ← c.h_pli_transparent-h.ensures) c.rows_two.ensures
 
-returns_2 : tie.Need-returns-2
+returns_2 : tie.Need-returns
 unfolding rows_of
-returns_2 c = rw (← c.before.before.is_two_nodes.ensures, c.before.if1.false) c.rows_five.ensures
+returns_2 c = rw (← c.is_two_nodes.ensures, c.if-is_two_nodes.false) c.rows_five.ensures
 
 pub rows_of_spec : {M : Type 1} → statement M
 rows_of_spec =

@@ -5,7 +5,7 @@ use Rattle.zone.proofs.physics.fabric.add_element.Tie as tie
 
 returns : tie.Need-returns
 unfolding add_element
-returns c = rw (c.add_kind.ensures, c.before.add_boundary.ensures, c.before.before.fabric_ext.ensures) refl
+returns c = rw (c.add_kind.ensures, c.add_boundary.ensures, c.fabric_ext.ensures) refl
 
 pub add_element_spec : {M : Type 1} → statement M
 add_element_spec =

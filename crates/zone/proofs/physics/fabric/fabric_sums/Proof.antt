@@ -8,21 +8,21 @@ use borrow.Author.Rules.{rules}
 use Rattle.zone.proofs.physics.fabric.fabric_sums.Statement.{statement}
 use Rattle.zone.proofs.physics.fabric.fabric_sums.Tie as tie
 
-abbrev invariant_loop : tie.invariant-loop
+abbrev invariant_loop : tie.invariant-loop-e
 invariant_loop n codes values parts opens vector_x sums₀ e₀ sums e = let add = add_element_at (elements_in codes values) (element_hours_in parts opens) vector_x in repeat e n add sums ≡ repeat 0 n add sums₀
 
-abbrev decreases_loop : tie.decreases-loop
+abbrev decreases_loop : tie.decreases-loop-e
 decreases_loop n codes values parts opens vector_x sums₀ e₀ sums e = n - e
 
-loop_again : tie.Need-loop-preserved invariant_loop decreases_loop
+loop_again : tie.Need-loop-e-preserved invariant_loop decreases_loop
 loop_again c = let hour = c.before.before.before in
-    let el = hour.before in
-    repeat_turn _ _ _ _ _ _ el.before.loop_test.true (rw (c.add_element.ensures, c.before.outer_surface.ensures, c.before.before.is_two_nodes.ensures, el.element_of.ensures, hour.element_hour_of.ensures) refl) el.before.before.loop.invariant
+    let el = hour in
+    repeat_turn _ _ _ _ _ _ el.loop-e-test.true (rw (c.add_element-sums.ensures, c.outer_surface-t.ensures, c.is_two_nodes.ensures, el.element_of-el.ensures, hour.element_hour_of-hour.ensures) refl) el.loop-e.invariant
 
 returns : tie.Need-returns invariant_loop decreases_loop
-returns c = let s = c.before.before.before in
-    repeat_end _ _ _ _ _ c.loop_test.false c.before.loop.invariant
-    ∙ ap (repeat 0 s.args.n (add_element_at (elements_in s.args.codes.now s.args.values.now) (element_hours_in s.args.parts.now s.args.opens.now) s.args.vector_x.now)) c.before.before.no_fabric.ensures
+returns c = let s = c in
+    repeat_end _ _ _ _ _ c.loop-e-test.false c.loop-e.invariant
+    ∙ ap (repeat 0 s.args.n (add_element_at (elements_in s.args.codes.now s.args.values.now) (element_hours_in s.args.parts.now s.args.opens.now) s.args.vector_x.now)) c.no_fabric-sums.ensures
 
 pub fabric_sums_spec : {M : Type 1} → statement M
 fabric_sums_spec =

@@ -7,10 +7,10 @@ use borrow.Author.Rules.{rules}
 use Rattle.zone.proofs.physics.matrix.area_total.Statement.{statement}
 use Rattle.zone.proofs.physics.matrix.area_total.Tie as tie
 
-abbrev invariant_loop : tie.invariant-loop
+abbrev invariant_loop : tie.invariant-loop-e
 invariant_loop n area total₀ e₀ total e = sum2_add_all total (terms e n (at area)) ≡ sum2_add_all total₀ (terms 0 n (at area))
 
-abbrev decreases_loop : tie.decreases-loop
+abbrev decreases_loop : tie.decreases-loop-e
 decreases_loop n area total₀ e₀ total e = n - e
 
 pub area_total_spec : {M : Type 1} → statement M

@@ -7,10 +7,10 @@ use borrow.Author.Rules.{rules}
 use Rattle.zone.proofs.physics.matrix.convective_sum.Statement.{statement}
 use Rattle.zone.proofs.physics.matrix.convective_sum.Tie as tie
 
-abbrev invariant_loop : tie.invariant-loop
+abbrev invariant_loop : tie.invariant-loop-e
 invariant_loop n area h_ci total₀ e₀ total e = sum2_add_all total (terms e n (convective_by (at area) (at h_ci))) ≡ sum2_add_all total₀ (terms 0 n (convective_by (at area) (at h_ci)))
 
-abbrev decreases_loop : tie.decreases-loop
+abbrev decreases_loop : tie.decreases-loop-e
 decreases_loop n area h_ci total₀ e₀ total e = n - e
 
 pub convective_sum_spec : {M : Type 1} → statement M

@@ -6,7 +6,7 @@ use Rattle.zone.proofs.physics.matrix.couple_row.Tie as tie
 
 returns : tie.Need-returns
 unfolding couple_row
-returns c = rw (c.set_entry2.ensures, c.before.before.before.set_entry.ensures, c.before.before.before.before.before.couplings.ensures) refl
+returns c = rw (c.set_entry-2.ensures, c.set_entry.ensures, c.couplings.ensures) refl
 
 pub couple_row_spec : {M : Type 1} → statement M
 couple_row_spec =

@@ -7,10 +7,10 @@ use borrow.Author.Rules.{rules}
 use Rattle.zone.proofs.physics.matrix.couple_rows.Statement.{statement}
 use Rattle.zone.proofs.physics.matrix.couple_rows.Tie as tie
 
-abbrev invariant_loop : tie.invariant-loop
+abbrev invariant_loop : tie.invariant-loop-i
 invariant_loop n area h_ri h_ci share m₀ i₀ m i = repeat i n (couple_row n (at area) (at h_ri) (at h_ci) (at share)) m ≡ repeat 0 n (couple_row n (at area) (at h_ri) (at h_ci) (at share)) m₀
 
-abbrev decreases_loop : tie.decreases-loop
+abbrev decreases_loop : tie.decreases-loop-i
 decreases_loop n area h_ri h_ci share m₀ i₀ m i = n - i
 
 pub couple_rows_spec : {M : Type 1} → statement M

@@ -7,10 +7,10 @@ use borrow.Author.Rules.{rules}
 use Rattle.zone.proofs.physics.matrix.couplings.Statement.{statement}
 use Rattle.zone.proofs.physics.matrix.couplings.Tie as tie
 
-abbrev invariant_loop : tie.invariant-loop
+abbrev invariant_loop : tie.invariant-loop-k
 invariant_loop n share h_ri i m₀ k₀ m k = repeat k n (couple (at share) h_ri i) m ≡ repeat 0 n (couple (at share) h_ri i) m₀
 
-abbrev decreases_loop : tie.decreases-loop
+abbrev decreases_loop : tie.decreases-loop-k
 decreases_loop n share h_ri i m₀ k₀ m k = n - k
 
 pub couplings_spec : {M : Type 1} → statement M

@@ -12,16 +12,16 @@ use borrow.Author.Rules.{rules}
 use Rattle.zone.proofs.physics.matrix.fill_surfaces.Statement.{statement}
 use Rattle.zone.proofs.physics.matrix.fill_surfaces.Tie as tie
 
-abbrev invariant_loop : tie.invariant-loop
+abbrev invariant_loop : tie.invariant-loop-e
 invariant_loop n codes values area₀ h_ri₀ two_nodes₀ e₀ area h_ri two_nodes e = let es = elements_in codes values in (repeat e n (set_term (area_of es)) area ≡ repeat 0 n (set_term (area_of es)) area₀) × (repeat e n (set_term (h_ri_of es)) h_ri ≡ repeat 0 n (set_term (h_ri_of es)) h_ri₀) × (repeat e n (set_term (two_nodes_of es)) two_nodes ≡ repeat 0 n (set_term (two_nodes_of es)) two_nodes₀)
 
-abbrev decreases_loop : tie.decreases-loop
+abbrev decreases_loop : tie.decreases-loop-e
 decreases_loop n codes values area₀ h_ri₀ two_nodes₀ e₀ area h_ri two_nodes e = n - e
 
-loop_again : tie.Need-loop-preserved invariant_loop decreases_loop
-loop_again c = let l = c.before.before.before.loop in
-    let el = c.before.element_of.ensures in
-    let test = c.before.before.loop_test.true in (
+loop_again : tie.Need-loop-e-preserved invariant_loop decreases_loop
+loop_again c = let l = c.loop-e in
+    let el = c.element_of-el.ensures in
+    let test = c.loop-e-test.true in (
       store_turn _ _ _ _ _ _ test (ap (λ (x : Element). x.area) el) l.invariant.0,
       store_turn _ _ _ _ _ _ test (ap (λ (x : Element). x.h_ri) el) l.invariant.1,
       store_turn _ _ _ _ _ _ test (c.is_two_nodes.ensures ∙ ap (λ (x : Element). is_two_nodes x.kind) el) l.invariant.2,
@@ -29,8 +29,8 @@ loop_again c = let l = c.before.before.before.loop in
 
 returns : tie.Need-returns invariant_loop decreases_loop
 unfolding with_terms
-returns c = let l = c.before.loop in
-    let done = c.loop_test.false in
+returns c = let l = c.loop-e in
+    let done = c.loop-e-test.false in
     (repeat_end _ _ _ _ _ done l.invariant.0, repeat_end _ _ _ _ _ done l.invariant.1, repeat_end _ _ _ _ _ done l.invariant.2)
 
 pub fill_surfaces_spec : {M : Type 1} → statement M

@@ -8,19 +8,19 @@ use borrow.Author.Rules.{rules}
 use Rattle.zone.proofs.physics.matrix.h_ci_of.Statement.{statement}
 use Rattle.zone.proofs.physics.matrix.h_ci_of.Tie as tie
 
-abbrev invariant_loop : tie.invariant-loop
+abbrev invariant_loop : tie.invariant-loop-e
 invariant_loop n directions c h₀ e₀ h e = repeat e n (set_term (h_ci_in directions)) h ≡ repeat 0 n (set_term (h_ci_in directions)) h₀
 
-abbrev decreases_loop : tie.decreases-loop
+abbrev decreases_loop : tie.decreases-loop-e
 decreases_loop n directions c h₀ e₀ h e = n - e
 
-loop_again : tie.Need-loop-preserved invariant_loop decreases_loop
+loop_again : tie.Need-loop-e-preserved invariant_loop decreases_loop
 loop_again c =
-    store_turn _ _ _ _ _ _ c.before.before.loop_test.true (rw (c.h_ci_by_code.ensures, c.before.before.before.before.standard_coefficients.ensures) refl) c.before.before.before.loop.invariant
+    store_turn _ _ _ _ _ _ c.loop-e-test.true (rw (c.h_ci_by_code.ensures, c.standard_coefficients-c.ensures) refl) c.loop-e.invariant
 
 returns : tie.Need-returns invariant_loop decreases_loop
 unfolding with_terms
-returns c = repeat_end _ _ _ _ _ c.loop_test.false c.before.loop.invariant
+returns c = repeat_end _ _ _ _ _ c.loop-e-test.false c.loop-e.invariant
 
 pub h_ci_of_spec : {M : Type 1} → statement M
 h_ci_of_spec =

@@ -6,7 +6,7 @@ use Rattle.zone.proofs.physics.matrix.set_rows.Tie as tie
 
 returns : tie.Need-returns
 unfolding set_rows
-returns c = rw (c.set_slots3.ensures, c.before.before.before.set_slots2.ensures, c.before.before.before.before.before.before.set_slots.ensures) refl
+returns c = rw (c.set_slots-3.ensures, c.set_slots-2.ensures, c.set_slots.ensures) refl
 
 pub set_rows_spec : {M : Type 1} → statement M
 set_rows_spec =

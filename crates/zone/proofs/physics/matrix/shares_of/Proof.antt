@@ -8,10 +8,10 @@ use borrow.Author.Rules.{rules}
 use Rattle.zone.proofs.physics.matrix.shares_of.Statement.{statement}
 use Rattle.zone.proofs.physics.matrix.shares_of.Tie as tie
 
-abbrev invariant_loop : tie.invariant-loop
+abbrev invariant_loop : tie.invariant-loop-e
 invariant_loop n area total share₀ e₀ share e = repeat e n (set_term (share_by (at area) total)) share ≡ repeat 0 n (set_term (share_by (at area) total)) share₀
 
-abbrev decreases_loop : tie.decreases-loop
+abbrev decreases_loop : tie.decreases-loop-e
 decreases_loop n area total share₀ e₀ share e = n - e
 
 returns : tie.Need-returns invariant_loop decreases_loop

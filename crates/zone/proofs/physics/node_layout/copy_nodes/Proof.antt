@@ -7,10 +7,10 @@ use borrow.Author.Rules.{rules}
 use Rattle.zone.proofs.physics.node_layout.copy_nodes.Statement.{statement}
 use Rattle.zone.proofs.physics.node_layout.copy_nodes.Tie as tie
 
-abbrev invariant_loop : tie.invariant-loop
+abbrev invariant_loop : tie.invariant-loop-j
 invariant_loop k from to a b₀ j₀ b j = repeat j k (move from to a) b ≡ repeat 0 k (move from to a) b₀
 
-abbrev decreases_loop : tie.decreases-loop
+abbrev decreases_loop : tie.decreases-loop-j
 decreases_loop k from to a b₀ j₀ b j = k - j
 
 returns : tie.Need-returns invariant_loop decreases_loop

@@ -11,18 +11,18 @@ use borrow.Author.Rules.{rules}
 use Rattle.zone.proofs.physics.node_layout.fill_two_nodes.Statement.{statement}
 use Rattle.zone.proofs.physics.node_layout.fill_two_nodes.Tie as tie
 
-abbrev invariant_loop : tie.invariant-loop
+abbrev invariant_loop : tie.invariant-loop-e
 invariant_loop n codes values two_nodes₀ e₀ two_nodes e = let store = set_term (two_nodes_of (elements_in codes values)) in repeat e n store two_nodes ≡ repeat 0 n store two_nodes₀
 
-abbrev decreases_loop : tie.decreases-loop
+abbrev decreases_loop : tie.decreases-loop-e
 decreases_loop n codes values two_nodes₀ e₀ two_nodes e = n - e
 
-loop_again : tie.Need-loop-preserved invariant_loop decreases_loop
-loop_again c = store_turn _ _ _ _ _ _ c.before.before.loop_test.true (c.is_two_nodes.ensures ∙ ap (λ (x : Element). is_two_nodes x.kind) c.before.element_of.ensures) c.before.before.before.loop.invariant
+loop_again : tie.Need-loop-e-preserved invariant_loop decreases_loop
+loop_again c = store_turn _ _ _ _ _ _ c.loop-e-test.true (c.is_two_nodes.ensures ∙ ap (λ (x : Element). is_two_nodes x.kind) c.element_of-el.ensures) c.loop-e.invariant
 
 returns : tie.Need-returns invariant_loop decreases_loop
 unfolding with_terms
-returns c = repeat_end _ _ _ _ _ c.loop_test.false c.before.loop.invariant
+returns c = repeat_end _ _ _ _ _ c.loop-e-test.false c.loop-e.invariant
 
 pub fill_two_nodes_spec : {M : Type 1} → statement M
 fill_two_nodes_spec =

@@ -10,38 +10,38 @@ use borrow.Author.Rules.{rules}
 use Rattle.zone.proofs.physics.node_layout.to_slots.Statement.{statement}
 use Rattle.zone.proofs.physics.node_layout.to_slots.Tie as tie
 
-abbrev invariant_loop : tie.invariant-loop
+abbrev invariant_loop : tie.invariant-loop-e
 invariant_loop count two_nodes temps n slots₀ node₀ e₀ slots node e = (n ≤ 24) × (node ≡ first_node two_nodes e) × (node ≤ 5 * e) × (e ≤ n) × (repeat e n (to_slots_at two_nodes temps) slots ≡ repeat 0 n (to_slots_at two_nodes temps) slots₀)
 
-abbrev decreases_loop : tie.decreases-loop
+abbrev decreases_loop : tie.decreases-loop-e
 decreases_loop count two_nodes temps n slots₀ node₀ e₀ slots node e = n - e
 
-loop_holds : tie.Need-loop-init invariant_loop decreases_loop
+loop_holds : tie.Need-loop-e-init invariant_loop decreases_loop
 unfolding first_node
-loop_holds c = (c.at_most_24.ensures.1, refl, omega arith, omega arith, refl)
+loop_holds c = (c.at_most_24-n.ensures.1, refl, omega arith, omega arith, refl)
 
-loop_again : tie.Need-loop-preserved invariant_loop decreases_loop
-loop_again c = let l = c.before.before.before.before.before.loop in
-    let s = c.before.before.before.before.before.before.before in
-    let n = c.before.before.before.before.before.before.at_most_24.result in
-    let k = c.before.before.nodes_of.ensures in
+loop_again : tie.Need-loop-e-preserved invariant_loop decreases_loop
+loop_again c = let l = c.loop-e in
+    let s = c in
+    let n = c.at_most_24-n.result in
+    let k = c.nodes_of-k.ensures in
     let nodes_is = k.0 ∙ sym (nodes_are s.args.two_nodes.now l.e) in (
       l.invariant.0,
       rw (first_next s.args.two_nodes.now l.e, ← l.invariant.1, ← nodes_is) refl,
       omega (arith, k.1),
-      omega (arith, c.before.before.before.before.loop_test.true),
-      rw (c.copy_nodes.ensures, slot_is s.args.two_nodes.now l.e _ nodes_is, nodes_is, l.invariant.1) (sym (repeat_next (to_slots_at s.args.two_nodes.now s.args.temps.now) l.e n l.slots c.before.before.before.before.loop_test.true) ∙ l.invariant.4),
+      omega (arith, c.loop-e-test.true),
+      rw (c.copy_nodes.ensures, slot_is s.args.two_nodes.now l.e _ nodes_is, nodes_is, l.invariant.1) (sym (repeat_next (to_slots_at s.args.two_nodes.now s.args.temps.now) l.e n l.slots c.loop-e-test.true) ∙ l.invariant.4),
     )
 
 returns : tie.Need-returns invariant_loop decreases_loop
 unfolding to_slots
-returns c = let l = c.before.before.loop in
-    let s = c.before.before.before.before in
-    let n = c.before.before.before.at_most_24.result in
-    let done : l.e ≡ n = omega (arith, c.before.loop_test.false, l.invariant.3) in
+returns c = let l = c.loop-e in
+    let s = c in
+    let n = c.at_most_24-n.result in
+    let done : l.e ≡ n = omega (arith, c.loop-e-test.false, l.invariant.3) in
     let node_is : l.node ≡ first_node s.args.two_nodes.now n = l.invariant.1 ∙ ap (first_node s.args.two_nodes.now) done in
-    let all = sym (repeat_done (to_slots_at s.args.two_nodes.now s.args.temps.now) l.e n l.slots c.before.loop_test.false) ∙ l.invariant.4 in
-    rw (node_is, all, c.before.before.before.at_most_24.ensures.0) refl
+    let all = sym (repeat_done (to_slots_at s.args.two_nodes.now s.args.temps.now) l.e n l.slots c.loop-e-test.false) ∙ l.invariant.4 in
+    rw (node_is, all, c.at_most_24-n.ensures.0) refl
 
 pub to_slots_spec : {M : Type 1} → statement M
 to_slots_spec =

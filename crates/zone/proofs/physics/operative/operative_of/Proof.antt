@@ -8,15 +8,15 @@ use Rattle.zone.proofs.physics.operative.operative_of.Tie as tie
 -- r: where the radiant sum is found
 returns : tie.Need-returns
 returns c =
-    let r = c.before.before.before in
-    let a = c.before.before.before.before.before.before.before.before.before.before.before.args in
+    let r = c in
+    let a = c.args in
     c.mean_of.ensures
     ∙ operative_of_nodes (zone_in a.z a.codes.now a.values.now) a.temps.now
-    _ c.before.before.before.before.before.before.before.before.before.before.two_nodes_of.ensures
-    _ c.before.before.before.before.before.before.before.before.before.areas_of.ensures
-    _ c.before.before.before.before.before.before.before.before.at_most_24.ensures.0
-    _ c.before.before.before.before.before.before.area_total.ensures
-    _ r.radiant_sum_of_nodes.ensures.0 _ r.radiant_sum_of_nodes.ensures.1
+    _ c.two_nodes_of-two_nodes.ensures
+    _ c.areas_of-area.ensures
+    _ c.at_most_24-n.ensures.0
+    _ c.area_total-area_el_total.ensures
+    _ r.radiant_sum_of_nodes-radiant.ensures.0 _ r.radiant_sum_of_nodes-radiant.ensures.1
 
 pub operative_of_spec : {M : Type 1} → statement M
 operative_of_spec =

@@ -8,10 +8,10 @@ use borrow.Author.Rules.{rules}
 use Rattle.zone.proofs.physics.operative.radiant_sum.Statement.{statement}
 use Rattle.zone.proofs.physics.operative.radiant_sum.Tie as tie
 
-abbrev invariant_loop : tie.invariant-loop
+abbrev invariant_loop : tie.invariant-loop-e
 invariant_loop n area t total₀ e₀ total e = sum2_add_all total (terms e n (radiant_at (at area) t)) ≡ sum2_add_all total₀ (terms 0 n (radiant_at (at area) t))
 
-abbrev decreases_loop : tie.decreases-loop
+abbrev decreases_loop : tie.decreases-loop-e
 decreases_loop n area t total₀ e₀ total e = n - e
 
 pub radiant_sum_spec : {M : Type 1} → statement M

@@ -6,7 +6,7 @@ use Rattle.zone.proofs.physics.operative.temp_operative_by_temp_vector.Tie as ti
 
 returns : tie.Need-returns
 unfolding temp_operative_of
-returns c = rw (c.mean_of.ensures, c.before.radiant_sum.ensures, c.before.before.before.at_most_24.ensures.0) refl
+returns c = rw (c.mean_of.ensures, c.radiant_sum.ensures, c.at_most_24-n.ensures.0) refl
 
 pub temp_operative_by_temp_vector_spec : {M : Type 1} → statement M
 temp_operative_by_temp_vector_spec =

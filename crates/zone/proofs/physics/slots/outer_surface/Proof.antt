@@ -4,11 +4,11 @@ use borrow.Author.Rules.{rules}
 use Rattle.zone.proofs.physics.slots.outer_surface.Statement.{statement}
 use Rattle.zone.proofs.physics.slots.outer_surface.Tie as tie
 
-returns : tie.Need-returns
-returns c = rw c.before.if1.true refl
+returns : tie.Need-returns-then-two_nodes
+returns c = rw c.if-two_nodes.true refl
 
-returns_2 : tie.Need-returns-2
-returns_2 c = rw (c.before.if1.false, add-zero) refl
+returns_2 : tie.Need-returns
+returns_2 c = rw (c.if-two_nodes.false, add-zero) refl
 
 pub outer_surface_spec : {M : Type 1} → statement M
 outer_surface_spec =

@@ -6,7 +6,7 @@ use Rattle.zone.proofs.physics.ventilation.calc_vent_heat_transfer_coeff.Tie as 
 
 returns : tie.Need-returns
 unfolding calc_vent_heat_transfer_coeff of_bits decimal
-returns c = rw (c.before.density_kg_per_m3.ensures, c.before.before.air_properties.ensures)
+returns c = rw (c.density_kg_per_m3.ensures, c.air_properties-air.ensures)
 
 pub calc_vent_heat_transfer_coeff_spec : {M : Type 1} → statement M
 calc_vent_heat_transfer_coeff_spec =

@@ -8,8 +8,8 @@ use Rattle.zone.proofs.record.arrays.element_hour_of.Tie as tie
 
 returns : tie.Need-returns
 unfolding element_hour_in
-returns c = let s = c.before.before.before.before.before.before in let a = s.args in
-    rw (c.before.part_of4.ensures, c.before.before.part_of3.ensures, c.before.before.before.part_of2.ensures, c.before.before.before.before.part_of.ensures)
+returns c = let s = c in let a = s.args in
+    rw (c.part_of-4.ensures, c.part_of-3.ensures, c.part_of-2.ensures, c.part_of.ensures)
     (sym (counted_at (element_hour_in a.parts.now a.opens.now) 24 a.e no_element_hour s.requires))
 
 pub element_hour_of_spec : {M : Type 1} → statement M

@@ -8,9 +8,9 @@ use Rattle.zone.proofs.record.arrays.element_of.Tie as tie
 
 returns : tie.Need-returns
 unfolding element_in
-returns c = let t = c.before in let s = t.before.before.before.before in let a = s.args in let codes = a.codes.now in let values = a.values.now in
+returns c = let t = c.before in let s = t in let a = s.args in let codes = a.codes.now in let values = a.values.now in
     ◌∙◌ {b = element_in codes values a.e}
-    (c.element_as.ensures ∙ (λ i. element_as (t.before.before.kind_of.ensures i) (t.count_of.ensures.0 i) codes values a.e))
+    (c.element_as.ensures ∙ (λ i. element_as (t.kind_of-kind.ensures i) (t.count_of-treatments.ensures.0 i) codes values a.e))
     (sym (counted_at (element_in codes values) 24 a.e no_element s.requires))
 
 pub element_of_spec : {M : Type 1} → statement M

@@ -3,7 +3,7 @@ use Rattle.zone.proofs.record.arrays.h_pli_of.Statement.{statement}
 use Rattle.zone.proofs.record.arrays.h_pli_of.Tie as tie
 
 returns : tie.Need-returns
-returns c = rw (c.value_of4.ensures, c.before.value_of3.ensures, c.before.before.value_of2.ensures, c.before.before.before.value_of_lem.ensures)
+returns c = rw (c.value_of-4.ensures, c.value_of-3.ensures, c.value_of-2.ensures, c.value_of.ensures)
 
 pub h_pli_of_spec : {M : Type 1} → statement M
 h_pli_of_spec =

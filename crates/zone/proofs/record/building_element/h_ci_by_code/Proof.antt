@@ -12,8 +12,8 @@ else_down c zero p q = absurd (p refl)
 else_down c (suc zero) p q = absurd (q refl)
 else_down c (suc (suc k)) p q = refl
 
-returns_3 : tie.Need-returns-3
-returns_3 c = else_down c.before.before.args.c c.before.before.args.code c.before.if1.false c.if2.false
+returns_3 : tie.Need-returns
+returns_3 c = else_down c.args.c c.args.code c.if-code-eq0.false c.if-code-eq1.false
 
 pub h_ci_by_code_spec : {M : Type 1} → statement M
 h_ci_by_code_spec = tie.close (tie.spec (λ c. search rules) (λ c. search rules) returns_3)

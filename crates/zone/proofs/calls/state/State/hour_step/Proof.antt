@@ -4,14 +4,14 @@ use borrow.Author.Rules.{rules}
 use Rattle.zone.proofs.calls.state.State.hour_step.Statement.{statement}
 use Rattle.zone.proofs.calls.state.State.hour_step.Tie as tie
 
-returns : tie.Need-returns
-returns c = hour_refused _ _ _ _ _ _ _ c.before.before.before.before.tested_step.ensures _ _ _ c.before.before.verdict.given.1 c.refuse.ensures
+returns : tie.Need-returns-in-Refused
+returns c = hour_refused _ _ _ _ _ _ _ c.tested_step-read.ensures _ _ _ c.in-Refused.is c.refuse.ensures
 
-returns_2 : tie.Need-returns-2
+returns_2 : tie.Need-returns
 returns_2 c =
-    let h = c.before.before.before.before.before in
-    let t = h.before.before.before.before.before in
-    hour_replied _ _ _ _ _ _ _ t.before.before.before.before.tested_step.ensures t.before.before.enum_told.given.1 _ _ _ _ t.slots_of.ensures h.hour_in.ensures c.hour_step_reply.ensures
+    let h = c in
+    let t = h in
+    hour_replied _ _ _ _ _ _ _ t.tested_step-read.ensures t.in-Accepted.is _ _ _ _ t.slots_of-t.ensures h.hour_in-demand.ensures c.hour_step_reply.ensures
 
 pub hour_step_spec : {M : Type 1} → statement M
 hour_step_spec =

@@ -4,18 +4,18 @@ use borrow.Author.Rules.{rules}
 use Rattle.zone.proofs.calls.state.State.next_hour_kept.Statement.{statement}
 use Rattle.zone.proofs.calls.state.State.next_hour_kept.Tie as tie
 
-returns : tie.Need-returns
-returns c = let read = c.before.before.before.before.tested_hour_and_limits.ensures in let e = c.before.before.verdict.given.1 in
+returns : tie.Need-returns-in-Refused
+returns c = let read = c.tested_hour_and_limits-read.ensures in let e = c.in-Refused.is in
     (held_refused _ _ _ _ _ _ _ _ _ _ read _ _ e _, from_refused _ _ _ _ _ _ _ _ _ _ read _ _ e _ _ c.refuse_demand.ensures)
 
-returns_2 : tie.Need-returns-2
+returns_2 : tie.Need-returns
 returns_2 c =
-    let f = c.before.before.hour_kept.ensures in
-    let t = c.before.before.before.before.before.before.before.before.before.before.before.before.before.before.before.before.before in
-    let read = t.before.before.before.tested_hour_and_limits.ensures in
-    let e = t.before.enum_told.given.1 in (
-      held_accepted _ _ _ _ _ _ _ _ _ _ read e _ t.slots_of.ensures _ _ f.0,
-      from_accepted _ _ _ _ _ _ _ _ _ _ read e _ t.slots_of.ensures _ _ f.1 _ c.hour_reply.ensures,
+    let f = c.hour_kept-demand.ensures in
+    let t = c in
+    let read = t.tested_hour_and_limits-read.ensures in
+    let e = t.in-Accepted.is in (
+      held_accepted _ _ _ _ _ _ _ _ _ _ read e _ t.slots_of-t.ensures _ _ f.0,
+      from_accepted _ _ _ _ _ _ _ _ _ _ read e _ t.slots_of-t.ensures _ _ f.1 _ c.hour_reply.ensures,
     )
 
 pub next_hour_kept_spec : {M : Type 1} → statement M

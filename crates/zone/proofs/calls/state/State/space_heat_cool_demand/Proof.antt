@@ -4,12 +4,12 @@ use borrow.Author.Rules.{rules}
 use Rattle.zone.proofs.calls.state.State.space_heat_cool_demand.Statement.{statement}
 use Rattle.zone.proofs.calls.state.State.space_heat_cool_demand.Tie as tie
 
-returns : tie.Need-returns
-returns c = asked_refused _ _ _ _ _ c.before.before.before.before.tested.ensures _ _ _ c.before.before.verdict.given.1 c.refuse_demand.ensures
+returns : tie.Need-returns-in-Refused
+returns c = asked_refused _ _ _ _ _ c.tested-read.ensures _ _ _ c.in-Refused.is c.refuse_demand.ensures
 
-returns_2 : tie.Need-returns-2
-returns_2 c = let t = c.before.before.before.before.before in
-    asked_accepted _ _ _ _ _ t.before.before.before.tested.ensures t.before.enum_told.given.1 _ _ _ _ t.slots_of.ensures c.hour_in.ensures
+returns_2 : tie.Need-returns
+returns_2 c = let t = c in
+    asked_accepted _ _ _ _ _ t.tested-read.ensures t.in-Accepted.is _ _ _ _ t.slots_of-t.ensures c.hour_in-demand.ensures
 
 pub space_heat_cool_demand_spec : {M : Type 1} → statement M
 space_heat_cool_demand_spec =

@@ -3,11 +3,11 @@ use borrow.Author.Rules.{rules}
 use Rattle.zone.proofs.calls.state.State.temp_operative.Statement.{statement}
 use Rattle.zone.proofs.calls.state.State.temp_operative.Tie as tie
 
-returns : tie.Need-returns
-returns c = operative_refused _ _ _ c.before.before.before.zone_and_state_test.ensures _ _ c.before.verdict.given.1
+returns : tie.Need-returns-in-Refused
+returns c = operative_refused _ _ _ c.zone_and_state_test-verdict.ensures _ _ c.in-Refused.is
 
-returns_2 : tie.Need-returns-2
-returns_2 c = operative_accepted _ _ _ c.before.before.before.before.before.zone_and_state_test.ensures c.before.before.before.enum_told.given.1 _ c.operative_of.ensures
+returns_2 : tie.Need-returns-in-Accepted
+returns_2 c = operative_accepted _ _ _ c.zone_and_state_test-verdict.ensures c.in-Accepted.is _ c.operative_of.ensures
 
 pub temp_operative_spec : {M : Type 1} → statement M
 temp_operative_spec =

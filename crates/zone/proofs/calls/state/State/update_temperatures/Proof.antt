@@ -4,19 +4,19 @@ use borrow.Author.Rules.{rules}
 use Rattle.zone.proofs.calls.state.State.update_temperatures.Statement.{statement}
 use Rattle.zone.proofs.calls.state.State.update_temperatures.Tie as tie
 
-returns : tie.Need-returns
-returns c = update_refused _ _ _ _ _ c.before.before.before.before.tested.ensures _ _ _ _ _ _ c.before.before.verdict.given.1 c.refuse.ensures
+returns : tie.Need-returns-in-Refused
+returns c = update_refused _ _ _ _ _ c.tested-read.ensures _ _ _ _ _ _ c.in-Refused.is c.refuse.ensures
 
 -- back from either end: the test of the load, the tests of the rest
-returns_2 : tie.Need-returns-2
+returns_2 : tie.Need-returns-then-load_in_range
 returns_2 c =
-    let l = c.before.before.before.before in
-    update_in_lem _ _ _ _ _ l.before.before.before.tested.ensures _ _ _ l.before.enum_told.given.1 _ l.load_in_range.ensures _ c.before.before.before.if1.true c.step.ensures
+    let l = c in
+    update_in_lem _ _ _ _ _ l.tested-read.ensures _ _ _ l.in-Accepted.is _ l.load_in_range.ensures _ c.if-load_in_range.true c.step.ensures
 
-returns_3 : tie.Need-returns-3
+returns_3 : tie.Need-returns
 returns_3 c =
-    let l = c.before.before in
-    update_out_lem _ _ _ _ _ l.before.before.before.tested.ensures _ _ _ l.before.enum_told.given.1 _ l.load_in_range.ensures _ c.before.if1.false c.refuse2.ensures
+    let l = c in
+    update_out_lem _ _ _ _ _ l.tested-read.ensures _ _ _ l.in-Accepted.is _ l.load_in_range.ensures _ c.if-load_in_range.false c.refuse-2.ensures
 
 pub update_temperatures_spec : {M : Type 1} → statement M
 update_temperatures_spec =
