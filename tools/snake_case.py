@@ -18,7 +18,7 @@ TO_TURN = re.compile(r"[-A-Z]")
 TOKEN = re.compile(r"[^\s(){}\[\];,.@\"`«»:]+|«[^»]*»|.|\n", re.S)
 USE = re.compile(r"^(?:pub )?(?:ghost )?use ([^\s;{]+?)(?:\.\{([^}]*)\}| as ([^\s;]+))?;?$", re.M)
 # names that are chosen: a fact that was spelled as a value, and where two would fall together
-CHOSEN = {"wellFormed": "WellFormed", "allTrue": "all_true_tested", "notMade": "not_made_event", "nan-bits": "nan_bits_lem"}
+CHOSEN = {"wellFormed": "PlainFormed", "allTrue": "all_true_tested", "notMade": "not_made_event", "nan-bits": "nan_bits_lem"}
 # what C's functions leave: beside the functions' own names, which the claims' fields have
 OUTCOME = re.compile(r"hem(Head|StartUp|Operative|Demand|Why|Update|HourStep|Begin|Append|TakeUp|FirstAbove|HoursWithin|NearestHour|Weather)")
 # lemmas that are in snake case already and would have the name of a definition

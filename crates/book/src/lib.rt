@@ -1,4 +1,6 @@
 // The year book: begin, append and take up, on lent bytes; and what is read of a book.
+#![tactic(auto)]
+
 mod book;
 mod bytes;
 mod checked_entry;

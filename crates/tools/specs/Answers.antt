@@ -3,9 +3,7 @@ use Rattle.std.specs.Prelude.{ℕ}
 use Rattle.std.proofs.Math.Option.{Option, none, some}
 use Rattle.zone.specs.Promise.{Result, ok, refused}
 use Rattle.tools.specs.declared.replies.HourReply.{HourReply}
-use Rattle.tools.specs.declared.replies.HourReply.TheVariants as HourReply
 use Rattle.tools.specs.declared.replies.HoursReply.{HoursReply}
-use Rattle.tools.specs.declared.replies.HoursReply.TheVariants as HoursReply
 
 abbrev pub hour_reply : Result (Option ℕ) → HourReply
 hour_reply (ok none) = HourReply.NoHour

@@ -1,4 +1,6 @@
 // Questions over a year book, each of which takes the book's bytes up itself.
+#![tactic(auto)]
+
 mod above;
 mod hours;
 mod nearest;

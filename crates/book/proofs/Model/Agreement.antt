@@ -17,7 +17,7 @@ use Rattle.book.specs.Model.Interface.{Interface}
 use Rattle.book.proofs.Model.InterfaceLaws.{Laws}
 use Rattle.book.specs.Model.Calls.{BookState, accepted, begin, begin_res, whole_entries, check_entries, take_up, take_up_res}
 use Rattle.book.specs.Model.Plain.{Plain, book, Snapshot, Contents, last_state, entries_of, contents_of, used_bytes, own_book_state, snapshot, begin_plain, WellFormed}
-use Rattle.book.proofs.Model.Formed.{WellFormed}
+use Rattle.book.proofs.Model.Formed.{PlainFormed}
 use Rattle.book.specs.Model.PlainTakeUp.{take_up_plain}
 use Rattle.book.specs.Model.Run.{written, plain_outcome, plain_event}
 use Rattle.book.specs.Model.Session.{after_begin, after_take_up}
@@ -56,11 +56,11 @@ module _ (L : Interface) (W : Laws L) where
   pub head_on : (head : List ℕ) (is : List L.Item) (S : WellFormed L head is) (cs : List ℕ) → L.head_of (head ++ cs) ≡ ok (record { zone = S.contents.zone; length = length head })
   head_on head is S cs = rw take-length at (W.head_own head cs _ S.head_is)
 
-  module _ (p : Plain L.Item) (pp : WellFormed L p) (g : BookState L.State) where
+  module _ (p : Plain L.Item) (pp : PlainFormed L p) (g : BookState L.State) where
     abbrev pub Begins : List ℕ → List ℕ → Type 0
     Begins head buf =
         (after_begin L (snapshot L p) (begin L head g buf) ≡ plain_event L (plain_outcome L g (some buf) p (begin_plain L head buf)))
-        × WellFormed L (plain_outcome L g (some buf) p (begin_plain L head buf)).next
+        × PlainFormed L (plain_outcome L g (some buf) p (begin_plain L head buf)).next
 
     pub begin_agrees : (head buf : List ℕ) → Begins head buf
     unfolding begin begin_res begin_plain plain_event entries_of snapshot contents_of
@@ -98,7 +98,7 @@ module _ (L : Interface) (W : Laws L) where
     abbrev pub Takes : List ℕ → Type 0
     Takes bytes =
         (after_take_up L (snapshot L p) bytes (take_up L g bytes) ≡ plain_event L (plain_outcome L g none p (take_up_plain L bytes)))
-        × WellFormed L (plain_outcome L g none p (take_up_plain L bytes)).next
+        × PlainFormed L (plain_outcome L g none p (take_up_plain L bytes)).next
 
     pub take_up_agrees : (bytes : List ℕ) → Takes bytes
     unfolding take_up take_up_res take_up_plain plain_event

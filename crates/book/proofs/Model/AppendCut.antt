@@ -18,7 +18,7 @@ use Rattle.book.specs.Model.Interface.{Interface, Written}
 use Rattle.book.proofs.Model.InterfaceLaws.{Laws}
 use Rattle.book.specs.Model.Calls.{BookState, accepted, append, append_res, whole_entries, take_up}
 use Rattle.book.specs.Model.Plain.{Plain, book, Snapshot, entry_bytes, last_state, entries_of, contents_of, used_bytes, own_book_state, snapshot, append_plain, items_ending_by, cut_plain, WellFormed}
-use Rattle.book.proofs.Model.Formed.{WellFormed}
+use Rattle.book.proofs.Model.Formed.{PlainFormed}
 use Rattle.book.specs.Model.PlainTakeUp.{test_entries, take_up_plain}
 use Rattle.book.specs.Model.Run.{Call, call_append, call_cut, written, plain_outcome, plain_make, plain_event}
 use Rattle.book.specs.Model.Session.{after_append, after_take_up}
@@ -31,7 +31,7 @@ use Rattle.book.proofs.Model.Agreement.{contents_is, snapshot_is, outcome_ok, he
 module _ (L : Interface) (W : Laws L) where
   -- the event of a call on what is seen of a plain book is the plain book's, and it leaves a well-formed one
   abbrev pub Agrees : Plain L.Item → Call L.State L.Item → Type 0
-  Agrees p c = (make L (snapshot L p) c ≡ plain_event L (plain_make L p c)) × WellFormed L (plain_make L p c).next
+  Agrees p c = (make L (snapshot L p) c ≡ plain_event L (plain_make L p c)) × PlainFormed L (plain_make L p c).next
 
   module _ (head : List ℕ) (is : List L.Item) (S : WellFormed L head is) where
     abbrev pub used_of : List ℕ

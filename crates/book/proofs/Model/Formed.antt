@@ -2,6 +2,6 @@
 use Rattle.book.specs.Model.Interface.{Interface}
 use Rattle.book.specs.Model.Plain.{Plain, empty, book, WellFormed}
 
-abbrev pub WellFormed : (L : Interface) → Plain L.Item → Type 0
-WellFormed L empty = Unit {0}
-WellFormed L (book head is) = WellFormed L head is
+abbrev pub PlainFormed : (L : Interface) → Plain L.Item → Type 0
+PlainFormed L empty = Unit {0}
+PlainFormed L (book head is) = WellFormed L head is

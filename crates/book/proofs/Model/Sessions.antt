@@ -13,7 +13,7 @@ use Rattle.zone.proofs.Promise.{and_true}
 use Rattle.book.specs.Model.Interface.{Interface}
 use Rattle.book.specs.Model.Calls as Book
 use Rattle.book.specs.Model.Plain.{Plain, empty, book, Snapshot, snapshot, WellFormed}
-use Rattle.book.proofs.Model.Formed.{WellFormed}
+use Rattle.book.proofs.Model.Formed.{PlainFormed}
 use Rattle.book.specs.Model.Run.{Call, call_begin, call_append, call_take_up, call_cut, Calls, Event, plain_make, plain_event, plain_run}
 use Rattle.book.specs.Model.Session.{CodeTypes, CallSpec, HeldBook, after_begin, after_take_up, after_append, returned, Made, begins, takes_up, appends, cuts, Session, ends, calls}
 use Rattle.book.specs.Model.Claims.{Demand3, Admissible, SessionFrom}
@@ -125,7 +125,7 @@ module _ (L : Interface) (T : CodeTypes L) (C : CodeLaws L T) where
   -- ---- the whole list
 
   module _ (W : Laws L) where
-    only : {h : HeldBook L} {cs : Calls L} {es : List (Event L.State)} → Session L T h cs es → (p : Plain L.Item) → WellFormed L p → h ≡ snapshot L p
+    only : {h : HeldBook L} {cs : Calls L} {es : List (Event L.State)} → Session L T h cs es → (p : Plain L.Item) → PlainFormed L p → h ≡ snapshot L p
         → Admissible L (plain_run L p cs) × (es ≡ plain_run L p cs)
     unfolding plain_run plain_event
     only (ends h) p pp q = (tt, refl)
@@ -136,7 +136,7 @@ module _ (L : Interface) (T : CodeTypes L) (C : CodeLaws L T) where
         let x = has_answer m in
         (((x.0, sym (ap (λ y. y.answer) is) ∙ x.1), r.0), (λ t. is t ∷ r.1 t))
 
-    exists : (p : Plain L.Item) → WellFormed L p → (cs : Calls L) → Admissible L (plain_run L p cs) → Session L T (snapshot L p) cs (plain_run L p cs)
+    exists : (p : Plain L.Item) → PlainFormed L p → (cs : Calls L) → Admissible L (plain_run L p cs) → Session L T (snapshot L p) cs (plain_run L p cs)
     unfolding plain_run plain_event
     exists p pp [] m = ends (snapshot L p)
     exists p pp (c ∷ cs) m =
@@ -145,7 +145,7 @@ module _ (L : Interface) (T : CodeTypes L) (C : CodeLaws L T) where
         (subst (Made L T (snapshot L p) c) a.0 (may_be (snapshot L p) c (m.0.0, ap (λ x. x.answer) a.0 ∙ m.0.1)))
         (exists (plain_make L p c).next a.1 cs m.1)
 
-    session_of : (p : Plain L.Item) → WellFormed L p → SessionFrom L T p
+    session_of : (p : Plain L.Item) → PlainFormed L p → SessionFrom L T p
     session_of p pp cs es =
         (λ s. only s p pp refl, λ x. subst (Session L T (snapshot L p) cs) (sym x.1) (exists p pp cs x.0))
 

@@ -4,7 +4,7 @@ use mathlib.Core.List.{[], ◌∷◌}
 use Rattle.book.specs.Model.Interface.{Interface}
 use Rattle.book.proofs.Model.InterfaceLaws.{Laws}
 use Rattle.book.specs.Model.Plain.{Plain, empty, book, snapshot}
-use Rattle.book.proofs.Model.Formed.{WellFormed}
+use Rattle.book.proofs.Model.Formed.{PlainFormed}
 use Rattle.book.specs.Model.Run.{Call, call_begin, call_append, call_take_up, call_cut, Calls, plain_make, plain_event, plain_after}
 use Rattle.book.proofs.Model.Caller.{make}
 use Rattle.book.specs.Model.Claims.{WellFormedAfter}
@@ -12,7 +12,7 @@ use Rattle.book.proofs.Model.Agreement.{begin_agrees, take_up_agrees}
 use Rattle.book.proofs.Model.AppendCut.{Agrees, append_agrees, cut_agrees}
 
 module _ (L : Interface) (W : Laws L) where
-  pub agrees : (p : Plain L.Item) → WellFormed L p → (c : Call L.State L.Item) → Agrees L W p c
+  pub agrees : (p : Plain L.Item) → PlainFormed L p → (c : Call L.State L.Item) → Agrees L W p c
   unfolding make plain_make plain_event snapshot
   agrees p pp (call_begin head g buf) = begin_agrees L W p pp g head buf
   agrees p pp (call_take_up g bytes) = take_up_agrees L W p pp g bytes
@@ -22,10 +22,10 @@ module _ (L : Interface) (W : Laws L) where
   agrees (book head is) S (call_cut at) = cut_agrees L W head is S at
 
   -- the plain book after a list of calls is well-formed
-  pub after_formed : (p : Plain L.Item) → WellFormed L p → (cs : Calls L) → WellFormed L (plain_after L p cs)
+  pub after_formed : (p : Plain L.Item) → PlainFormed L p → (cs : Calls L) → PlainFormed L (plain_after L p cs)
   unfolding plain_after
   after_formed p pp [] = pp
   after_formed p pp (c ∷ cs) = after_formed (plain_make L p c).next (agrees p pp c).1 cs
 
   pub well_formed_after : WellFormedAfter L
-  well_formed_after cs head is e = subst (WellFormed L) e (after_formed empty tt cs)
+  well_formed_after cs head is e = subst (PlainFormed L) e (after_formed empty tt cs)

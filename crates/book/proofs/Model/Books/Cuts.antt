@@ -17,7 +17,7 @@ use Rattle.book.specs.Model.Interface.{Interface, Written}
 use Rattle.book.proofs.Model.InterfaceLaws.{Laws}
 use Rattle.book.specs.Model.Calls.{BookState, Answer, accepted, refused_with, append, take_up}
 use Rattle.book.specs.Model.Plain.{Plain, empty, book, entry_bytes, last_state, entries_of, contents_of, snapshot, append_plain, items_ending_by, WellFormed}
-use Rattle.book.proofs.Model.Formed.{WellFormed}
+use Rattle.book.proofs.Model.Formed.{PlainFormed}
 use Rattle.book.specs.Model.PlainTakeUp.{take_up_plain}
 use Rattle.book.specs.Model.Run.{call_append, call_cut, plain_outcome, plain_make, plain_event, plain_run, plain_after}
 use Rattle.book.specs.Model.Claims.{appends_of, AllAccepted, HaveRoom, OfBook}
@@ -35,7 +35,7 @@ module _ (L : Interface) (W : Laws L) where
   unfolding plain_event
   take_up_answer g bytes = ap (λ e. e.answer) (take_up_agrees L W empty tt g bytes).0
 
-  pub take_up_formed : (bytes : List ℕ) (q : Plain L.Item) → take_up_plain L bytes ≡ ok q → BookState L.State → WellFormed L q
+  pub take_up_formed : (bytes : List ℕ) (q : Plain L.Item) → take_up_plain L bytes ≡ ok q → BookState L.State → PlainFormed L q
   take_up_formed bytes q e g = rw e at (take_up_agrees L W empty tt g bytes).1
 
   pub take_up_ok : (g : BookState L.State) (bytes : List ℕ) (head : List ℕ) (is : List L.Item) → take_up_plain L bytes ≡ ok (book head is)
@@ -101,14 +101,14 @@ module _ (L : Interface) (W : Laws L) where
   adds_all head is S [] a = ap (book head) (sym (append-nil is))
   adds_all head is S (p ∷ ps) a =
       let n = adds head is S p.0 p.1 a.0.0 a.0.1 in
-      let S' : WellFormed L head (is ++ (p.0 ∷ [])) = subst (WellFormed L) n (agrees L W (book head is) S (call_append p.0 p.1)).1 in
+      let S' : WellFormed L head (is ++ (p.0 ∷ [])) = subst (PlainFormed L) n (agrees L W (book head is) S (call_append p.0 p.1)).1 in
       ap (λ x. plain_after L x (appends_of L ps)) n
       ∙ adds_all head (is ++ (p.0 ∷ [])) S' ps (subst (λ x. AllAccepted L (plain_run L x (appends_of L ps))) n a.1)
       ∙ ap (book head) (append_assoc is (p.0 ∷ []) (map (λ x. x.0) ps))
 
   formed_after : (head : List ℕ) (is : List L.Item) (S : WellFormed L head is) (at : ℕ) → length head ≤ at → at ≤ length (used_of L W head is S)
       → WellFormed L head (kept_items L W head is S at)
-  formed_after head is S at lo hi = subst (WellFormed L) (cut_next head is S at lo hi) (agrees L W (book head is) S (call_cut at)).1
+  formed_after head is S at lo hi = subst (PlainFormed L) (cut_next head is S at lo hi) (agrees L W (book head is) S (call_cut at)).1
 
   held_again : (head : List ℕ) (is : List L.Item) (S : WellFormed L head is) (at : ℕ) → length head ≤ at → at ≤ length (used_of L W head is S)
       → (ps : List (L.Item × List ℕ)) → kept_items L W head is S at ++ map (λ p. p.0) ps ≡ is

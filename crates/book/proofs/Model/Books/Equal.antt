@@ -15,7 +15,7 @@ use Rattle.book.proofs.Model.Laws.Entries.{Entries, bytes_of, entries_cons}
 use Rattle.book.proofs.Model.Laws.Decode.{whole_none, whole_some, length_nil}
 use Rattle.book.proofs.Model.Agreement.{contents_is, snapshot_for, snapshot_is, head_on}
 use Rattle.book.proofs.Model.Whole.{after_formed}
-use Rattle.book.proofs.Model.Formed.{WellFormed}
+use Rattle.book.proofs.Model.Formed.{PlainFormed}
 use Rattle.book.proofs.Model.Laws.Bytes.{some_inj}
 
 module _ (L : Interface) (W : Laws L) where
@@ -70,8 +70,8 @@ module _ (L : Interface) (W : Laws L) where
   -- the books of two lists of calls
   pub two_books : TwoBooks L
   two_books cs cs' head head' is is' e e' v v' h h' =
-      let S : WellFormed L head is = subst (WellFormed L) e (after_formed L W empty tt cs) in
-      let S' : WellFormed L head' is' = subst (WellFormed L) e' (after_formed L W empty tt cs') in
+      let S : WellFormed L head is = subst (PlainFormed L) e (after_formed L W empty tt cs) in
+      let S' : WellFormed L head' is' = subst (PlainFormed L) e' (after_formed L W empty tt cs') in
       let q : v ≡ snapshot_for L head is S = some_inj (sym h ∙ snapshot_is L head is S) in
       let q' : v' ≡ snapshot_for L head' is' S' = some_inj (sym h' ∙ snapshot_is L head' is' S') in
       let b = equal_books head head' is is' S S' in (

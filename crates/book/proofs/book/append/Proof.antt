@@ -3,10 +3,10 @@ use borrow.Author.Rules.{rules}
 use Rattle.book.proofs.book.append.Statement.{statement}
 use Rattle.book.proofs.book.append.Tie as tie
 
-append_tested_requires : tie.Need-append-tested-requires
+append_tested_requires : tie.Need-append_tested-requires
 append_tested_requires c κs = search zone_passed
 
-returns : tie.Need-returns
+returns : tie.Need-returns-in-Refused
 returns c = search append_zone_lem
 
 pub append_spec : {M : Type 1} → statement M

@@ -5,19 +5,19 @@ use borrow.Author.Rules.{rules}
 use Rattle.book.proofs.book.append_entry.Statement.{statement}
 use Rattle.book.proofs.book.append_entry.Tie as tie
 
-whole_length_requires : tie.Need-whole-length-requires
+whole_length_requires : tie.Need-whole_length-length-requires
 whole_length_requires c κs = search tested_few
 
-put_hour_requires : tie.Need-put-hour-requires
+put_hour_requires : tie.Need-put_hour-requires
 put_hour_requires c κs = (search tested_few, search (step_size, part_length), search append_room)
 
-add_end : tie.Need-overflow-add-end
+add_end : tie.Need-overflow_add-end
 add_end c = search (rules, append_sum)
 
-returns : tie.Need-returns
+returns : tie.Need-returns-then-has_room
 returns c = search append_cases
 
-returns_2 : tie.Need-returns-2
+returns_2 : tie.Need-returns-else-has_room
 returns_2 c = search append_cases
 
 pub append_entry_spec : {M : Type 1} → statement M

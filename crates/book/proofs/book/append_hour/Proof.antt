@@ -4,19 +4,19 @@ use borrow.Author.Rules.{rules}
 use Rattle.book.proofs.book.append_hour.Statement.{statement}
 use Rattle.book.proofs.book.append_hour.Tie as tie
 
-append_entry_requires : tie.Need-append-entry-requires
+append_entry_requires : tie.Need-append_entry-requires
 append_entry_requires c κs =
-    let h = c.before.before.before.before in
-    let s = h.before.before.before.before in
+    let h = c in
+    let s = h in
     let l = s.well_formed.1.1.1.1.1.1.0 in
-    (s.requires.0, s.requires.1, append_given _ s.args.given _ _ _ s.args.buf.now s.requires.0 s.requires.1 s.requires.2 (passes _ l.1.1.0.1) (passes _ l.1.1.1.0.1) _ h.next_hour.ensures _ c.before.before.a2.given.1)
+    (s.requires.0, s.requires.1, append_given _ s.args.given _ _ _ s.args.buf.now s.requires.0 s.requires.1 s.requires.2 (passes _ l.1.1.0.1) (passes _ l.1.1.1.0.1) _ h.next_hour-x.ensures _ c.in-Accepted.is)
 
-returns : tie.Need-returns
+returns : tie.Need-returns-in-Refused
 returns c =
-    let h = c.before.before.before.before in
-    let s = h.before.before.before.before in
+    let h = c in
+    let s = h in
     let l = s.well_formed.1.1.1.1.1.1.0 in
-    append_hour_lem _ _ _ _ _ _ s.requires.0 s.requires.1 s.requires.2 (passes _ l.1.1.0.1) (passes _ l.1.1.1.0.1) _ h.next_hour.ensures _ _ _ c.refuse.ensures c.before.before.a.given.1
+    append_hour_lem _ _ _ _ _ _ s.requires.0 s.requires.1 s.requires.2 (passes _ l.1.1.0.1) (passes _ l.1.1.1.0.1) _ h.next_hour-x.ensures _ _ _ c.refuse.ensures c.in-Refused.is
 
 pub append_hour_spec : {M : Type 1} → statement M
 append_hour_spec =

@@ -4,13 +4,13 @@ use borrow.Author.Rules.{rules}
 use Rattle.book.proofs.book.append_tested.Statement.{statement}
 use Rattle.book.proofs.book.append_tested.Tie as tie
 
-returns : tie.Need-returns
+returns : tie.Need-returns-then-given-ge-MOST_ENTRIES
 returns c = search append_cases
 
-append_hour_requires : tie.Need-append-hour-requires
-append_hour_requires c κs = let m = c.before.before in (m.before.before.before.before.before.requires, m.before.if1.false, sym m.may_follow.ensures ∙ c.before.if2.true)
+append_hour_requires : tie.Need-append_hour-requires
+append_hour_requires c κs = let m = c in (m.requires, m.if-given-ge-MOST_ENTRIES.false, sym m.may_follow.ensures ∙ c.if-may_follow.true)
 
-returns_3 : tie.Need-returns-3
+returns_3 : tie.Need-returns
 returns_3 c = search append_cases
 
 pub append_tested_spec : {M : Type 1} → statement M

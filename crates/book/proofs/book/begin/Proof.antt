@@ -4,19 +4,19 @@ use borrow.Author.Rules.{rules}
 use Rattle.book.proofs.book.begin.Statement.{statement}
 use Rattle.book.proofs.book.begin.Tie as tie
 
-returns : tie.Need-returns
+returns : tie.Need-returns-then-buf-n
 returns c = search begin_cases
 
 copy_requires : tie.Need-copy-requires
 copy_requires c κs = (search head_inside, search rules)
 
-returns_2 : tie.Need-returns-2
+returns_2 : tie.Need-returns-in-Refused
 returns_2 c = search begin_cases
 
-returns_3 : tie.Need-returns-3
+returns_3 : tie.Need-returns-in-Refused-w
 returns_3 c = search begin_cases
 
-returns_4 : tie.Need-returns-4
+returns_4 : tie.Need-returns-else-buf-n
 returns_4 c = search begin_cases
 
 pub begin_spec : {M : Type 1} → statement M

@@ -8,27 +8,27 @@ use borrow.Author.Rules.{rules}
 use Rattle.book.proofs.bytes.copy.Statement.{statement}
 use Rattle.book.proofs.bytes.copy.Tie as tie
 
-abbrev invariant_loop : tie.invariant-loop
+abbrev invariant_loop : tie.invariant-loop-i
 invariant_loop src count b₀ at i₀ b i = (i ≤ count) × (length b ≡ length b₀) × (b ≡ paste b₀ at src i)
 
-abbrev decreases_loop : tie.decreases-loop
+abbrev decreases_loop : tie.decreases-loop-i
 decreases_loop src count b₀ at i₀ b i = count - i
 
-loop_holds : tie.Need-loop-init invariant_loop decreases_loop
+loop_holds : tie.Need-loop-i-init invariant_loop decreases_loop
 loop_holds c = (omega arith, refl, paste-zero c.args.b.now c.args.at c.args.src.now)
 
-loop_again : tie.Need-loop-preserved invariant_loop decreases_loop
+loop_again : tie.Need-loop-i-preserved invariant_loop decreases_loop
 loop_again c =
-    let a = c.before.before.before in
-    (omega arith, simp length-set (omega arith), copy_more a.args.b.now a.args.at a.args.src.now a.args.count a.requires.1 a.requires.0 _ _ c.before.before.loop.invariant.2 (search))
+    let a = c in
+    (omega arith, simp length-set (omega arith), copy_more a.args.b.now a.args.at a.args.src.now a.args.count a.requires.1 a.requires.0 _ _ c.loop-i.invariant.2 (search))
 
-same_length : tie.Need-same-length invariant_loop decreases_loop
-same_length c = c.before.loop.invariant.1
+same_length : tie.Need-shape_of-b invariant_loop decreases_loop
+same_length c = c.loop-i.invariant.1
 
 returns : tie.Need-returns invariant_loop decreases_loop
 returns c =
-    let a = c.before.before in
-    let l = c.before.loop in
+    let a = c in
+    let l = c.loop-i in
     copy_done a.args.b.now a.args.at a.args.src.now a.args.count a.requires.1 a.requires.0 l.b l.i l.invariant.2 (search) (search)
 
 pub copy_spec : {M : Type 1} → statement M

@@ -5,24 +5,24 @@ use mathlib.Core.Path.{refl, sym, ◌∙◌}
 use Rattle.book.proofs.checked_entry.check_entry.Statement.{statement}
 use Rattle.book.proofs.checked_entry.check_entry.Tie as tie
 
-check_hour_requires : tie.Need-check-hour-requires
+check_hour_requires : tie.Need-check_hour-requires
 check_hour_requires c κs =
-    let t = c.before.before.before.before.before.before.before.before.before.before in
-    let m = t.before in
-    let s = m.before.before.before in
-    let follows = sym m.may_follow.ensures ∙ t.if1.taken in
-    (s.pre.0, entry_known _ _ _ s.pre.1 _ refl follows, s.pre.2, follows)
+    let t = c in
+    let m = t in
+    let s = m in
+    let follows = sym m.may_follow.ensures ∙ t.if-may_follow.true in
+    (s.requires.0, entry_known _ _ _ s.requires.1 _ refl follows, s.requires.2, follows)
 
-returns : tie.Need-returns
+returns : tie.Need-returns-then-may_follow
 returns c = let e = c.check_hour.ensures in (entry_by_hour _ _ _ _ _ _ refl _ e.0, e.1)
 
-returns_2 : tie.Need-returns-2
+returns_2 : tie.Need-returns
 returns_2 c =
-    let t = c.before in
-    let m = t.before in
-    (entry_not_next _ _ _ _ _ _ refl _ m.may_follow.ensures t.if1.left _ c.false_entry_lem.ensures, m.before.before.before.pre.2)
+    let t = c in
+    let m = t in
+    (entry_not_next _ _ _ _ _ _ refl _ m.may_follow.ensures t.if-may_follow.false _ c.false_entry.ensures, m.requires.2)
 
 pub check_entry_spec : {M : Type 1} → statement M
 check_entry_spec =
     tie.close
-    (tie.spec (λ c. omega (arith, entry_front _ _ c.before.before.pre.1)) (λ c. omega (arith, c.shared_slice_known2.given length_size)) (λ c κs. tt) check_hour_requires returns (λ c κs. tt) returns_2)
+    (tie.spec (λ c. omega (arith, entry_front _ _ c.requires.1)) (λ c. omega (arith, c.shared_slice_known-2-1.given length_size)) (λ c κs. tt) check_hour_requires returns (λ c κs. tt) returns_2)

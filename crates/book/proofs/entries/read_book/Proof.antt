@@ -8,41 +8,41 @@ use Rattle.book.proofs.entries.read_book.Statement.{statement}
 use Rattle.book.proofs.entries.read_book.Tie as tie
 
 -- h: at the head; u: at the start-up; a: where the head is accepted; b: where the start-up is
-check_entries_requires : tie.Need-check-entries-requires
+check_entries_requires : tie.Need-check_entries-reply-requires
 check_entries_requires c κs =
-    let u = c.before.before.before.before.before.before.before.before.before.before.before.before.before.before.before in
-    let a = u.before.before.before.before.before.before.before.before.before.before.before.before.before.before in
-    let h = u.before.before.before.before.before.before.before.before.before.before.before.before.before.before.before.before in
-    let b = c.before.before.before.before.before.before.before.before.before.before.before.before.before in
-    let f = u.start_up_lent.ensures in
-    (start_up_passed _ _ f.1 b.enum_told2.given.1, head_inside _ _ _ _ h.read_head.ensures.0 a.enum_told.given.1, none_kept_in _ _ f.0)
+    let u = c in
+    let a = u in
+    let h = u in
+    let b = c in
+    let f = u.start_up_lent-s.ensures in
+    (start_up_passed _ _ f.1 b.in-Accepted-w.is, head_inside _ _ _ _ h.read_head-head.ensures.0 a.in-Accepted.is, none_kept_in _ _ f.0)
 
-returns : tie.Need-returns
+returns : tie.Need-returns-in-Refused
 returns c =
-    let h = c.before.before.before.before in
-    let e = h.read_head.ensures in
-    let v = c.before.before.v.given.1 in
+    let h = c in
+    let e = h.read_head-head.ensures in
+    let v = c.in-Refused.is in
     rw c.refused_book.ensures (e.0, e.1, start_in_head _ _ _ _ e.0 _ _ _ v, take_up_head_lem _ _ _ _ e.0 _ _ _ _ refl v)
 
-returns_2 : tie.Need-returns-2
+returns_2 : tie.Need-returns-in-Refused-w
 returns_2 c =
-    let u = c.before.before.before.before in
-    let a = u.before.before.before.before.before.before.before.before.before.before.before.before.before.before.enum_told.given.1 in
-    let h = u.before.before.before.before.before.before.before.before.before.before.before.before.before.before.before.before in
-    let e = h.read_head.ensures in
-    let f = u.start_up_lent.ensures in
-    let w = c.before.before.w.given.1 in
-    rw c.refused_book2.ensures (e.0, e.1, start_in_start_up _ _ _ _ e.0 _ a _ f.1 _ _ w, take_up_start _ _ _ _ e.0 _ a _ f.1 _ _ _ refl w)
+    let u = c in
+    let a = u.in-Accepted.is in
+    let h = u in
+    let e = h.read_head-head.ensures in
+    let f = u.start_up_lent-s.ensures in
+    let w = c.in-Refused-w.is in
+    rw c.refused_book-in-Refused-w.ensures (e.0, e.1, start_in_start_up _ _ _ _ e.0 _ a _ f.1 _ _ w, take_up_start _ _ _ _ e.0 _ a _ f.1 _ _ _ refl w)
 
-returns_3 : tie.Need-returns-3
+returns_3 : tie.Need-returns-in-Accepted-w
 returns_3 c =
-    let u = c.before.before.before.before.before.before.before.before.before.before.before.before.before.before.before.before in
-    let a = u.before.before.before.before.before.before.before.before.before.before.before.before.before.before.enum_told.given.1 in
-    let h = u.before.before.before.before.before.before.before.before.before.before.before.before.before.before.before.before in
-    let e = h.read_head.ensures in
-    let f = u.start_up_lent.ensures in
-    let b = c.before.before.before.before.before.before.before.before.before.before.before.before.before.before.enum_told2.given.1 in
-    (e.0, e.1, start_in_book _ _ _ _ e.0 _ a _ f.1 b, take_up_entries _ _ _ _ e.0 _ a _ f.1 b _ c.check_entries.ensures)
+    let u = c in
+    let a = u.in-Accepted.is in
+    let h = u in
+    let e = h.read_head-head.ensures in
+    let f = u.start_up_lent-s.ensures in
+    let b = c.in-Accepted-w.is in
+    (e.0, e.1, start_in_book _ _ _ _ e.0 _ a _ f.1 b, take_up_entries _ _ _ _ e.0 _ a _ f.1 b _ c.check_entries-reply.ensures)
 
 pub read_book_spec : {M : Type 1} → statement M
 read_book_spec =

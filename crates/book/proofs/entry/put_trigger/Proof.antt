@@ -3,10 +3,10 @@ use borrow.Author.Rules.{rules}
 use Rattle.book.proofs.entry.put_trigger.Statement.{statement}
 use Rattle.book.proofs.entry.put_trigger.Tie as tie
 
-returns : tie.Need-returns
+returns : tie.Need-returns-in-Absent
 returns c = search trigger_cases
 
-returns_2 : tie.Need-returns-2
+returns_2 : tie.Need-returns-in-At
 returns_2 c = search trigger_cases
 
 pub put_trigger_spec : {M : Type 1} → statement M

@@ -39,20 +39,20 @@ module _ (z : Zone) (rest : List ℕ) (temps : List Float) where
       first_read : (out : List Float) → out ≡ read_temperatures z (take (n - 0) rest) temps → Read (Whole n) out
       first_read out q = rw (le-leb z.count most_elements few, begun) (refl, q ∙ ap (λ (m : ℕ). read_temperatures z (take m rest) temps) (sub-zero n))
 
-returns : tie.Need-returns
-returns c = let a = c.before.before.before.args in many (zone_in a.z a.codes.now a.values.now) a.rest.now a.temps.now c.if1.true
+returns : tie.Need-returns-then-z-gt-MOST_ELEMENTS
+returns c = let a = c.args in many (zone_in a.z a.codes.now a.values.now) a.rest.now a.temps.now c.if-z-gt-MOST_ELEMENTS.true
 
-within : tie.Need-slice-bounds-read-state-end
-within c = let f = c.before.before.before in let a = f.before.before.before.before.args in
-    inside (zone_in a.z a.codes.now a.values.now) a.rest.now a.temps.now f.before.if1.false _ f.record_in.ensures _ c.before.«record».given.1
+within : tie.Need-slice_bounds-read_state-end
+within c = let f = c in let a = f.args in
+    inside (zone_in a.z a.codes.now a.values.now) a.rest.now a.temps.now f.if-z-gt-MOST_ELEMENTS.false _ f.record_in-record.ensures _ c.in-Whole.is
 
-returns_2 : tie.Need-returns-2
-returns_2 c = let f = c.before.before in let a = f.before.before.before.before.args in
-    none_read (zone_in a.z a.codes.now a.values.now) a.rest.now a.temps.now f.before.if1.false _ f.record_in.ensures c.enum_told.given.1
+returns_2 : tie.Need-returns-in-Dropped
+returns_2 c = let f = c in let a = f.args in
+    none_read (zone_in a.z a.codes.now a.values.now) a.rest.now a.temps.now f.if-z-gt-MOST_ELEMENTS.false _ f.record_in-record.ensures c.in-Dropped.is
 
-returns_3 : tie.Need-returns-3
-returns_3 c = let f = c.before.before.before.before.before.before in let a = f.before.before.before.before.args in
-    first_read (zone_in a.z a.codes.now a.values.now) a.rest.now a.temps.now f.before.if1.false _ f.record_in.ensures _ c.before.before.before.before.«record».given.1 _ c.read_state.ensures
+returns_3 : tie.Need-returns-in-Whole
+returns_3 c = let f = c in let a = f.args in
+    first_read (zone_in a.z a.codes.now a.values.now) a.rest.now a.temps.now f.if-z-gt-MOST_ELEMENTS.false _ f.record_in-record.ensures _ c.in-Whole.is _ c.read_state.ensures
 
 pub read_entry_spec : {M : Type 1} → statement M
 read_entry_spec =

@@ -31,13 +31,13 @@ module _ (z : Zone) (entry : List ℕ) (temps : List Float) (n : ℕ) (n_is : n 
       let size : 8 * n ≤ length (drop at entry) = omega (arith, length-drop at entry) in
       rw (← n_is, le-leb (8 * n) (length entry) long) (e ∙ rw (whole, le-leb n most_nodes few, le-leb (8 * n) (length (drop at entry)) size) refl)
 
-returns : tie.Need-returns
-returns c = let a = c.before.before.before.before.args in
-    short (zone_in a.z a.codes.now a.values.now) a.entry.now a.temps.now _ c.before.before.nodes_of.ensures.0 c.before.if1.true
+returns : tie.Need-returns-then-entry-size
+returns c = let a = c.args in
+    short (zone_in a.z a.codes.now a.values.now) a.entry.now a.temps.now _ c.nodes_of-nodes.ensures.0 c.if-entry-size.true
 
-returns_2 : tie.Need-returns-2
-returns_2 c = let a = c.before.before.before.before.before.before.args in let n = c.before.before.before.before.nodes_of.ensures in
-    read (zone_in a.z a.codes.now a.values.now) a.entry.now a.temps.now _ n.0 n.1 c.before.before.before.if1.false _ c.read_temperatures.ensures
+returns_2 : tie.Need-returns
+returns_2 c = let a = c.args in let n = c.nodes_of-nodes.ensures in
+    read (zone_in a.z a.codes.now a.values.now) a.entry.now a.temps.now _ n.0 n.1 c.if-entry-size.false _ c.read_temperatures.ensures
 
 pub read_state_spec : {M : Type 1} → statement M
 read_state_spec =

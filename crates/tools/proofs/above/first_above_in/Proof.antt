@@ -12,52 +12,52 @@ use borrow.Author.Rules.{rules}
 use Rattle.tools.proofs.above.first_above_in.Statement.{statement}
 use Rattle.tools.proofs.above.first_above_in.Tie as tie
 
-abbrev invariant_loop : tie.invariant-loop
+abbrev invariant_loop : tie.invariant-loop-length
 invariant_loop z codes values entries start value temps₀ before₀ hour₀ at₀ temps before hour at =
     (at ≤ length entries) × (hour ≤ at) × ZerosBehind (zone_in z codes values) temps
     × NoneYet value start (temperatures_in (zone_in z codes values) entries) hour before (temperatures_in (zone_in z codes values) (drop at entries))
 
-abbrev decreases_loop : tie.decreases-loop
+abbrev decreases_loop : tie.decreases-loop-length
 decreases_loop z codes values entries start value temps₀ before₀ hour₀ at₀ temps before hour at = length entries - at
 
-loop_holds : tie.Need-loop-init invariant_loop decreases_loop
+loop_holds : tie.Need-loop-length-init invariant_loop decreases_loop
 loop_holds c = (omega arith, omega arith, no_temperatures _, none_at_first _ _ _)
 
-next_hour_requires : tie.Need-next-hour-requires invariant_loop decreases_loop
-next_hour_requires c κs = let l = c.before.before in (l.before.before.requires, l.loop.invariant.2)
+next_hour_requires : tie.Need-next_hour-next-requires invariant_loop decreases_loop
+next_hour_requires c κs = let l = c in (l.requires, l.loop-length.invariant.2)
 
 -- f: where the next hour is found; l: at the loop
-returns : tie.Need-returns invariant_loop decreases_loop
-returns c = let f = c.before.before in let l = f.before.before.before in let a = l.before.before.args in let z = zone_in a.z a.codes.now a.values.now in
-    rw (above_none a.value a.start (temperatures_in z a.entries.now) _ _ _ l.loop.invariant.3 (hours_end z l.loop.at a.entries.now _ f.next_hour.ensures.0 c.enum_told.given.1)) refl
+returns : tie.Need-returns-in-End invariant_loop decreases_loop
+returns c = let f = c in let l = f in let a = l.args in let z = zone_in a.z a.codes.now a.values.now in
+    rw (above_none a.value a.start (temperatures_in z a.entries.now) _ _ _ l.loop-length.invariant.3 (hours_end z l.loop-length.at a.entries.now _ f.next_hour-next.ensures.0 c.in-End.is)) refl
 
-returns_2 : tie.Need-returns-2 invariant_loop decreases_loop
-returns_2 c = let f = c.before.before.before.before.before in let l = f.before.before.before in let a = l.before.before.args in let z = zone_in a.z a.codes.now a.values.now in
-    let n = hours_next z l.loop.at a.entries.now _ f.next_hour.ensures.0 _ _ c.before.before.before.next.given.1 in
-    rw (above_found a.value a.start (temperatures_in z a.entries.now) _ _ _ l.loop.invariant.3 _ _ n.opened (sym c.before.goes_above.ensures ∙ c.if1.true)) refl
+returns_2 : tie.Need-returns-then-goes_above invariant_loop decreases_loop
+returns_2 c = let f = c in let l = f in let a = l.args in let z = zone_in a.z a.codes.now a.values.now in
+    let n = hours_next z l.loop-length.at a.entries.now _ f.next_hour-next.ensures.0 _ _ c.in-Next.is in
+    rw (above_found a.value a.start (temperatures_in z a.entries.now) _ _ _ l.loop-length.invariant.3 _ _ n.opened (sym c.goes_above.ensures ∙ c.if-goes_above.true)) refl
 
-add_hour : tie.Need-overflow-add-hour invariant_loop decreases_loop
-add_hour c = let f = c.before.before.before.before.before in let l = f.before.before.before in let a = l.before.before.args in let z = zone_in a.z a.codes.now a.values.now in
-    let n = hours_next z l.loop.at a.entries.now _ f.next_hour.ensures.0 _ _ c.before.before.before.next.given.1 in
-    omega (arith, l.loop.invariant.0, l.loop.invariant.1, n.some_bytes, n.inside, l.before.before.well_formed.1.1.1.0)
+add_hour : tie.Need-overflow_add-hour invariant_loop decreases_loop
+add_hour c = let f = c in let l = f in let a = l.args in let z = zone_in a.z a.codes.now a.values.now in
+    let n = hours_next z l.loop-length.at a.entries.now _ f.next_hour-next.ensures.0 _ _ c.in-Next.is in
+    omega (arith, l.loop-length.invariant.0, l.loop-length.invariant.1, n.some_bytes, n.inside, l.before.before.well_formed.1.1.1.0)
 
-add_at : tie.Need-overflow-add-at invariant_loop decreases_loop
-add_at c = let f = c.before.before.before.before.before in let l = f.before.before.before in let a = l.before.before.args in let z = zone_in a.z a.codes.now a.values.now in
-    let n = hours_next z l.loop.at a.entries.now _ f.next_hour.ensures.0 _ _ c.before.before.before.next.given.1 in
-    omega (arith, l.loop.invariant.0, n.inside, l.before.before.well_formed.1.1.1.0)
+add_at : tie.Need-overflow_add-at invariant_loop decreases_loop
+add_at c = let f = c in let l = f in let a = l.args in let z = zone_in a.z a.codes.now a.values.now in
+    let n = hours_next z l.loop-length.at a.entries.now _ f.next_hour-next.ensures.0 _ _ c.in-Next.is in
+    omega (arith, l.loop-length.invariant.0, n.inside, l.before.before.well_formed.1.1.1.0)
 
-loop_less : tie.Need-loop-smaller invariant_loop decreases_loop
-loop_less c = let f = c.before.before.before.before.before in let l = f.before.before.before in let a = l.before.before.args in let z = zone_in a.z a.codes.now a.values.now in
-    let n = hours_next z l.loop.at a.entries.now _ f.next_hour.ensures.0 _ _ c.before.before.before.next.given.1 in
-    omega (arith, l.loop.invariant.0, n.some_bytes, n.inside)
+loop_less : tie.Need-loop-length-smaller invariant_loop decreases_loop
+loop_less c = let f = c in let l = f in let a = l.args in let z = zone_in a.z a.codes.now a.values.now in
+    let n = hours_next z l.loop-length.at a.entries.now _ f.next_hour-next.ensures.0 _ _ c.in-Next.is in
+    omega (arith, l.loop-length.invariant.0, n.some_bytes, n.inside)
 
-loop_again : tie.Need-loop-preserved invariant_loop decreases_loop
-loop_again c = let f = c.before.before.before.before.before in let l = f.before.before.before in let a = l.before.before.args in let z = zone_in a.z a.codes.now a.values.now in
-    let n = hours_next z l.loop.at a.entries.now _ f.next_hour.ensures.0 _ _ c.before.before.before.next.given.1 in (
-      omega (arith, l.loop.invariant.0, n.inside),
-      omega (arith, l.loop.invariant.1, n.some_bytes),
-      f.next_hour.ensures.1,
-      above_turn a.value a.start (temperatures_in z a.entries.now) _ _ _ l.loop.invariant.3 _ _ n.opened (sym c.before.goes_above.ensures ∙ c.if1.false),
+loop_again : tie.Need-loop-length-preserved invariant_loop decreases_loop
+loop_again c = let f = c in let l = f in let a = l.args in let z = zone_in a.z a.codes.now a.values.now in
+    let n = hours_next z l.loop-length.at a.entries.now _ f.next_hour-next.ensures.0 _ _ c.in-Next.is in (
+      omega (arith, l.loop-length.invariant.0, n.inside),
+      omega (arith, l.loop-length.invariant.1, n.some_bytes),
+      f.next_hour-next.ensures.1,
+      above_turn a.value a.start (temperatures_in z a.entries.now) _ _ _ l.loop-length.invariant.3 _ _ n.opened (sym c.goes_above.ensures ∙ c.if-goes_above.false),
     )
 
 pub first_above_in_spec : {M : Type 1} → statement M

@@ -32,11 +32,11 @@ not_less : (a b : Float) → lt a b ≡ false → (eq a a && ne b b) ≡ nearer 
 unfolding nearer
 not_less a b h = rw (h, itself a, differs b) refl
 
-returns : tie.Need-returns
-returns c = less _ _ c.if1.true
+returns : tie.Need-returns-then-a-b
+returns c = less _ _ c.if-a-b.true
 
-returns_2 : tie.Need-returns-2
-returns_2 c = not_less _ _ c.if1.false
+returns_2 : tie.Need-returns
+returns_2 c = not_less _ _ c.if-a-b.false
 
 pub nearer_spec : {M : Type 1} → statement M
 nearer_spec = tie.close (tie.spec returns returns_2)
