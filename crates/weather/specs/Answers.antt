@@ -2,7 +2,6 @@
 use Rattle.zone.specs.Promise.{Result, ok, refused}
 use Rattle.weather.specs.declared.replies.Weather.{Weather}
 use Rattle.weather.specs.declared.replies.WeatherReply.{WeatherReply}
-use Rattle.weather.specs.declared.replies.WeatherReply.TheVariants as WeatherReply
 
 abbrev pub weather_reply : Result Weather → WeatherReply
 weather_reply (ok w) = WeatherReply.Accepted w

@@ -1,5 +1,5 @@
 -- Fields, and a file, and what the definition makes of them: the sharp cases of the paper's sentences, calculated.
-use Rattle.std.specs.Prelude.{◌≡◌, [], ◌∷◌}
+use Rattle.std.specs.Prelude.{◌≡◌, ℕ, List, [], ◌∷◌, ◌++◌, replicate}
 use Rattle.std.specs.Float.{binary64}
 use Rattle.std.specs.Float.Ieee.{of_bits}
 use Rattle.zone.specs.Promise.{ok, refused}

@@ -1,4 +1,6 @@
 // The weather of one line of an EnergyPlus weather file.
+#![tactic(auto)]
+
 mod decimal;
 mod field;
 mod lines;

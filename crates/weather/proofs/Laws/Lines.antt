@@ -11,7 +11,6 @@ use lib.Dec.{eqb, ltb}
 use lib.Seq.{drop-nil, drop-drop, take_all}
 use Rattle.solver.proofs.Laws.Parts.{part_to_end}
 use Rattle.weather.specs.declared.split.Start.{Start}
-use Rattle.weather.specs.declared.split.Start.TheVariants as Start
 use Rattle.weather.specs.declared.lines.Span.TheVariants as Span
 use Rattle.weather.specs.Numbers.{line_feed, carriage_return, comma, header_lines}
 use Rattle.weather.specs.Split.{split}

@@ -8,8 +8,6 @@ use lib.ListN.{take, drop}
 use lib.Ieee.{Float}
 use Rattle.zone.specs.Promise.{Result, ok, refused}
 use Rattle.weather.specs.declared.field.FieldReply.{FieldReply}
-use Rattle.weather.specs.declared.field.FieldReply.TheVariants as FieldReply
-use Rattle.weather.specs.declared.lines.Span.TheVariants as Span
 use Rattle.weather.specs.Numbers.{absent, dry_bulb_field, direct_normal_field, diffuse_horizontal_field}
 use Rattle.weather.specs.Lines.{line_of, field_of}
 use Rattle.weather.specs.Weather.{dry_bulb, radiation, weather_from, weather_in, weather_of}

@@ -5,7 +5,6 @@ use Rattle.zone.specs.Promise.{Result, ok, refused}
 use Rattle.weather.specs.declared.decimal.Decimal as Code
 use Rattle.weather.specs.declared.decimal.Decimal.TheVariants.{NotDecimal, Written}
 use Rattle.weather.specs.declared.field.FieldReply.{FieldReply}
-use Rattle.weather.specs.declared.field.FieldReply.TheVariants as FieldReply
 use Rattle.weather.specs.Numbers.{point, most_digits}
 use Rattle.weather.specs.Split.{split}
 use Rattle.weather.specs.Decimal.{Decimal, is_digits, decimal_of, unsigned, number}

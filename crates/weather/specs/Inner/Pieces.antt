@@ -3,9 +3,7 @@ use Rattle.std.specs.Prelude.{ℕ, suc, ◌+◌, ◌≤◌, ◌≡◌, cond, Lis
 use Rattle.std.proofs.Math.Option.{Option, none, some}
 use Rattle.std.proofs.Math.ListN.{get_elem?}
 use Rattle.weather.specs.declared.split.Start.{Start}
-use Rattle.weather.specs.declared.split.Start.TheVariants as Start
 use Rattle.weather.specs.declared.lines.Span.{Span}
-use Rattle.weather.specs.declared.lines.Span.TheVariants as Span
 use Rattle.weather.specs.Numbers.{line_feed}
 use Rattle.weather.specs.Split.{split}
 use Rattle.weather.specs.Lines.{ended}

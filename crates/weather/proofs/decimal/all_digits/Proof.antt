@@ -5,29 +5,28 @@ use lib.ListN.{length, drop}
 use Rattle.weather.specs.Decimal.{all_digits}
 use Rattle.weather.proofs.Laws.Digits.{digits_next, digits_stop, digits_end}
 use borrow.Author.Rules.{rules}
-use borrow.Author.Tests.{not-true, not-false}
 use Rattle.weather.proofs.decimal.all_digits.Statement.{statement}
 use Rattle.weather.proofs.decimal.all_digits.Tie as tie
 
-abbrev invariant_loop : tie.invariant-loop
+abbrev invariant_loop : tie.invariant-loop-i
 invariant_loop bytes i₀ i = (i ≤ length bytes) × (all_digits bytes ≡ all_digits (drop i bytes))
 
-abbrev decreases_loop : tie.decreases-loop
+abbrev decreases_loop : tie.decreases-loop-i
 decreases_loop bytes i₀ i = length bytes - i
 
-loop_holds : tie.Need-loop-init invariant_loop decreases_loop
+loop_holds : tie.Need-loop-i-init invariant_loop decreases_loop
 loop_holds c = (omega arith, refl)
 
-returns : tie.Need-returns invariant_loop decreases_loop
-returns c = let i = c.before.before.before in let l = i.before in let bs = l.before.before.args.bytes.now in
-    sym (l.loop.invariant.1 ∙ digits_stop bs l.loop.i i.loop_test.true (sym c.before.is_digit.ensures ∙ not-true _ c.if1.true))
+returns : tie.Need-returns-then-not-is_digit invariant_loop decreases_loop
+returns c = let i = c in let l = i in let bs = l.args.bytes.now in
+    sym (l.loop-i.invariant.1 ∙ digits_stop bs l.loop-i.i i.loop-i-test.true (sym c.is_digit.ensures ∙ c.if-not-is_digit.true))
 
-loop_again : tie.Need-loop-preserved invariant_loop decreases_loop
-loop_again c = let i = c.before.before.before in let l = i.before in let bs = l.before.before.args.bytes.now in
-    (omega (arith, i.loop_test.true), l.loop.invariant.1 ∙ digits_next bs l.loop.i i.loop_test.true (sym c.before.is_digit.ensures ∙ not-false _ c.if1.false))
+loop_again : tie.Need-loop-i-preserved invariant_loop decreases_loop
+loop_again c = let i = c in let l = i in let bs = l.args.bytes.now in
+    (omega (arith, i.loop-i-test.true), l.loop-i.invariant.1 ∙ digits_next bs l.loop-i.i i.loop-i-test.true (sym c.is_digit.ensures ∙ c.if-not-is_digit.false))
 
-returns_2 : tie.Need-returns-2 invariant_loop decreases_loop
-returns_2 c = let l = c.before in sym (l.loop.invariant.1 ∙ digits_end l.before.before.args.bytes.now l.loop.i c.loop_test.false)
+returns_2 : tie.Need-returns invariant_loop decreases_loop
+returns_2 c = let l = c in sym (l.loop-i.invariant.1 ∙ digits_end l.args.bytes.now l.loop-i.i c.loop-i-test.false)
 
 pub all_digits_spec : {M : Type 1} → statement M
 all_digits_spec = tie.close (tie.spec invariant_loop decreases_loop loop_holds (λ c. search rules) (λ c κs. tt) returns (λ c. search rules) (λ c. search rules) loop_again returns_2)

@@ -9,45 +9,45 @@ use borrow.Author.Rules.{rules}
 use Rattle.weather.proofs.decimal.append_digits.Statement.{statement}
 use Rattle.weather.proofs.decimal.append_digits.Tie as tie
 
-abbrev invariant_loop : tie.invariant-loop
+abbrev invariant_loop : tie.invariant-loop-i
 invariant_loop before digits n₀ i₀ n i =
     (i ≤ length digits) × (all_digits (drop i digits) ≡ true)
     × (n * 10 ^ (length digits - i) + number (drop i digits) ≡ before * 10 ^ length digits + number digits)
 
-abbrev decreases_loop : tie.decreases-loop
+abbrev decreases_loop : tie.decreases-loop-i
 decreases_loop before digits n₀ i₀ n i = length digits - i
 
-loop_holds : tie.Need-loop-init invariant_loop decreases_loop
+loop_holds : tie.Need-loop-i-init invariant_loop decreases_loop
 loop_holds c = let ds = c.args.digits.now in let z : length ds - 0 ≡ length ds = omega arith in
     (omega arith, c.requires.0, ap (λ x. c.args.before * 10 ^ x + number ds) z)
 
-mul_n : tie.Need-overflow-mul-n invariant_loop decreases_loop
-mul_n c = let l = c.before in let ds = l.before.args.digits.now in
-    let h = digits_room ds l.loop.n l.loop.i c.loop_test.true in
-    omega (arith, h, l.loop.invariant.2, l.before.requires.1)
+mul_n : tie.Need-overflow_mul-n invariant_loop decreases_loop
+mul_n c = let l = c in let ds = l.args.digits.now in
+    let h = digits_room ds l.loop-i.n l.loop-i.i c.loop-i-test.true in
+    omega (arith, h, l.loop-i.invariant.2, l.requires.1)
 
-sub_n : tie.Need-overflow-sub-n invariant_loop decreases_loop
-sub_n c = let l = c.before.before in (digit_bounds l.before.args.digits.now l.loop.i c.before.loop_test.true l.loop.invariant.1).0
+sub_n : tie.Need-overflow_sub-n invariant_loop decreases_loop
+sub_n c = let l = c in (digit_bounds l.args.digits.now l.loop-i.i c.loop-i-test.true l.loop-i.invariant.1).0
 
-cast_n : tie.Need-overflow-cast-n invariant_loop decreases_loop
-cast_n c = let l = c.before.before in
-    let b = digit_bounds l.before.args.digits.now l.loop.i c.before.loop_test.true l.loop.invariant.1 in
+cast_n : tie.Need-overflow_cast-n invariant_loop decreases_loop
+cast_n c = let l = c in
+    let b = digit_bounds l.args.digits.now l.loop-i.i c.loop-i-test.true l.loop-i.invariant.1 in
     omega (arith, b.1)
 
-add_n : tie.Need-overflow-add-n invariant_loop decreases_loop
-add_n c = let l = c.before.before in let ds = l.before.args.digits.now in
-    let h = digits_room ds l.loop.n l.loop.i c.before.loop_test.true in
-    omega (arith, h, l.loop.invariant.2, l.before.requires.1)
+add_n : tie.Need-overflow_add-n invariant_loop decreases_loop
+add_n c = let l = c in let ds = l.args.digits.now in
+    let h = digits_room ds l.loop-i.n l.loop-i.i c.loop-i-test.true in
+    omega (arith, h, l.loop-i.invariant.2, l.requires.1)
 
-loop_again : tie.Need-loop-preserved invariant_loop decreases_loop
-loop_again c = let l = c.before.before in let ds = l.before.args.digits.now in let within = c.before.loop_test.true in (
+loop_again : tie.Need-loop-i-preserved invariant_loop decreases_loop
+loop_again c = let l = c in let ds = l.args.digits.now in let within = c.loop-i-test.true in (
   omega (arith, within),
-  (digit_bounds ds l.loop.i within l.loop.invariant.1).2,
-  sym (digits_append ds l.loop.n l.loop.i within) ∙ l.loop.invariant.2,
+  (digit_bounds ds l.loop-i.i within l.loop-i.invariant.1).2,
+  sym (digits_append ds l.loop-i.n l.loop-i.i within) ∙ l.loop-i.invariant.2,
 )
 
 returns : tie.Need-returns invariant_loop decreases_loop
-returns c = let l = c.before in digits_whole l.before.args.digits.now l.loop.n l.loop.i c.loop_test.false ∙ l.loop.invariant.2
+returns c = let l = c in digits_whole l.args.digits.now l.loop-i.n l.loop-i.i c.loop-i-test.false ∙ l.loop-i.invariant.2
 
 pub append_digits_spec : {M : Type 1} → statement M
 append_digits_spec =

@@ -7,26 +7,26 @@ use borrow.Author.Rules.{rules}
 use Rattle.weather.proofs.decimal.power_of_10.Statement.{statement}
 use Rattle.weather.proofs.decimal.power_of_10.Tie as tie
 
-abbrev invariant_loop : tie.invariant-loop
+abbrev invariant_loop : tie.invariant-loop-i
 invariant_loop places p₀ i₀ p i = (i ≤ places) × (p ≡ 10 ^ i)
 
-abbrev decreases_loop : tie.decreases-loop
+abbrev decreases_loop : tie.decreases-loop-i
 decreases_loop places p₀ i₀ p i = places - i
 
-loop_holds : tie.Need-loop-init invariant_loop decreases_loop
+loop_holds : tie.Need-loop-i-init invariant_loop decreases_loop
 loop_holds c = (omega arith, refl)
 
-mul_p : tie.Need-overflow-mul-p invariant_loop decreases_loop
-mul_p c = let l = c.before in
-    let e : 10 * l.loop.p ≡ 10 ^ (l.loop.i + 1) = ap (λ x. 10 * x) l.loop.invariant.1 ∙ power_next l.loop.i in
-    let h : 10 ^ (l.loop.i + 1) ≤ 10 ^ most_digits = power_few (l.loop.i + 1) (omega (arith, c.loop_test.true, l.before.requires)) in
+mul_p : tie.Need-overflow_mul-p invariant_loop decreases_loop
+mul_p c = let l = c in
+    let e : 10 * l.loop-i.p ≡ 10 ^ (l.loop-i.i + 1) = ap (λ x. 10 * x) l.loop-i.invariant.1 ∙ power_next l.loop-i.i in
+    let h : 10 ^ (l.loop-i.i + 1) ≤ 10 ^ most_digits = power_few (l.loop-i.i + 1) (omega (arith, c.loop-i-test.true, l.requires)) in
     omega (arith, e, h)
 
-loop_again : tie.Need-loop-preserved invariant_loop decreases_loop
-loop_again c = let l = c.before in (omega (arith, c.loop_test.true), ap (λ x. 10 * x) l.loop.invariant.1 ∙ power_next l.loop.i)
+loop_again : tie.Need-loop-i-preserved invariant_loop decreases_loop
+loop_again c = let l = c in (omega (arith, c.loop-i-test.true), ap (λ x. 10 * x) l.loop-i.invariant.1 ∙ power_next l.loop-i.i)
 
 returns : tie.Need-returns invariant_loop decreases_loop
-returns c = let l = c.before in let e : l.loop.i ≡ l.before.args.places = omega (arith, l.loop.invariant.0, c.loop_test.false) in l.loop.invariant.1 ∙ ap (λ x. 10 ^ x) e
+returns c = let l = c in let e : l.loop-i.i ≡ l.args.places = omega (arith, l.loop-i.invariant.0, c.loop-i-test.false) in l.loop-i.invariant.1 ∙ ap (λ x. 10 ^ x) e
 
 pub power_of_10_spec : {M : Type 1} → statement M
 power_of_10_spec = tie.close (tie.spec invariant_loop decreases_loop loop_holds mul_p (λ c. search rules) (λ c. search rules) loop_again returns)

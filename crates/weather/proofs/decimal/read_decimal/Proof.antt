@@ -12,19 +12,19 @@ use Rattle.weather.proofs.decimal.read_decimal.Tie as tie
 some_bytes : (n : ℕ) → (n ≡ 0 → ⊥) → 0 < n
 some_bytes n h = omega (arith, h)
 
-returns : tie.Need-returns
-returns c = empty_field _ c.if1.true
+returns : tie.Need-returns-then-field-eq0
+returns c = empty_field _ c.if-field-eq0.true
 
-returns_2 : tie.Need-returns-2
-returns_2 c = let t = c.before.before in let f = t.before.before.before.before.args.field.now in
+returns_2 : tie.Need-returns-then-field-eq-MINUS_SIGN
+returns_2 c = let t = c in let f = t.args.field.now in
     subst (λ o. Reads o c.read_unsigned.result)
-    (ap (short_unsigned true) (part_to_end f 1) ∙ minus_field f (some_bytes _ t.before.before.if1.false) t.if2.true) c.read_unsigned.ensures
+    (ap (short_unsigned true) (part_to_end f 1) ∙ minus_field f (some_bytes _ t.if-field-eq0.false) t.if-field-eq-MINUS_SIGN.true) c.read_unsigned.ensures
 
-returns_3 : tie.Need-returns-3
-returns_3 c = let e = c.before in let f = e.before.before.before.before.args.field.now in
-    subst (λ o. Reads o c.read_unsigned2.result) (plain_field f (some_bytes _ e.before.before.if1.false) e.if2.false) c.read_unsigned2.ensures
+returns_3 : tie.Need-returns
+returns_3 c = let e = c in let f = e.args.field.now in
+    subst (λ o. Reads o c.read_unsigned-2.result) (plain_field f (some_bytes _ e.if-field-eq0.false) e.if-field-eq-MINUS_SIGN.false) c.read_unsigned-2.ensures
 
 pub read_decimal_spec : {M : Type 1} → statement M
 read_decimal_spec =
     tie.close
-    (tie.spec returns (λ c. some_bytes _ c.before.if1.false) (λ c. search rules) (λ c. search rules) (λ c. search rules) (λ c κs. tt) returns_2 (λ c κs. tt) returns_3)
+    (tie.spec returns (λ c. some_bytes _ c.if-field-eq0.false) (λ c. search rules) (λ c. search rules) (λ c. search rules) (λ c κs. tt) returns_2 (λ c κs. tt) returns_3)

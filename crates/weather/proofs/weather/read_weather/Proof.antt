@@ -10,25 +10,25 @@ use Rattle.weather.proofs.weather.read_weather.Statement.{statement}
 use Rattle.weather.proofs.weather.read_weather.Tie as tie
 
 -- k: where the line is known to be found; f: where it is looked for
-add_weather_in : tie.Need-overflow-add-weather-in
-add_weather_in c = let k = c.before in let f = k.before.before in let a = f.before.before.args in
-    let s = subst (Spans a.file.now (line_of a.file.now a.line)) k.chosen.given.1 f.find_line.ensures in
+add_weather_in : tie.Need-overflow_add-start
+add_weather_in c = let k = c in let f = k in let a = f.args in
+    let s = subst (Spans a.file.now (line_of a.file.now a.line)) k.in-Found.is f.find_line-chosen.ensures in
     omega (arith, s.0, f.before.before.well_formed.0)
 
-part_weather_in_end : tie.Need-slice-bounds-weather-in-end
-part_weather_in_end c = let k = c.before in let f = k.before.before in let a = f.before.before.args in
-    (subst (Spans a.file.now (line_of a.file.now a.line)) k.chosen.given.1 f.find_line.ensures).0
+part_weather_in_end : tie.Need-slice_bounds-weather_in-end
+part_weather_in_end c = let k = c in let f = k in let a = f.args in
+    (subst (Spans a.file.now (line_of a.file.now a.line)) k.in-Found.is f.find_line-chosen.ensures).0
 
-returns : tie.Need-returns
-returns c = let t = c.before in let f = t.before.before in let a = f.before.before.args in
+returns : tie.Need-returns-in-Absent
+returns c = let t = c in let f = t in let a = f.args in
     c.absent.ensures
-    ∙ ap weather_reply (sym (line_absent a.file.now a.line (subst (Spans a.file.now (line_of a.file.now a.line)) t.enum_told.given.1 f.find_line.ensures)))
+    ∙ ap weather_reply (sym (line_absent a.file.now a.line (subst (Spans a.file.now (line_of a.file.now a.line)) t.in-Absent.is f.find_line-chosen.ensures)))
 
-returns_2 : tie.Need-returns-2
-returns_2 c = let k = c.before.before.before in let f = k.before.before in let a = f.before.before.args in
-    let s = subst (Spans a.file.now (line_of a.file.now a.line)) k.chosen.given.1 f.find_line.ensures in
+returns_2 : tie.Need-returns-in-Found
+returns_2 c = let k = c in let f = k in let a = f.args in
+    let s = subst (Spans a.file.now (line_of a.file.now a.line)) k.in-Found.is f.find_line-chosen.ensures in
     c.weather_in.ensures
-    ∙ ap (λ l. weather_reply (weather_in l)) (part_at a.file.now k.chosen.given.0.0 k.chosen.given.0.1.0)
+    ∙ ap (λ l. weather_reply (weather_in l)) (part_at a.file.now k.in-Found.start k.in-Found.length)
     ∙ ap weather_reply (sym (line_present a.file.now a.line _ s.1))
 
 pub read_weather_spec : {M : Type 1} → statement M

@@ -7,27 +7,27 @@ use Rattle.weather.proofs.weather.weather_of_fields.Statement.{statement}
 use Rattle.weather.proofs.weather.weather_of_fields.Tie as tie
 
 -- d, r, q: where the dry bulb, the direct normal and the diffuse horizontal radiation are read
-returns : tie.Need-returns
-returns c = let k = c.before in let d = k.before.before in let a = d.before.before.before.before.args in
-    ap weather_reply (sym (first_refused a.seventh.now a.fifteenth.now a.sixteenth.now _ _ (field_no (dry_bulb a.seventh.now) _ d.read_dry_bulb.ensures _ _ k.t.given.1)))
+returns : tie.Need-returns-in-Refused
+returns c = let k = c in let d = k in let a = d.args in
+    ap weather_reply (sym (first_refused a.seventh.now a.fifteenth.now a.sixteenth.now _ _ (field_no (dry_bulb a.seventh.now) _ d.read_dry_bulb-t.ensures _ _ k.in-Refused.is)))
 
-returns_2 : tie.Need-returns-2
-returns_2 c = let k = c.before in let r = k.before.before in let t = r.before.before in let d = t.before.before in let a = d.before.before.before.before.args in
+returns_2 : tie.Need-returns-in-Refused-n
+returns_2 c = let k = c in let r = k in let t = r in let d = t in let a = d.args in
     ap weather_reply
-    (sym (second_refused a.seventh.now a.fifteenth.now a.sixteenth.now _ _ _ (field_yes (dry_bulb a.seventh.now) _ d.read_dry_bulb.ensures _ t.t2.given.1)
-    (field_no (radiation a.fifteenth.now) _ r.read_radiation.ensures _ _ k.n.given.1)))
+    (sym (second_refused a.seventh.now a.fifteenth.now a.sixteenth.now _ _ _ (field_yes (dry_bulb a.seventh.now) _ d.read_dry_bulb-t.ensures _ t.in-Accepted.is)
+    (field_no (radiation a.fifteenth.now) _ r.read_radiation-n.ensures _ _ k.in-Refused-n.is)))
 
-returns_3 : tie.Need-returns-3
-returns_3 c = let k = c.before in let q = k.before.before in let n = q.before.before in let r = n.before.before in let t = r.before.before in let d = t.before.before in let a = d.before.before.before.before.args in
+returns_3 : tie.Need-returns-in-Refused-h
+returns_3 c = let k = c in let q = k in let n = q in let r = n in let t = r in let d = t in let a = d.args in
     ap weather_reply
-    (sym (third_refused a.seventh.now a.fifteenth.now a.sixteenth.now _ _ _ _ (field_yes (dry_bulb a.seventh.now) _ d.read_dry_bulb.ensures _ t.t2.given.1)
-    (field_yes (radiation a.fifteenth.now) _ r.read_radiation.ensures _ n.n2.given.1) (field_no (radiation a.sixteenth.now) _ q.read_radiation2.ensures _ _ k.h.given.1)))
+    (sym (third_refused a.seventh.now a.fifteenth.now a.sixteenth.now _ _ _ _ (field_yes (dry_bulb a.seventh.now) _ d.read_dry_bulb-t.ensures _ t.in-Accepted.is)
+    (field_yes (radiation a.fifteenth.now) _ r.read_radiation-n.ensures _ n.in-Accepted-n.is) (field_no (radiation a.sixteenth.now) _ q.read_radiation-h.ensures _ _ k.in-Refused-h.is)))
 
-returns_4 : tie.Need-returns-4
-returns_4 c = let k = c.before in let q = k.before.before in let n = q.before.before in let r = n.before.before in let t = r.before.before in let d = t.before.before in let a = d.before.before.before.before.args in
+returns_4 : tie.Need-returns-in-Accepted-h
+returns_4 c = let k = c in let q = k in let n = q in let r = n in let t = r in let d = t in let a = d.args in
     ap weather_reply
-    (sym (all_accepted a.seventh.now a.fifteenth.now a.sixteenth.now _ _ _ (field_yes (dry_bulb a.seventh.now) _ d.read_dry_bulb.ensures _ t.t2.given.1)
-    (field_yes (radiation a.fifteenth.now) _ r.read_radiation.ensures _ n.n2.given.1) (field_yes (radiation a.sixteenth.now) _ q.read_radiation2.ensures _ k.h2.given.1)))
+    (sym (all_accepted a.seventh.now a.fifteenth.now a.sixteenth.now _ _ _ (field_yes (dry_bulb a.seventh.now) _ d.read_dry_bulb-t.ensures _ t.in-Accepted.is)
+    (field_yes (radiation a.fifteenth.now) _ r.read_radiation-n.ensures _ n.in-Accepted-n.is) (field_yes (radiation a.sixteenth.now) _ q.read_radiation-h.ensures _ k.in-Accepted-h.is)))
 
 pub weather_of_fields_spec : {M : Type 1} → statement M
 weather_of_fields_spec =
