@@ -21,7 +21,6 @@ use Rattle.zone.specs.declared.calls.state.DemandAnswer.TheVariants as DemandAns
 use Rattle.zone.specs.declared.calls.state.UpdateAnswer.TheVariants as UpdateAnswer
 use Rattle.zone.specs.declared.calls.state.HourAnswer.TheVariants as HourAnswer
 use Rattle.zone.specs.declared.calls.state.OperativeReply.{OperativeReply}
-use Rattle.zone.specs.declared.calls.state.OperativeReply.TheVariants as OperativeReply
 use Rattle.zone.specs.declared.calls.state.DemandReply.{DemandReply}
 use Rattle.zone.specs.declared.calls.state.UpdateReply.{UpdateReply}
 use Rattle.zone.specs.declared.calls.state.HourStepReply.{HourStepReply}

@@ -10,7 +10,6 @@ use Rattle.zone.specs.declared.calls.state.State.{State}
 use Rattle.zone.specs.declared.calls.state.Reason.{Reason}
 use Rattle.zone.specs.declared.calls.state.Load.{Load}
 use Rattle.zone.specs.declared.calls.state.WhyReply.{WhyReply}
-use Rattle.zone.specs.declared.calls.state.WhyReply.TheVariants as WhyReply
 use Rattle.zone.specs.Record.BuildingElement.{standard_coefficients}
 use Rattle.zone.specs.Inner.Lent.{zone_in}
 use Rattle.zone.specs.Inner.Head.{structured_head, head_in}

@@ -1,4 +1,6 @@
 // The C interface (include/hem_zone.h): the zone's and the book's calls on lent arrays, the questions over a book and the weather of a file, for C and Rust to link.
+#![tactic(auto)]
+
 mod arrays;
 mod book_calls;
 mod code;

@@ -3,10 +3,10 @@ use borrow.Author.Rules.{rules}
 use Rattle.hem_zone.proofs.book_calls.hem_take_up.Statement.{statement}
 use Rattle.hem_zone.proofs.book_calls.hem_take_up.Tie as tie
 
-returns : tie.Need-returns
+returns : tie.Need-returns-in-Refused
 returns c = search take_up_cases
 
-returns_2 : tie.Need-returns-2
+returns_2 : tie.Need-returns-in-Accepted
 returns_2 c = search take_up_cases
 
 pub hem_take_up_spec : {M : Type 1} → statement M

@@ -3,13 +3,13 @@ use borrow.Author.Rules.{rules}
 use Rattle.hem_zone.proofs.head.hem_head.Statement.{statement}
 use Rattle.hem_zone.proofs.head.hem_head.Tie as tie
 
-returns : tie.Need-returns
+returns : tie.Need-returns-in-Refused
 returns c = search head_cases
 
-returns_2 : tie.Need-returns-2
+returns_2 : tie.Need-returns-in-Refused-w
 returns_2 c = search head_cases
 
-returns_3 : tie.Need-returns-3
+returns_3 : tie.Need-returns-in-Accepted-w
 returns_3 c = search head_cases
 
 pub hem_head_spec : {M : Type 1} → statement M

@@ -3,11 +3,11 @@ use borrow.Author.Rules.{rules}
 use Rattle.hem_zone.proofs.questions.hour_out.Statement.{statement}
 use Rattle.hem_zone.proofs.questions.hour_out.Tie as tie
 
-returns : tie.Need-returns
-returns c = rw (c.before.before.reply.given.1, c.refusal_code.ensures) refl
+returns : tie.Need-returns-in-Refused
+returns c = rw (c.in-Refused.is, c.refusal_code.ensures) refl
 
-returns_2 : tie.Need-returns-2
-returns_2 c = rw c.enum_told.given.1 refl
+returns_2 : tie.Need-returns-in-NoHour
+returns_2 c = rw c.in-NoHour.is refl
 
 pub hour_out_spec : {M : Type 1} → statement M
 hour_out_spec =

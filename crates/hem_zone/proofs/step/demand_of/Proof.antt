@@ -3,10 +3,10 @@ use borrow.Author.Rules.{rules}
 use Rattle.hem_zone.proofs.step.demand_of.Statement.{statement}
 use Rattle.hem_zone.proofs.step.demand_of.Tie as tie
 
-returns : tie.Need-returns
+returns : tie.Need-returns-in-Refused
 returns c = search demand_cases
 
-returns_2 : tie.Need-returns-2
+returns_2 : tie.Need-returns-in-Accepted
 returns_2 c = search demand_cases
 
 pub demand_of_spec : {M : Type 1} → statement M

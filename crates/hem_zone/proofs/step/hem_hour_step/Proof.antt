@@ -3,10 +3,10 @@ use borrow.Author.Rules.{rules}
 use Rattle.hem_zone.proofs.step.hem_hour_step.Statement.{statement}
 use Rattle.hem_zone.proofs.step.hem_hour_step.Tie as tie
 
-returns : tie.Need-returns
+returns : tie.Need-returns-in-Refused
 returns c = search zone_cases
 
-returns_2 : tie.Need-returns-2
+returns_2 : tie.Need-returns-in-Accepted
 returns_2 c = search zone_cases
 
 pub hem_hour_step_spec : {M : Type 1} → statement M

@@ -3,10 +3,10 @@ use borrow.Author.Rules.{rules}
 use Rattle.hem_zone.proofs.step.hour_step_of.Statement.{statement}
 use Rattle.hem_zone.proofs.step.hour_step_of.Tie as tie
 
-returns : tie.Need-returns
+returns : tie.Need-returns-in-Refused
 returns c = search hour_cases
 
-returns_2 : tie.Need-returns-2
+returns_2 : tie.Need-returns-in-Accepted
 returns_2 c = search hour_cases
 
 pub hour_step_of_spec : {M : Type 1} → statement M
