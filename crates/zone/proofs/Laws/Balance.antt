@@ -52,7 +52,7 @@ module _ (z : Zone) (hour : Conditions) (vector_x : List Float) where
         sky = sum_from s.sky (terms_of k i (heat_at z hour vector_x sky_heat));
         opaque = sum_from s.opaque (terms_of_kind z hour vector_x (is_kind Opaque) k i);
         transparent = sum_from s.transparent (terms_of_kind z hour vector_x (is_kind Transparent) k i);
-        ground = sum_from s.ground (terms_of_kind z hour vector_x (is_kind Ground) k i);
+        to_ground = sum_from s.to_ground (terms_of_kind z hour vector_x (is_kind Ground) k i);
         ztc = sum_from s.ztc (terms_of_kind z hour vector_x (is_kind AdjacentConditionedSpace) k i);
         ztu = sum_from s.ztu (terms_of_kind z hour vector_x (λ k. is_kind AdjacentUnconditionedSpaceSimple k || is_kind PartyWall k) k i);
       }

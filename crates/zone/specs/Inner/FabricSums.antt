@@ -25,7 +25,7 @@ add_boundary e h t s =
       sky = s.sky +ᶠ sky_heat e h t;
       opaque = s.opaque;
       transparent = s.transparent;
-      ground = s.ground;
+      to_ground = s.to_ground;
       ztc = s.ztc;
       ztu = s.ztu;
     }
@@ -33,24 +33,24 @@ add_boundary e h t s =
 -- a party wall counts with the unconditioned spaces
 abbrev pub add_kind : Kind → Float → FabricSums → FabricSums
 add_kind Opaque x s =
-    record { convective = s.convective; radiative = s.radiative; sol = s.sol; sky = s.sky; opaque = s.opaque +ᶠ x; transparent = s.transparent; ground = s.ground; ztc = s.ztc; ztu = s.ztu }
+    record { convective = s.convective; radiative = s.radiative; sol = s.sol; sky = s.sky; opaque = s.opaque +ᶠ x; transparent = s.transparent; to_ground = s.to_ground; ztc = s.ztc; ztu = s.ztu }
 add_kind AdjacentConditionedSpace x s =
-    record { convective = s.convective; radiative = s.radiative; sol = s.sol; sky = s.sky; opaque = s.opaque; transparent = s.transparent; ground = s.ground; ztc = s.ztc +ᶠ x; ztu = s.ztu }
+    record { convective = s.convective; radiative = s.radiative; sol = s.sol; sky = s.sky; opaque = s.opaque; transparent = s.transparent; to_ground = s.to_ground; ztc = s.ztc +ᶠ x; ztu = s.ztu }
 add_kind AdjacentUnconditionedSpaceSimple x s =
-    record { convective = s.convective; radiative = s.radiative; sol = s.sol; sky = s.sky; opaque = s.opaque; transparent = s.transparent; ground = s.ground; ztc = s.ztc; ztu = s.ztu +ᶠ x }
+    record { convective = s.convective; radiative = s.radiative; sol = s.sol; sky = s.sky; opaque = s.opaque; transparent = s.transparent; to_ground = s.to_ground; ztc = s.ztc; ztu = s.ztu +ᶠ x }
 add_kind Ground x s =
-    record { convective = s.convective; radiative = s.radiative; sol = s.sol; sky = s.sky; opaque = s.opaque; transparent = s.transparent; ground = s.ground +ᶠ x; ztc = s.ztc; ztu = s.ztu }
+    record { convective = s.convective; radiative = s.radiative; sol = s.sol; sky = s.sky; opaque = s.opaque; transparent = s.transparent; to_ground = s.to_ground +ᶠ x; ztc = s.ztc; ztu = s.ztu }
 add_kind Transparent x s =
-    record { convective = s.convective; radiative = s.radiative; sol = s.sol; sky = s.sky; opaque = s.opaque; transparent = s.transparent +ᶠ x; ground = s.ground; ztc = s.ztc; ztu = s.ztu }
+    record { convective = s.convective; radiative = s.radiative; sol = s.sol; sky = s.sky; opaque = s.opaque; transparent = s.transparent +ᶠ x; to_ground = s.to_ground; ztc = s.ztc; ztu = s.ztu }
 add_kind PartyWall x s =
-    record { convective = s.convective; radiative = s.radiative; sol = s.sol; sky = s.sky; opaque = s.opaque; transparent = s.transparent; ground = s.ground; ztc = s.ztc; ztu = s.ztu +ᶠ x }
+    record { convective = s.convective; radiative = s.radiative; sol = s.sol; sky = s.sky; opaque = s.opaque; transparent = s.transparent; to_ground = s.to_ground; ztc = s.ztc; ztu = s.ztu +ᶠ x }
 
 unfoldable pub add_element : Element → ElementHour → (t : Float) → FabricSums → FabricSums
 add_element e h t s = add_kind e.kind (fabric_ext e h t) (add_boundary e h t s)
 
 abbrev pub no_fabric : FabricSums
 no_fabric =
-    record { convective = zero64; radiative = zero64; sol = zero64; sky = zero64; opaque = zero64; transparent = zero64; ground = zero64; ztc = zero64; ztu = zero64 }
+    record { convective = zero64; radiative = zero64; sol = zero64; sky = zero64; opaque = zero64; transparent = zero64; to_ground = zero64; ztc = zero64; ztu = zero64 }
 
 abbrev pub outer_surface_by : (two_nodes : Bool) → List Float → ℕ → Float
 outer_surface_by two_nodes t e = get_or t (5 * e + cond two_nodes 3 0) nan
@@ -72,7 +72,7 @@ external_boundary_from s a hour gains_heat_cool =
       fabric_ext_sky = s.sky;
       opaque_fabric_ext = s.opaque;
       transparent_fabric_ext = s.transparent;
-      ground_fabric_ext = s.ground;
+      ground_fabric_ext = s.to_ground;
       ztc_fabric_ext = s.ztc;
       ztu_fabric_ext = s.ztu;
     }

@@ -134,7 +134,7 @@ fn external_boundary(
         fabric_ext_sky: s.sky,
         opaque_fabric_ext: s.opaque,
         transparent_fabric_ext: s.transparent,
-        ground_fabric_ext: s.ground,
+        ground_fabric_ext: s.to_ground,
         ztc_fabric_ext: s.ztc,
         ztu_fabric_ext: s.ztu,
     }

@@ -18,7 +18,7 @@ pub struct FabricSums {
     pub sky: f64,
     pub opaque: f64,
     pub transparent: f64,
-    pub ground: f64,
+    pub to_ground: f64,
     pub ztc: f64,
     pub ztu: f64,
 }
@@ -45,7 +45,7 @@ fn add_boundary(e: Element, h: ElementHour, t: f64, s: FabricSums) -> FabricSums
         sky: s.sky + e.area * -e.therm_rad_to_sky,
         opaque: s.opaque,
         transparent: s.transparent,
-        ground: s.ground,
+        to_ground: s.to_ground,
         ztc: s.ztc,
         ztu: s.ztu,
     }
@@ -68,7 +68,7 @@ fn add_kind(kind: Kind, x: f64, mut s: FabricSums) -> FabricSums
             s
         }
         Kind::Ground => {
-            s.ground = s.ground + x;
+            s.to_ground = s.to_ground + x;
             s
         }
         Kind::Transparent => {
@@ -99,7 +99,7 @@ fn no_fabric() -> FabricSums
         sky: 0.0,
         opaque: 0.0,
         transparent: 0.0,
-        ground: 0.0,
+        to_ground: 0.0,
         ztc: 0.0,
         ztu: 0.0,
     }
