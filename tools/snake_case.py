@@ -18,7 +18,7 @@ TO_TURN = re.compile(r"[-A-Z]")
 TOKEN = re.compile(r"[^\s(){}\[\];,.@\"`«»:]+|«[^»]*»|.|\n", re.S)
 USE = re.compile(r"^(?:pub )?(?:ghost )?use ([^\s;{]+?)(?:\.\{([^}]*)\}| as ([^\s;]+))?;?$", re.M)
 # names that are chosen: a fact that was spelled as a value, and where two would fall together
-CHOSEN = {"wellFormed": "PlainFormed", "allTrue": "all_true_tested", "notMade": "not_made_event", "nan-bits": "nan_bits_lem"}
+CHOSEN = {"kWh": "kwh", "wellFormed": "PlainFormed", "allTrue": "all_true_tested", "notMade": "not_made_event", "nan-bits": "nan_bits_lem"}
 # what C's functions leave: beside the functions' own names, which the claims' fields have
 OUTCOME = re.compile(r"hem(Head|StartUp|Operative|Demand|Why|Update|HourStep|Begin|Append|TakeUp|FirstAbove|HoursWithin|NearestHour|Weather)")
 # lemmas that are in snake case already and would have the name of a definition
@@ -97,6 +97,7 @@ def turn_code(code, foreign, aliases, seen, lemmas):
 
 
 def turn_comment(comment, declared):
+    declared = declared - {"kWh"}
     comment = re.sub(r"`[^`]*`", lambda m: re.sub(r"[a-z][A-Za-z0-9_'-]*", lambda w: turned(w.group(0)) if w.group(0) in declared else w.group(0), m.group(0)), comment)
     return re.sub(r"(?<![\w`-])[a-z]+[A-Z][A-Za-z0-9_]*", lambda w: turned(w.group(0)) if w.group(0) in declared else w.group(0), comment)
 
@@ -119,7 +120,7 @@ def turn_rt(text, declared, seen):
     out = []
     for line in text.split("\n"):
         code, comment = split_comment(line, "//")
-        code = re.sub(r"(?<![\w'-])[a-z][A-Za-z0-9_']*(?:-[A-Za-z0-9_']+)*", lambda w: turned(w.group(0)) if is_turned(w.group(0)) and (w.group(0) in own or ("-" not in w.group(0) and w.group(0) in declared)) else w.group(0), code)
+        code = re.sub(r"\"[^\"]*\"|(?<![\w'-])[a-z][A-Za-z0-9_']*(?:-[A-Za-z0-9_']+)*", lambda w: turned(w.group(0)) if is_turned(w.group(0)) and (w.group(0) in own or ("-" not in w.group(0) and w.group(0) in declared)) else w.group(0), code)
         out.append(code + turn_comment(comment, declared))
     return "\n".join(out)
 

@@ -57,8 +57,8 @@ pub fn print_asked(
             }
         }
         DemandAnswer::Accepted(d) => {
-            shown(b"  heating, k_wh           ", d.space_heat_demand);
-            shown(b"  cooling, k_wh           ", d.space_cool_demand);
+            shown(b"  heating, kWh           ", d.space_heat_demand);
+            shown(b"  cooling, kWh           ", d.space_cool_demand);
             Asked {
                 heating: d.space_heat_demand,
                 cooling: d.space_cool_demand,
@@ -71,13 +71,13 @@ pub fn print_asked(
 // Neither version nor limits change anything of the demand.
 fn print_demand(d: Demand, asked: Asked) {
     value(
-        b"  heating, k_wh                   ",
+        b"  heating, kWh                   ",
         d.space_heat_demand,
         asked.heating,
         b"  as asked   ",
     );
     value(
-        b"  cooling, k_wh                   ",
+        b"  cooling, kWh                   ",
         d.space_cool_demand,
         asked.cooling,
         b"  as asked   ",

@@ -82,7 +82,7 @@ fn met(r: Room, heat: f64, cool: f64, version: u64, l: Limits) -> HourStepReply 
 
 fn print_demand(d: Demand, kilowatt_hours: f64) {
     decimals(
-        b"  heating and cooling, k_wh       ",
+        b"  heating and cooling, kWh       ",
         d.space_heat_demand + d.space_cool_demand,
         kilowatt_hours,
     );

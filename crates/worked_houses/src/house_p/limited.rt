@@ -11,7 +11,7 @@ use crate::limits::{MOST, both, limits, not_looked_at, wide};
 use crate::table::{holds, number, shown, text};
 use zone::{DemandAnswer, HourAnswer, ZoneFront};
 
-// What 21 asks of House P in balance, and 19, k_wh.
+// What 21 asks of House P in balance, and 19, kWh.
 const ASKED: f64 = 144.0 / 1000.0;
 
 // The floats next to 144.
@@ -19,7 +19,7 @@ const JUST_BELOW: f64 = 143.99999999999997;
 
 const JUST_ABOVE: f64 = 144.00000000000003;
 
-// A distance in k_wh that is no more than rounding.
+// A distance in kWh that is no more than rounding.
 const ROUNDING: f64 = 1e-12;
 
 // All by convection: A is the power and B is 0.
@@ -150,7 +150,7 @@ fn print_asked(
         DemandAnswer::Accepted(d) => {
             let asked = d.space_heat_demand + d.space_cool_demand;
             let off = asked - sign * 1.416 / 13.0;
-            shown(b"  asked, k_wh             ", asked);
+            shown(b"  asked, kWh             ", asked);
             holds(b"  1416/13 W", -ROUNDING < off && off < ROUNDING);
             asked
         }

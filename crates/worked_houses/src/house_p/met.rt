@@ -3,7 +3,7 @@ use crate::house_p::rows::start;
 use crate::table::{decimals, number};
 use zone::{Demand, HeatBalance, HourAnswer, Limits, State, ZoneFront};
 
-// What is expected of an hour: the demand in k_wh, the temperatures above 20, the total gains and what of them goes to the
+// What is expected of an hour: the demand in kWh, the temperatures above 20, the total gains and what of them goes to the
 // air.
 #[derive(Clone, Copy)]
 pub struct Met {
@@ -34,12 +34,12 @@ fn print_temps(s: State, e: Met) {
 // "demand is reported uncut"
 pub fn print_demand(d: Demand, e: Met) {
     decimals(
-        b"  heating, k_wh                   ",
+        b"  heating, kWh                   ",
         d.space_heat_demand,
         e.heating,
     );
     decimals(
-        b"  cooling, k_wh                   ",
+        b"  cooling, kWh                   ",
         d.space_cool_demand,
         e.cooling,
     );

@@ -27,19 +27,19 @@ zero_le : le zero64 zero64 ≡ true
 unfolding le lt eq of_bits
 zero_le = refl
 
-signs_by : (k_wh : Float) (v : VentilationChoice) → Signs (demand_record k_wh v)
+signs_by : (kwh : Float) (v : VentilationChoice) → Signs (demand_record kwh v)
 unfolding demand_record
-signs_by k_wh v = go (lt k_wh zero64) refl (lt zero64 k_wh) refl
+signs_by kwh v = go (lt kwh zero64) refl (lt zero64 kwh) refl
   where
-    go : (b : Bool) → lt k_wh zero64 ≡ b → (a : Bool) → lt zero64 k_wh ≡ a → Signs (demand_record k_wh v)
-    go true p a q = record { heating = rw p zero_le; cooling = rw p (below_le k_wh zero64 p); one = inl (rw p refl) }
-    go false p true q = record { heating = rw (p, q) (below_le zero64 k_wh q); cooling = rw p zero_le; one = inr (rw p refl) }
+    go : (b : Bool) → lt kwh zero64 ≡ b → (a : Bool) → lt zero64 kwh ≡ a → Signs (demand_record kwh v)
+    go true p a q = record { heating = rw p zero_le; cooling = rw p (below_le kwh zero64 p); one = inl (rw p refl) }
+    go false p true q = record { heating = rw (p, q) (below_le zero64 kwh q); cooling = rw p zero_le; one = inr (rw p refl) }
     go false p false q = record { heating = rw (p, q) zero_le; cooling = rw p zero_le; one = inl (rw (p, q) refl) }
 
 demand_signs : (c : Coefficients) (z : Zone) (t : List Float) (h : Conditions) (d : Demand) → space_heat_cool_demand c z t h ≡ ok d → Signs d
 demand_signs c z t h d e =
     let m = demand_made c z t h d e in
-    subst Signs m.made (signs_by m.k_wh m.choice)
+    subst Signs m.made (signs_by m.kwh m.choice)
 
 module _ (c : Coefficients) (z : Zone) where
   pub demand_call_signs : DemandCallSigns c z

@@ -1,4 +1,4 @@
--- What an accepted demand is made of: the choice of a rate, which it keeps, and so many k_wh.
+-- What an accepted demand is made of: the choice of a rate, which it keeps, and so many kWh.
 use mathlib.Core.Path.{◌≡◌, refl, sym, ap, ◌∙◌}
 use mathlib.Core.Bool.{not}
 use mathlib.Core.List.{List}
@@ -17,18 +17,18 @@ use Rattle.zone.specs.Record.Numbers as Number
 use Rattle.zone.specs.Hour.Demand.{control_temperature, ach_target, wanted, gains_upper, frac_upper, interp_heat_cool_demand, demand_record, temperatures_with, free_temperatures, calc_cooling_potential_from_ventilation, demand_for_load, space_heat_cool_demand}
 
 -- the chosen rate stands in the demand
-pub by_rate : (k_wh : Float) (v : VentilationChoice) → (demand_record k_wh v).ach_cooling ≡ v.ach_cooling
+pub by_rate : (kwh : Float) (v : VentilationChoice) → (demand_record kwh v).ach_cooling ≡ v.ach_cooling
 unfolding demand_record
-by_rate k_wh v = refl
+by_rate kwh v = refl
 
 module _ (c : Coefficients) (z : Zone) (t : List Float) (h : Conditions) where
-  demand_of : (v : VentilationChoice) (w : HeatCoolLoad) (d : Demand) → demand_for_load c z t h v w ≡ ok d → (k_wh : Float) × (demand_record k_wh v ≡ d)
+  demand_of : (v : VentilationChoice) (w : HeatCoolLoad) (d : Demand) → demand_for_load c z t h v w ≡ ok d → (kwh : Float) × (demand_record kwh v ≡ d)
   unfolding demand_for_load
   demand_of v NoLoad d e = (zero64, ok_inj e)
   demand_of v (Toward setpoint load fraction) d e =
       let upper = bind_ok (temperatures_with c z t h (gains_upper h load) (frac_upper h load fraction) v.ach_cooling) _ d e in
-      let k_wh = bind_ok (interp_heat_cool_demand h.delta_t_h setpoint load v.temp_free (control_temperature z upper.0)) _ d upper.2 in
-      (k_wh.0, ok_inj k_wh.2)
+      let kwh = bind_ok (interp_heat_cool_demand h.delta_t_h setpoint load v.temp_free (control_temperature z upper.0)) _ d upper.2 in
+      (kwh.0, ok_inj kwh.2)
 
   pub towards_rate : (v : VentilationChoice) (w : HeatCoolLoad) (d : Demand) → demand_for_load c z t h v w ≡ ok d → d.ach_cooling ≡ v.ach_cooling
   towards_rate v w d e =
@@ -40,8 +40,8 @@ module _ (c : Coefficients) (z : Zone) (t : List Float) (h : Conditions) where
     pub solved : free_temperatures c z t h (ach_target h.ach_args) ≡ ok free
     pub choice : VentilationChoice
     pub chosen : calc_cooling_potential_from_ventilation c z t h free h.ach_args ≡ ok choice
-    pub k_wh : Float
-    pub made : demand_record k_wh choice ≡ d
+    pub kwh : Float
+    pub made : demand_record kwh choice ≡ d
 
   pub demand_made : (d : Demand) → space_heat_cool_demand c z t h ≡ ok d → Made d
   unfolding space_heat_cool_demand
@@ -51,4 +51,4 @@ module _ (c : Coefficients) (z : Zone) (t : List Float) (h : Conditions) where
       let free = bind_ok (free_temperatures c z t h (ach_target h.ach_args)) _ d eleven.2 in
       let v = bind_ok (calc_cooling_potential_from_ventilation c z t h free.0 h.ach_args) _ d free.2 in
       let k = demand_of v.0 (wanted z.useful_area h v.0.temp_free) d v.2 in
-      record { free = free.0; solved = free.1; choice = v.0; chosen = v.1; k_wh = k.0; made = k.1 }
+      record { free = free.0; solved = free.1; choice = v.0; chosen = v.1; kwh = k.0; made = k.1 }

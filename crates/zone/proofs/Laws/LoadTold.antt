@@ -53,16 +53,16 @@ module _ (d : Demand) where
         neither = (λ _. (e, f), λ _. refl);
       })
 
-load_by : (k_wh : Float) (v : VentilationChoice) → LoadTold (demand_record k_wh v) (load_of (demand_record k_wh v))
+load_by : (kwh : Float) (v : VentilationChoice) → LoadTold (demand_record kwh v) (load_of (demand_record kwh v))
 unfolding demand_record
-load_by k_wh v = go _ _ refl refl
+load_by kwh v = go _ _ refl refl
   where
-    go : (b a : Bool) → lt k_wh zero64 ≡ b → lt zero64 k_wh ≡ a → LoadTold (demand_record k_wh v) (load_of (demand_record k_wh v))
-    go true a p q = told_cooling (demand_record k_wh v) (rw p refl) (rw p p)
-    go false true p q = told_heating (demand_record k_wh v) (rw (p, q) q) (rw p refl)
-    go false false p q = told_neither (demand_record k_wh v) (rw (p, q) refl) (rw p refl)
+    go : (b a : Bool) → lt kwh zero64 ≡ b → lt zero64 kwh ≡ a → LoadTold (demand_record kwh v) (load_of (demand_record kwh v))
+    go true a p q = told_cooling (demand_record kwh v) (rw p refl) (rw p p)
+    go false true p q = told_heating (demand_record kwh v) (rw (p, q) q) (rw p refl)
+    go false false p q = told_neither (demand_record kwh v) (rw (p, q) refl) (rw p refl)
 
 pub load_told : (c : Coefficients) (z : Zone) (t : List Float) (h : Conditions) (d : Demand) → space_heat_cool_demand c z t h ≡ ok d → LoadTold d (load_of d)
 load_told c z t h d e =
     let m = demand_made c z t h d e in
-    subst (λ (x : Demand). LoadTold x (load_of x)) m.made (load_by m.k_wh m.choice)
+    subst (λ (x : Demand). LoadTold x (load_of x)) m.made (load_by m.kwh m.choice)

@@ -199,11 +199,11 @@ module _ (p : Prepared) (volume : Float) (control : List Float → Float) (h : C
           let w : interp_heat_cool_demand h.delta_t_h setpoint load v.temp_free temp_upper ≡ refused k i = interpolated_refused _ a k i a_is e in
           rw (load_ok n temps _ upper_is well, ← temp_is, w) refl
 
-      pub loaded_by : (k_wh : Float) (d : Demand) → a ≡ Interpolated.Accepted k_wh → d ≡ demand_record k_wh v
+      pub loaded_by : (kwh : Float) (d : Demand) → a ≡ Interpolated.Accepted kwh → d ≡ demand_record kwh v
           → Accepted d ≡ demand_answer (loaded_demand p volume control h v (Toward setpoint load fraction) last)
       unfolding loaded_demand
-      loaded_by k_wh d e q =
-          let w : interp_heat_cool_demand h.delta_t_h setpoint load v.temp_free temp_upper ≡ ok k_wh = interpolated_accepted _ a k_wh a_is e in
+      loaded_by kwh d e q =
+          let w : interp_heat_cool_demand h.delta_t_h setpoint load v.temp_free temp_upper ≡ ok kwh = interpolated_accepted _ a kwh a_is e in
           rw (load_ok n temps _ upper_is well, ← temp_is, w, q) refl
 
   module _ (v : VentilationChoice) (w : HeatCoolLoad) (last : List Float) where

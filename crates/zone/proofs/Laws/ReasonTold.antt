@@ -254,5 +254,5 @@ module _ (c : Coefficients) (z : Zone) (t : List Float) (h : Conditions) where
   pub named_of : (d : Demand) → space_heat_cool_demand c z t h ≡ ok d → Named d.ach_cooling
   named_of d e =
       let m = demand_made c z t h d e in
-      let kept : m.choice.ach_cooling ≡ d.ach_cooling = sym (by_rate m.k_wh m.choice) ∙ ap (λ (x : Demand). x.ach_cooling) m.made in
+      let kept : m.choice.ach_cooling ≡ d.ach_cooling = sym (by_rate m.kwh m.choice) ∙ ap (λ (x : Demand). x.ach_cooling) m.made in
       subst Named kept (named_for m.choice m.free m.solved _ refl m.chosen)

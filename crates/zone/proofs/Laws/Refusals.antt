@@ -135,7 +135,7 @@ module _ (c : Coefficients) (z : Zone) (t : List Float) (h : Conditions) where
   towards_reasons b free v (Toward setpoint load fraction) f e w =
       let tried : Tried c z t h v setpoint load fraction = record { free = free; solved = f; chosen = e; towards = w } in
       bind_refuses _ (solves b (loaded tried)) λ upper u.
-      bind_refuses _ (unless_refuses (close_in_demand (control_temperature z upper -ᶠ v.temp_free) zero64) 14 _ (λ k. by_no_effect b tried u k) λ _. accepts _) λ k_wh _.
+      bind_refuses _ (unless_refuses (close_in_demand (control_temperature z upper -ᶠ v.temp_free) zero64) 14 _ (λ k. by_no_effect b tried u k) λ _. accepts _) λ kwh _.
       accepts _
 
   pub demand_reasons : RefusesOnly (DemandReason c z t h) (space_heat_cool_demand c z t h)

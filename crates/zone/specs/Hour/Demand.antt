@@ -76,18 +76,18 @@ gains_upper h load = gains_heat_cool h +ᶠ load
 unfoldable pub frac_upper : Conditions → (load fraction : Float) → Float
 frac_upper h load fraction = (gains_heat_cool h *ᶠ frac_conv_gains_heat_cool h +ᶠ load *ᶠ fraction) /ᶠ gains_upper h load
 
--- the demand in k_wh, heating positive, cooling negative, by interpolation between the free and the loaded temperature
+-- the demand in kWh, heating positive, cooling negative, by interpolation between the free and the loaded temperature
 unfoldable pub interp_heat_cool_demand : (delta_t_h setpoint load temp_free temp_upper : Float) → Result Float
 interp_heat_cool_demand delta_t_h setpoint load temp_free temp_upper =
     bind (require (not (close_in_demand (temp_upper -ᶠ temp_free) zero64)) no_effect) λ _.
     ok (cond (close_in_demand setpoint temp_free) zero64
     (load *ᶠ (setpoint -ᶠ temp_free) /ᶠ (temp_upper -ᶠ temp_free) /ᶠ decimal 1000 0 *ᶠ delta_t_h))
 
-unfoldable pub demand_record : (k_wh : Float) → VentilationChoice → Demand
-demand_record k_wh v =
+unfoldable pub demand_record : (kwh : Float) → VentilationChoice → Demand
+demand_record kwh v =
     record {
-      space_heat_demand = cond (lt k_wh zero64) zero64 (cond (lt zero64 k_wh) k_wh zero64);
-      space_cool_demand = cond (lt k_wh zero64) k_wh zero64;
+      space_heat_demand = cond (lt kwh zero64) zero64 (cond (lt zero64 kwh) kwh zero64);
+      space_cool_demand = cond (lt kwh zero64) kwh zero64;
       ach_cooling = v.ach_cooling;
       ach_to_trigger_heating = v.ach_to_trigger_heating;
     }
@@ -134,8 +134,8 @@ module _ (c : Coefficients) (z : Zone) (t : List Float) (h : Conditions) where
   demand_for_load v NoLoad = ok (demand_record zero64 v)
   demand_for_load v (Toward setpoint load fraction) =
       bind (temperatures_with (gains_upper h load) (frac_upper h load fraction) v.ach_cooling) λ upper.
-      bind (interp_heat_cool_demand h.delta_t_h setpoint load v.temp_free (control_temperature z upper)) λ k_wh.
-      ok (demand_record k_wh v)
+      bind (interp_heat_cool_demand h.delta_t_h setpoint load v.temp_free (control_temperature z upper)) λ kwh.
+      ok (demand_record kwh v)
 
   unfoldable pub space_heat_cool_demand : Result Demand
   space_heat_cool_demand =

@@ -88,8 +88,8 @@ module _ (p : Prepared) (volume : Float) (control : List Float → Float) (h : C
   loaded_demand v NoLoad last = ok (demand_record zero64 v)
   loaded_demand v (Toward setpoint load fraction) last =
       bind (solved_res (load_in p last (calc_vent_heat_transfer_coeff volume v.ach_cooling) (gains_upper h load) (frac_upper h load fraction))) λ upper.
-      bind (interp_heat_cool_demand h.delta_t_h setpoint load v.temp_free (control upper)) λ k_wh.
-      ok (demand_record k_wh v)
+      bind (interp_heat_cool_demand h.delta_t_h setpoint load v.temp_free (control upper)) λ kwh.
+      ok (demand_record kwh v)
 
   -- from the temperatures of the calculation at the rate without windows
   unfoldable pub demand_from_free : (useful_area : Float) (free : ZoneTemperatures) (last : List Float) → Result (Demand × List Float)

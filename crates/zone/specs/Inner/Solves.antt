@@ -14,7 +14,7 @@ unfoldable pub hour_system : Zone → List Float → Conditions → Assembled
 hour_system z t h = assemble_step standard_coefficients z t h (delta_t h)
 
 abbrev pub interpolated : Result Float → Interpolated
-interpolated (ok k_wh) = Interpolated.Accepted k_wh
+interpolated (ok kwh) = Interpolated.Accepted kwh
 interpolated (refused number index) = Interpolated.Refused number index
 
 abbrev pub demand_answer : Result Demand → DemandAnswer

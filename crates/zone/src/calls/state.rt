@@ -21,7 +21,7 @@ pub enum AchToTriggerHeating {
     At(f64),
 }
 
-// Heating and cooling demand in k_wh, the chosen air change rate and the one that triggers heating.
+// Heating and cooling demand in kWh, the chosen air change rate and the one that triggers heating.
 #[derive(Clone, Copy)]
 pub struct Demand {
     pub space_heat_demand: f64,
