@@ -1,4 +1,4 @@
-//! Links the engine: the archive that HEM_ZONE_LIB names, or the one that `rt staticlib hem_zone`
+//! Links the engine: the archive that HEM_ZONE_LIB names, or the one that `./staticlib`
 //! writes at the top of the repository.
 use std::env;
 use std::path::{Path, PathBuf};
@@ -18,7 +18,7 @@ fn link(archive: &Path) {
     let out = PathBuf::from(env::var("OUT_DIR").expect("set by cargo"));
     if let Err(e) = std::fs::copy(archive, out.join("libhem_zone_engine.a")) {
         println!(
-            "cargo::error=the engine {} cannot be read ({e}): run `rt staticlib hem_zone` at the top of the \
+            "cargo::error=the engine {} cannot be read ({e}): run `./staticlib` at the top of the \
              repository, or give the path of another archive in HEM_ZONE_LIB",
             archive.display()
         );

@@ -5,7 +5,6 @@ pub mod Cases
 pub mod BookCases
 pub mod QuestionCases
 pub mod WhyCases
-pub mod WeatherCases
 pub mod Claims
 pub mod ToldApart
 pub mod BookTypes
