@@ -5,6 +5,7 @@ use crate::held::{Held, check_held};
 use crate::layout::{COOLING, RATE, YEAR, results_place};
 use crate::plan::{place_of, version_at};
 use crate::print::{count, numbered, of};
+use std::io;
 use std::num::{wrapping_add_u64, wrapping_add_usize};
 use zone::ZoneFront;
 
@@ -48,28 +49,53 @@ fn hours_of(b: &[u8; WIDE], from: usize, to: usize) -> Hours {
     t
 }
 
-fn print_version(b: &[u8; WIDE], version: usize, from: usize, to: usize) {
+fn print_version(
+    rt: &impl Print,
+    b: &[u8; WIDE],
+    version: usize,
+    from: usize,
+    to: usize,
+) -> io::Result<()> {
     let t = hours_of(b, from, to);
-    numbered(b"  hours of version ", version, b"");
-    count(b" with heating", t.heating);
-    numbered(b"  hours of version ", version, b"");
-    count(b" with cooling", t.cooling);
-    numbered(b"  hours of version ", version, b"");
-    count(b" with windows open", t.windows);
+    numbered(rt, b"  hours of version ", version, b"")?;
+    count(rt, b" with heating", t.heating)?;
+    numbered(rt, b"  hours of version ", version, b"")?;
+    count(rt, b" with cooling", t.cooling)?;
+    numbered(rt, b"  hours of version ", version, b"")?;
+    count(rt, b" with windows open", t.windows)
 }
 
-pub fn print_hours(z: ZoneFront, codes: &[u8; 72], values: &[f64; 600], b: &[u8; WIDE]) -> Held {
-    print_version(b, 1, 0, TWO);
-    print_version(b, 2, TWO, THREE);
-    print_version(b, 3, THREE, YEAR);
+pub fn print_hours(
+    rt: &impl Print,
+    z: ZoneFront,
+    codes: &[u8; 72],
+    values: &[f64; 600],
+    b: &[u8; WIDE],
+) -> io::Result<Held> {
+    print_version(rt, b, 1, 0, TWO)?;
+    print_version(rt, b, 2, TWO, THREE)?;
+    print_version(rt, b, 3, THREE, YEAR)?;
     let held = check_held(z, codes, values, b, year_plan(), YEAR);
-    count(b"  hours in which the heating limit holds", held.heating);
-    count(b"  hours in which the cooling limit holds", held.cooling);
-    count(b"  hours of version 3 in which neither does", held.neither);
+    count(
+        rt,
+        b"  hours in which the heating limit holds",
+        held.heating,
+    )?;
+    count(
+        rt,
+        b"  hours in which the cooling limit holds",
+        held.cooling,
+    )?;
+    count(
+        rt,
+        b"  hours of version 3 in which neither does",
+        held.neither,
+    )?;
     of(
+        rt,
         b"temperatures by an update with the delivered power, where it takes their share",
         held.right,
         held.updates,
-    );
-    held
+    )?;
+    Ok(held)
 }

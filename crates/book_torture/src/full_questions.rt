@@ -5,6 +5,7 @@ use crate::layout::{LENGTH, YEAR};
 use crate::print::of;
 use crate::questions::{answered_as_walked, put_temperatures, question_by};
 use crate::tally::{Tally, none};
+use std::io;
 use std::num::wrapping_add_usize;
 use zone::ZoneFront;
 
@@ -31,7 +32,13 @@ fn check_questions(bytes: &[u8], temperatures: &[f64; TEMPERATURES]) -> Tally {
     t
 }
 
-pub fn print_questions(z: ZoneFront, codes: &[u8; 72], values: &[f64; 600], b: &[u8; WIDE]) {
+pub fn print_questions(
+    rt: &impl Print,
+    z: ZoneFront,
+    codes: &[u8; 72],
+    values: &[f64; 600],
+    b: &[u8; WIDE],
+) -> io::Result<()> {
     let mut temperatures = [0.0; TEMPERATURES];
     put_temperatures(
         z,
@@ -44,8 +51,9 @@ pub fn print_questions(z: ZoneFront, codes: &[u8; 72], values: &[f64; 600], b: &
     );
     let t = check_questions(part(b, 0, USED + LENGTH), &temperatures);
     of(
+        rt,
         b"the three questions of the year, answered as by a walk over the hours",
         t.right,
         t.all,
-    );
+    )
 }

@@ -2,6 +2,8 @@
 // every byte of some entries and at 2,000 places spread over them, taken up, continued and compared with the book that was never
 // cut; single bytes are changed, versions and limits among them, and bytes stand behind the books.
 // What is left of a cut book, and the whole year, is asked when it got warm.
+#![tactic(auto)]
+
 mod appends;
 mod bytes;
 mod cuts;
@@ -30,7 +32,9 @@ mod versions;
 mod walk;
 mod year;
 
-fn main() {
-    small::print_small();
-    full::print_year();
+use std::io;
+
+fn main(rt: HostRuntime) -> io::Result<()> {
+    small::print_small(&rt)?;
+    full::print_year(&rt)
 }

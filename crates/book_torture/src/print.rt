@@ -1,43 +1,43 @@
 // Text and numbers on standard output.
-use libc::STDOUT_FILENO;
+use std::io;
 
-pub fn text(s: &[u8]) {
-    io::write_all(STDOUT_FILENO, s);
+pub fn text(rt: &impl Print, s: &[u8]) -> io::Result<()> {
+    rt.write_all(s)
 }
 
-pub fn decimal(n: u64) {
-    io::print_decimal(STDOUT_FILENO, n);
+pub fn decimal(rt: &impl Print, n: u64) -> io::Result<()> {
+    rt.print(n)
 }
 
-pub fn line(what: &[u8], ok: bool) {
-    text(what);
+pub fn line(rt: &impl Print, what: &[u8], ok: bool) -> io::Result<()> {
+    text(rt, what)?;
     if ok {
-        text(b": ok\n");
+        text(rt, b": ok\n")
     } else {
-        text(b": WRONG\n");
+        text(rt, b": WRONG\n")
     }
 }
 
 // So many of so many.
-pub fn of(what: &[u8], right: u64, all: u64) {
-    text(what);
-    text(b": ");
-    decimal(right);
-    text(b" of ");
-    decimal(all);
-    line(b"", right == all);
+pub fn of(rt: &impl Print, what: &[u8], right: u64, all: u64) -> io::Result<()> {
+    text(rt, what)?;
+    text(rt, b": ")?;
+    decimal(rt, right)?;
+    text(rt, b" of ")?;
+    decimal(rt, all)?;
+    line(rt, b"", right == all)
 }
 
-pub fn count(what: &[u8], n: u64) {
-    text(what);
-    text(b": ");
-    decimal(n);
-    text(b"\n");
+pub fn count(rt: &impl Print, what: &[u8], n: u64) -> io::Result<()> {
+    text(rt, what)?;
+    text(rt, b": ")?;
+    decimal(rt, n)?;
+    text(rt, b"\n")
 }
 
 // Numbers within a line.
-pub fn numbered(before: &[u8], n: usize, after: &[u8]) {
-    text(before);
-    decimal(n as u64);
-    text(after);
+pub fn numbered(rt: &impl Print, before: &[u8], n: usize, after: &[u8]) -> io::Result<()> {
+    text(rt, before)?;
+    decimal(rt, n as u64)?;
+    text(rt, after)
 }

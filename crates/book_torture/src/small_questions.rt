@@ -6,6 +6,7 @@ use crate::plan::entries_of;
 use crate::print::of;
 use crate::questions::{answered_as_walked, put_temperatures, question_by, refused_as_short};
 use crate::tally::{Tally, none};
+use std::io;
 use zone::ZoneFront;
 
 // Start-up's temperature and the hours'.
@@ -38,7 +39,13 @@ fn check_questions(
     t
 }
 
-pub fn print_questions(z: ZoneFront, codes: &[u8; 72], values: &[f64; 600], whole: &[u8; ROOM]) {
+pub fn print_questions(
+    rt: &impl Print,
+    z: ZoneFront,
+    codes: &[u8; 72],
+    values: &[f64; 600],
+    whole: &[u8; ROOM],
+) -> io::Result<()> {
     let mut temperatures = [0.0; TEMPERATURES];
     put_temperatures(
         z,
@@ -51,14 +58,16 @@ pub fn print_questions(z: ZoneFront, codes: &[u8; 72], values: &[f64; 600], whol
     );
     let head = check_questions(whole, &temperatures, 0, HEAD);
     of(
+        rt,
         b"cuts at every byte of the head, the three questions refused with 1",
         head.right,
         head.all,
-    );
+    )?;
     let hours = check_questions(whole, &temperatures, HEAD, SMALL + 1);
     of(
+        rt,
         b"cuts at every byte behind it, the three questions answered as by a walk over the hours",
         hours.right,
         hours.all,
-    );
+    )
 }

@@ -4,6 +4,8 @@ use crate::bytes::{limits_at, one_at, part, read_u16_be, read_u64_be, state_at};
 use crate::records::{next_record, record};
 use crate::tally::{CaseTally, no_cases};
 use crate::{calls, records, why_calls};
+use std::io;
+use std::io::Read;
 use std::num::wrapping_add_usize;
 use zone::{Limits, Verdict, ZoneFront};
 
@@ -118,15 +120,15 @@ fn check_case(t: CaseTally, b: &[u8]) -> CaseTally {
     counted_reason(t, c, b).counted(c.profile, c.op, c.number, found)
 }
 
-pub fn check_cases(fd: i32) -> CaseTally {
+pub fn check_cases(file: &mut impl Read) -> io::Result<CaseTally> {
     let mut t = no_cases();
     let mut buf = [0u8; records::ROOM];
     for _ in 0..100000usize {
-        let n = next_record(fd, &mut buf);
+        let n = next_record(file, &mut buf)?;
         if n == 0 {
             break;
         }
         t = check_case(t, record(&buf, n));
     }
-    t
+    Ok(t)
 }

@@ -2,6 +2,8 @@
 // sums by direction of heat flow, which stand among its values in each heat balance, and reason and load, which stand behind
 // each demand; then the refusals, each of a demand also asked for its reason, and the questions over a book, each with its
 // number and index or its answer. How the data were made: make_data.py.
+#![tactic(auto)]
+
 mod answer;
 mod book_calls;
 mod bytes;
@@ -16,29 +18,23 @@ mod row;
 mod tally;
 mod why_calls;
 
-fn replay_cases() {
-    let fd = os::open_read(b"cases");
-    if fd < 0 {
-        os::fail(b"cases");
-        return;
-    }
-    let t = cases::check_cases(fd);
-    libc::close(fd);
-    report::print_cases(t);
+use std::fs::File;
+use std::io;
+use std::rt::Files;
+
+fn replay_cases(rt: &(impl Files + Print)) -> io::Result<()> {
+    let mut file = File::open(rt, "cases")?;
+    let t = cases::check_cases(&mut file)?;
+    report::print_cases(rt, t)
 }
 
-fn replay_refusals() {
-    let fd = os::open_read(b"refusals");
-    if fd < 0 {
-        os::fail(b"refusals");
-        return;
-    }
-    let t = refusals::check_rows(fd);
-    libc::close(fd);
-    report::print_rows(t);
+fn replay_refusals(rt: &(impl Files + Print)) -> io::Result<()> {
+    let mut file = File::open(rt, "refusals")?;
+    let t = refusals::check_rows(&mut file)?;
+    report::print_rows(rt, t)
 }
 
-fn main() {
-    replay_cases();
-    replay_refusals();
+fn main(rt: HostRuntime) -> io::Result<()> {
+    replay_cases(&rt)?;
+    replay_refusals(&rt)
 }

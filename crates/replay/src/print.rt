@@ -1,30 +1,30 @@
 // Text and numbers on standard output.
-use libc::STDOUT_FILENO;
+use std::io;
 
-pub fn text(s: &[u8]) {
-    io::write_all(STDOUT_FILENO, s);
+pub fn text(rt: &impl Print, s: &[u8]) -> io::Result<()> {
+    rt.write_all(s)
 }
 
-pub fn decimal(n: u64) {
-    io::print_decimal(STDOUT_FILENO, n);
+pub fn decimal(rt: &impl Print, n: u64) -> io::Result<()> {
+    rt.print(n)
 }
 
 // A number in a column of six.
-pub fn column(n: u64) {
+pub fn column(rt: &impl Print, n: u64) -> io::Result<()> {
     if n < 100000 {
-        text(b" ");
+        text(rt, b" ")?;
     }
     if n < 10000 {
-        text(b" ");
+        text(rt, b" ")?;
     }
     if n < 1000 {
-        text(b" ");
+        text(rt, b" ")?;
     }
     if n < 100 {
-        text(b" ");
+        text(rt, b" ")?;
     }
     if n < 10 {
-        text(b" ");
+        text(rt, b" ")?;
     }
-    decimal(n);
+    decimal(rt, n)
 }

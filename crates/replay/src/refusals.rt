@@ -5,6 +5,8 @@ use crate::records::{next_record, record};
 use crate::row::{HEAD, Row, row_at};
 use crate::tally::{RowTally, no_rows};
 use crate::{book_calls, calls, question_calls, records, why_calls};
+use std::io;
+use std::io::Read;
 use zone::{State, Verdict, ZoneFront};
 
 // The change that a row makes of a zone, in its front or in its arrays.
@@ -113,15 +115,15 @@ fn check_row(t: RowTally, b: &[u8]) -> RowTally {
     t.counted(r.call, r.number, a.number as usize, same)
 }
 
-pub fn check_rows(fd: i32) -> RowTally {
+pub fn check_rows(file: &mut impl Read) -> io::Result<RowTally> {
     let mut t = no_rows();
     let mut buf = [0u8; records::ROOM];
     for _ in 0..100000usize {
-        let n = next_record(fd, &mut buf);
+        let n = next_record(file, &mut buf)?;
         if n == 0 {
             break;
         }
         t = check_row(t, record(&buf, n));
     }
-    t
+    Ok(t)
 }

@@ -2,6 +2,7 @@
 // stands in one number, so that two of them are compared at once: an hour, or a count of hours, as it is, then none, and
 // a refusal with its number above its index.
 use crate::table::{column, refusal_column, text, verdict};
+use std::io;
 use tools::{HourReply, HoursReply};
 
 pub const NONE: u64 = 4294967295;
@@ -26,38 +27,66 @@ fn of_hours(r: HoursReply) -> u64 {
 }
 
 // In a column of eighteen.
-fn print_answer(x: u64) {
+fn print_answer(rt: &impl Print, x: u64) -> io::Result<()> {
     if x < NONE {
-        column(x);
-        return;
+        return column(rt, x);
     }
     if x == NONE {
-        text(b"              none");
-        return;
+        return text(rt, b"              none");
     }
-    refusal_column(x >> 32, x % 4294967296);
+    refusal_column(rt, x >> 32, x % 4294967296)
 }
 
-fn row(asked: &[u8], came: u64, expected: u64) {
-    text(asked);
-    print_answer(came);
-    print_answer(expected);
-    text(b"             ");
-    verdict(came == expected);
+fn row(rt: &impl Print, asked: &[u8], came: u64, expected: u64) -> io::Result<()> {
+    text(rt, asked)?;
+    print_answer(rt, came)?;
+    print_answer(rt, expected)?;
+    text(rt, b"             ")?;
+    verdict(rt, came == expected)
 }
 
-pub fn above(asked: &[u8], bytes: &[u8], value: f64, expected: u64) {
-    row(asked, of_hour(tools::first_above(bytes, value)), expected);
-}
-
-pub fn within(asked: &[u8], bytes: &[u8], lower: f64, upper: f64, expected: u64) {
+pub fn above(
+    rt: &impl Print,
+    asked: &[u8],
+    bytes: &[u8],
+    value: f64,
+    expected: u64,
+) -> io::Result<()> {
     row(
+        rt,
+        asked,
+        of_hour(tools::first_above(bytes, value)),
+        expected,
+    )
+}
+
+pub fn within(
+    rt: &impl Print,
+    asked: &[u8],
+    bytes: &[u8],
+    lower: f64,
+    upper: f64,
+    expected: u64,
+) -> io::Result<()> {
+    row(
+        rt,
         asked,
         of_hours(tools::hours_within(bytes, lower, upper)),
         expected,
-    );
+    )
 }
 
-pub fn nearest(asked: &[u8], bytes: &[u8], value: f64, expected: u64) {
-    row(asked, of_hour(tools::nearest_hour(bytes, value)), expected);
+pub fn nearest(
+    rt: &impl Print,
+    asked: &[u8],
+    bytes: &[u8],
+    value: f64,
+    expected: u64,
+) -> io::Result<()> {
+    row(
+        rt,
+        asked,
+        of_hour(tools::nearest_hour(bytes, value)),
+        expected,
+    )
 }

@@ -9,6 +9,8 @@
 // At the end of each house books of it are asked when it got warm: the first hour above a value, the hours within a band and the
 // hour nearest to a value. Then come rooms of six surfaces: what their air gives to the surfaces, by direction of heat flow.
 // Last a room with windows that can open: why an hour has its air change rate and its load.
+#![tactic(auto)]
+
 mod answers;
 mod bytes;
 mod chilled_ceiling;
@@ -24,61 +26,66 @@ use convection::rows as surface_rows;
 use house_p::{
     book_rows, limited as limited_hours, questions as hours_asked, rows, surface_convection,
 };
+use std::io;
 use why::{bases, close, coarse, found, lost_load, order, reasons, refusals, temperatures};
 
-fn print_house_p() {
-    table::heading(b"House P\n");
-    rows::print_zone();
-    surface_convection::print_h_ci();
-    rows::print_rates();
-    book_rows::print_book();
-    limited_hours::print_limited();
-    hours_asked::print_questions();
+fn print_house_p(rt: &impl Print) -> io::Result<()> {
+    table::heading(rt, b"House P\n")?;
+    rows::print_zone(rt)?;
+    surface_convection::print_h_ci(rt)?;
+    rows::print_rates(rt)?;
+    book_rows::print_book(rt)?;
+    limited_hours::print_limited(rt)?;
+    hours_asked::print_questions(rt)
 }
 
-fn print_chilled_ceiling() {
+fn print_chilled_ceiling(rt: &impl Print) -> io::Result<()> {
     let h = room::head();
     let mut codes = [0; 72];
     let mut values = [0.0; 600];
     let read = zone::read_head(&h, &mut codes, &mut values);
     let z = read.zone;
-    table::heading(b"\nA room with a chilled ceiling\n");
-    let start = hours::print_start(z, &codes, &values);
-    hours::print_warm(z, &codes, &values, start);
-    hours::print_cold(z, &codes, &values, start);
-    books::print_books(z, &codes, &values, &h, start);
-    unknown::print_unknown(z, &codes, &values, &h, start);
-    limited::print_warm(z, &codes, &values, start);
-    limited::print_cold(z, &codes, &values, start);
-    limited::print_earlier(z, &codes, &values, start);
-    limit_values::print_values(z, &codes, &values, &h, start);
-    limit_books::print_books(z, &codes, &values, &h, start);
-    questions::print_questions(z, &codes, &values, &h);
+    table::heading(rt, b"\nA room with a chilled ceiling\n")?;
+    let start = hours::print_start(rt, z, &codes, &values)?;
+    hours::print_warm(rt, z, &codes, &values, start)?;
+    hours::print_cold(rt, z, &codes, &values, start)?;
+    books::print_books(rt, z, &codes, &values, &h, start)?;
+    unknown::print_unknown(rt, z, &codes, &values, &h, start)?;
+    limited::print_warm(rt, z, &codes, &values, start)?;
+    limited::print_cold(rt, z, &codes, &values, start)?;
+    limited::print_earlier(rt, z, &codes, &values, start)?;
+    limit_values::print_values(rt, z, &codes, &values, &h, start)?;
+    limit_books::print_books(rt, z, &codes, &values, &h, start)?;
+    questions::print_questions(rt, z, &codes, &values, &h)
 }
 
-fn print_convection() {
+fn print_convection(rt: &impl Print) -> io::Result<()> {
     table::heading(
+        rt,
         b"\nRooms of six surfaces, and what their air gives to them by direction of heat flow\n",
-    );
-    surface_rows::print_rooms();
+    )?;
+    surface_rows::print_rooms(rt)
 }
 
-fn print_why() {
-    table::heading(b"\nA room with windows, and why its hours have their rate and their load\n");
-    temperatures::print_temperatures();
-    reasons::print_reasons();
-    found::print_found();
-    order::print_order();
-    close::print_close();
-    bases::print_bases();
-    coarse::print_coarse();
-    lost_load::print_lost();
-    refusals::print_refusals();
+fn print_why(rt: &impl Print) -> io::Result<()> {
+    table::heading(
+        rt,
+        b"\nA room with windows, and why its hours have their rate and their load\n",
+    )?;
+    temperatures::print_temperatures(rt)?;
+    reasons::print_reasons(rt)?;
+    found::print_found(rt)?;
+    order::print_order(rt)?;
+    close::print_close(rt)?;
+    bases::print_bases(rt)?;
+    coarse::print_coarse(rt)?;
+    lost_load::print_lost(rt)?;
+    refusals::print_refusals(rt)
 }
 
-fn main() {
-    print_house_p();
-    print_chilled_ceiling();
-    print_convection();
-    print_why();
+fn main(rt: HostRuntime) -> io::Result<()> {
+    print_house_p(&rt)?;
+    print_chilled_ceiling(&rt)?;
+    print_convection(&rt)?;
+    print_why(&rt)
 }

@@ -4,6 +4,7 @@ use crate::chilled_ceiling::books::{CONDITIONS_FROM, VERSION, one_hour, print_us
 use crate::chilled_ceiling::room::{CONDITIONS, HEAD, LIMITED_ENTRY, LIMITS, NODES, warm_hour};
 use crate::limits::{limits, not_looked_at, wide};
 use crate::table::{holds, number, text};
+use std::io;
 use zone::{Limits, State, ZoneFront};
 
 // A book of one such entry, and places in it: the limits, then heating, cooling, rate and trigger, then the temperatures.
@@ -68,6 +69,7 @@ fn unlike_two(b: &[u8; BOOK], two: &[u8; BOOK]) -> u64 {
 
 // The entry's parts; 163 + 41n + 8N with n = 2 and N = 8 is 309.
 fn print_parts(
+    rt: &impl Print,
     z: ZoneFront,
     codes: &[u8; 72],
     values: &[f64; 600],
@@ -75,34 +77,49 @@ fn print_parts(
     l: Limits,
     b: &[u8; BOOK],
     two: &[u8; BOOK],
-) {
+) -> io::Result<()> {
     number(
+        rt,
         b"  length of what follows         ",
         read_u32_be(b, HEAD),
         309,
-    );
-    number(b"  version byte                   ", u64_of(b[VERSION]), 3);
-    text(b"  bytes that differ\n");
+    )?;
     number(
+        rt,
+        b"  version byte                   ",
+        u64_of(b[VERSION]),
+        3,
+    )?;
+    text(rt, b"  bytes that differ\n")?;
+    number(
+        rt,
         b"    of the conditions            ",
         unlike_conditions(b),
         0,
-    );
-    number(b"    of the limits                ", unlike_limits(b, l), 0);
+    )?;
     number(
+        rt,
+        b"    of the limits                ",
+        unlike_limits(b, l),
+        0,
+    )?;
+    number(
+        rt,
         b"    of the demand, version 2's   ",
         unlike_demand(b, two),
         0,
-    );
+    )?;
     number(
+        rt,
         b"    of the hour step's temps     ",
         unlike_hour_step(z, codes, values, start, l, b),
         0,
-    );
+    )
 }
 
 // The warm hour's entry with these limits.
 fn print_entry(
+    rt: &impl Print,
     z: ZoneFront,
     codes: &[u8; 72],
     values: &[f64; 600],
@@ -110,13 +127,13 @@ fn print_entry(
     start: State,
     l: Limits,
     two: &[u8; BOOK],
-) -> [u8; BOOK] {
+) -> io::Result<[u8; BOOK]> {
     let c = warm_hour();
     let mut b = [0u8; BOOK];
     let r = one_hour(z, codes, values, h, &c, 3, l, &mut b);
-    print_used(r, 0, 0, 1, BOOK, 3);
-    print_parts(z, codes, values, start, l, &b, two);
-    b
+    print_used(rt, r, 0, 0, 1, BOOK, 3)?;
+    print_parts(rt, z, codes, values, start, l, &b, two)?;
+    Ok(b)
 }
 
 fn entry_of_two(z: ZoneFront, codes: &[u8; 72], values: &[f64; 600], h: &[u8]) -> [u8; BOOK] {
@@ -126,19 +143,40 @@ fn entry_of_two(z: ZoneFront, codes: &[u8; 72], values: &[f64; 600], h: &[u8]) -
     b
 }
 
-pub fn print_entries(z: ZoneFront, codes: &[u8; 72], values: &[f64; 600], h: &[u8], start: State) {
+pub fn print_entries(
+    rt: &impl Print,
+    z: ZoneFront,
+    codes: &[u8; 72],
+    values: &[f64; 600],
+    h: &[u8],
+    start: State,
+) -> io::Result<()> {
     let two = entry_of_two(z, codes, values, h);
-    text(b"the warm hour's entry in version 3, cooling limit 123.457 W: it holds\n");
-    let held = print_entry(z, codes, values, h, start, limits(HEATING, COOLING), &two);
+    text(
+        rt,
+        b"the warm hour's entry in version 3, cooling limit 123.457 W: it holds\n",
+    )?;
+    let held = print_entry(
+        rt,
+        z,
+        codes,
+        values,
+        h,
+        start,
+        limits(HEATING, COOLING),
+        &two,
+    )?;
     holds(
+        rt,
         b"  version 2's temperatures differ",
         unlike_two(&held, &two) != 0,
-    );
-    text(b"both limits 1e7\n");
-    let not_held = print_entry(z, codes, values, h, start, wide(), &two);
+    )?;
+    text(rt, b"both limits 1e7\n")?;
+    let not_held = print_entry(rt, z, codes, values, h, start, wide(), &two)?;
     number(
+        rt,
         b"    of version 2's temperatures  ",
         unlike_two(&not_held, &two),
         0,
-    );
+    )
 }

@@ -8,6 +8,7 @@ use crate::limits::{MOST, both, limits, not_a_number, not_looked_at, wide};
 use crate::replies::{verdict_index, verdict_number};
 use crate::table::{number, text};
 use book::BookState;
+use std::io;
 use zone::{Limits, State, ZoneFront};
 
 const LIMIT_VALUE: u64 = 19;
@@ -36,6 +37,7 @@ const HEATING_SETPOINT: usize = 48;
 const MOST_ENTRIES: usize = 8784;
 
 fn print_step(
+    rt: &impl Print,
     z: ZoneFront,
     codes: &[u8; 72],
     values: &[f64; 600],
@@ -45,77 +47,94 @@ fn print_step(
     l: Limits,
     refusal: u64,
     index: u64,
-) {
+) -> io::Result<()> {
     let x = s.hour_step(z, codes, values, conditions, version, l);
     let answer = x.answer;
     let verdict = verdict_of(answer);
     number(
+        rt,
         b"  refusal                        ",
         verdict_number(verdict),
         refusal,
-    );
+    )?;
     number(
+        rt,
         b"  index                          ",
         verdict_index(verdict),
         index,
-    );
+    )?;
     if refusal != 0 {
-        number(b"  bytes of temperatures changed  ", unlike(x.state, s), 0);
+        number(
+            rt,
+            b"  bytes of temperatures changed  ",
+            unlike(x.state, s),
+            0,
+        )?;
     }
+    Ok(())
 }
 
 // The warm hour with these limits.
 fn print_limits(
+    rt: &impl Print,
     z: ZoneFront,
     codes: &[u8; 72],
     values: &[f64; 600],
     s: State,
     l: Limits,
     refusal: u64,
-) {
+) -> io::Result<()> {
     let c = warm_hour();
-    print_step(z, codes, values, s, &c, 3, l, refusal, 0);
+    print_step(rt, z, codes, values, s, &c, 3, l, refusal, 0)
 }
 
 fn print_refused(
+    rt: &impl Print,
     z: ZoneFront,
     codes: &[u8; 72],
     values: &[f64; 600],
     s: State,
     said: &[u8],
     x: f64,
-) {
-    text(b"version 3, greatest heating ");
-    text(said);
-    print_limits(z, codes, values, s, limits(x, 0.0), LIMIT_VALUE);
-    text(b"greatest cooling ");
-    text(said);
-    print_limits(z, codes, values, s, limits(0.0, x), LIMIT_VALUE);
+) -> io::Result<()> {
+    text(rt, b"version 3, greatest heating ")?;
+    text(rt, said)?;
+    print_limits(rt, z, codes, values, s, limits(x, 0.0), LIMIT_VALUE)?;
+    text(rt, b"greatest cooling ")?;
+    text(rt, said)?;
+    print_limits(rt, z, codes, values, s, limits(0.0, x), LIMIT_VALUE)
 }
 
 fn print_accepted(
+    rt: &impl Print,
     z: ZoneFront,
     codes: &[u8; 72],
     values: &[f64; 600],
     s: State,
     said: &[u8],
     x: f64,
-) {
-    text(b"version 3, both limits ");
-    text(said);
-    print_limits(z, codes, values, s, both(x), 0);
+) -> io::Result<()> {
+    text(rt, b"version 3, both limits ")?;
+    text(rt, said)?;
+    print_limits(rt, z, codes, values, s, both(x), 0)
 }
 
-fn print_ranges(z: ZoneFront, codes: &[u8; 72], values: &[f64; 600], s: State) {
+fn print_ranges(
+    rt: &impl Print,
+    z: ZoneFront,
+    codes: &[u8; 72],
+    values: &[f64; 600],
+    s: State,
+) -> io::Result<()> {
     let infinite = 1.0 / 0.0;
-    print_refused(z, codes, values, s, b"-1\n", -1.0);
-    print_refused(z, codes, values, s, b"the float below 0\n", -SMALLEST);
-    print_refused(z, codes, values, s, b"the float above 1e7\n", TOO_MUCH);
-    print_refused(z, codes, values, s, b"infinite\n", infinite);
-    print_refused(z, codes, values, s, b"no number\n", not_a_number());
-    print_accepted(z, codes, values, s, b"0\n", 0.0);
-    print_accepted(z, codes, values, s, b"-0.0\n", -0.0);
-    print_accepted(z, codes, values, s, b"1e7\n", MOST);
+    print_refused(rt, z, codes, values, s, b"-1\n", -1.0)?;
+    print_refused(rt, z, codes, values, s, b"the float below 0\n", -SMALLEST)?;
+    print_refused(rt, z, codes, values, s, b"the float above 1e7\n", TOO_MUCH)?;
+    print_refused(rt, z, codes, values, s, b"infinite\n", infinite)?;
+    print_refused(rt, z, codes, values, s, b"no number\n", not_a_number())?;
+    print_accepted(rt, z, codes, values, s, b"0\n", 0.0)?;
+    print_accepted(rt, z, codes, values, s, b"-0.0\n", -0.0)?;
+    print_accepted(rt, z, codes, values, s, b"1e7\n", MOST)
 }
 
 // The warm hour with a float of its own.
@@ -126,49 +145,82 @@ fn hour_with(at: usize, x: f64) -> [u8; CONDITIONS] {
     c
 }
 
-fn print_order(z: ZoneFront, codes: &[u8; 72], values: &[f64; 600], s: State) {
+fn print_order(
+    rt: &impl Print,
+    z: ZoneFront,
+    codes: &[u8; 72],
+    values: &[f64; 600],
+    s: State,
+) -> io::Result<()> {
     let c = warm_hour();
     let far = hour_with(EXTERNAL, 101.0);
     let crossed = hour_with(HEATING_SETPOINT, 25.0);
     let bad = limits(-1.0, 0.0);
-    text(b"limits good, element 1 outside at 101: 9\n");
-    print_step(z, codes, values, s, &far, 3, wide(), CONDITIONS_VALUE, 1);
-    text(b"a limit of -1 too: 9\n");
-    print_step(z, codes, values, s, &far, 3, bad, CONDITIONS_VALUE, 1);
-    text(b"limits good, heating setpoint above the cooling one: 10\n");
-    print_step(z, codes, values, s, &crossed, 3, wide(), SETPOINTS, 0);
-    text(b"a limit of -1 too: 19\n");
-    print_step(z, codes, values, s, &crossed, 3, bad, LIMIT_VALUE, 0);
-    text(b"a limit of -1 in version 4: 18\n");
-    print_step(z, codes, values, s, &c, 4, bad, FALSE_ENTRY, 0);
-    text(b"in version 2\n");
-    print_step(z, codes, values, s, &c, 2, bad, 0, 0);
-    text(b"in version 1\n");
-    print_step(z, codes, values, s, &c, 1, bad, 0, 0);
+    text(rt, b"limits good, element 1 outside at 101: 9\n")?;
+    print_step(
+        rt,
+        z,
+        codes,
+        values,
+        s,
+        &far,
+        3,
+        wide(),
+        CONDITIONS_VALUE,
+        1,
+    )?;
+    text(rt, b"a limit of -1 too: 9\n")?;
+    print_step(rt, z, codes, values, s, &far, 3, bad, CONDITIONS_VALUE, 1)?;
+    text(
+        rt,
+        b"limits good, heating setpoint above the cooling one: 10\n",
+    )?;
+    print_step(rt, z, codes, values, s, &crossed, 3, wide(), SETPOINTS, 0)?;
+    text(rt, b"a limit of -1 too: 19\n")?;
+    print_step(rt, z, codes, values, s, &crossed, 3, bad, LIMIT_VALUE, 0)?;
+    text(rt, b"a limit of -1 in version 4: 18\n")?;
+    print_step(rt, z, codes, values, s, &c, 4, bad, FALSE_ENTRY, 0)?;
+    text(rt, b"in version 2\n")?;
+    print_step(rt, z, codes, values, s, &c, 2, bad, 0, 0)?;
+    text(rt, b"in version 1\n")?;
+    print_step(rt, z, codes, values, s, &c, 1, bad, 0, 0)
 }
 
 // An append behind one entry of version 1, with a limit of -1.
 fn print_append(
+    rt: &impl Print,
     z: ZoneFront,
     codes: &[u8; 72],
     values: &[f64; 600],
     given: BookState,
     b: &mut [u8],
     refusal: u64,
-) {
+) -> io::Result<()> {
     let c = warm_hour();
     let r = book::append(z, codes, values, given, &c, 3, limits(0.0, -1.0), b);
-    print_used(r, refusal, 0, given.count, given.used, 1);
+    print_used(rt, r, refusal, 0, given.count, given.used, 1)
 }
 
-fn print_no_room(z: ZoneFront, codes: &[u8; 72], values: &[f64; 600], given: BookState) {
+fn print_no_room(
+    rt: &impl Print,
+    z: ZoneFront,
+    codes: &[u8; 72],
+    values: &[f64; 600],
+    given: BookState,
+) -> io::Result<()> {
     let c = warm_hour();
     let mut short = [0u8; HEAD];
     let r = book::append(z, codes, values, given, &c, 3, wide(), &mut short);
-    print_used(r, BUFFER_SHORT, 0, 1, used_of(1), 1);
+    print_used(rt, r, BUFFER_SHORT, 0, 1, used_of(1), 1)
 }
 
-fn print_appends(z: ZoneFront, codes: &[u8; 72], values: &[f64; 600], h: &[u8]) {
+fn print_appends(
+    rt: &impl Print,
+    z: ZoneFront,
+    codes: &[u8; 72],
+    values: &[f64; 600],
+    h: &[u8],
+) -> io::Result<()> {
     let c = warm_hour();
     let mut b = [0u8; ROOM];
     let one = one_hour(z, codes, values, h, &c, 1, not_looked_at(), &mut b);
@@ -182,23 +234,34 @@ fn print_appends(z: ZoneFront, codes: &[u8; 72], values: &[f64; 600], h: &[u8]) 
         last_version: 1,
     };
     let mut short = [0u8; HEAD];
-    text(b"behind one entry an append in version 3, greatest cooling -1\n");
-    print_append(z, codes, values, held, &mut b, LIMIT_VALUE);
-    text(b"with no room: 19 before 16\n");
-    print_append(z, codes, values, held, &mut short, LIMIT_VALUE);
-    text(b"behind 8,784 entries: 17\n");
-    print_append(z, codes, values, full, &mut b, BOOK_FULL);
+    text(
+        rt,
+        b"behind one entry an append in version 3, greatest cooling -1\n",
+    )?;
+    print_append(rt, z, codes, values, held, &mut b, LIMIT_VALUE)?;
+    text(rt, b"with no room: 19 before 16\n")?;
+    print_append(rt, z, codes, values, held, &mut short, LIMIT_VALUE)?;
+    text(rt, b"behind 8,784 entries: 17\n")?;
+    print_append(rt, z, codes, values, full, &mut b, BOOK_FULL)?;
     number(
+        rt,
         b"  bytes of the buffer changed    ",
         differing(&b, &before, 0, ROOM),
         0,
-    );
-    text(b"limits good, with no room: 16\n");
-    print_no_room(z, codes, values, held);
+    )?;
+    text(rt, b"limits good, with no room: 16\n")?;
+    print_no_room(rt, z, codes, values, held)
 }
 
-pub fn print_values(z: ZoneFront, codes: &[u8; 72], values: &[f64; 600], h: &[u8; HEAD], s: State) {
-    print_ranges(z, codes, values, s);
-    print_order(z, codes, values, s);
-    print_appends(z, codes, values, h);
+pub fn print_values(
+    rt: &impl Print,
+    z: ZoneFront,
+    codes: &[u8; 72],
+    values: &[f64; 600],
+    h: &[u8; HEAD],
+    s: State,
+) -> io::Result<()> {
+    print_ranges(rt, z, codes, values, s)?;
+    print_order(rt, z, codes, values, s)?;
+    print_appends(rt, z, codes, values, h)
 }

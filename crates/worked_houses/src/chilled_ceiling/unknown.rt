@@ -6,6 +6,7 @@ use crate::limits::not_looked_at;
 use crate::replies::{verdict_index, verdict_number};
 use crate::table::{number, text};
 use book::BookState;
+use std::io;
 use zone::{HourAnswer, State, Verdict, ZoneFront};
 
 // One more than the newest.
@@ -41,19 +42,21 @@ pub fn unlike(a: State, b: State) -> u64 {
 }
 
 // Whether a state is the one that was given.
-fn print_kept(came: State, given: State) {
+fn print_kept(rt: &impl Print, came: State, given: State) -> io::Result<()> {
     let a = state_bytes(came);
     let b = state_bytes(given);
     number(
+        rt,
         b"  nodes                          ",
         came.nodes as u64,
         given.nodes as u64,
-    );
+    )?;
     number(
+        rt,
         b"  bytes of temperatures changed  ",
         differing(&a, &b, 0, STATE),
         0,
-    );
+    )
 }
 
 pub fn verdict_of(a: HourAnswer) -> Verdict {
@@ -63,78 +66,105 @@ pub fn verdict_of(a: HourAnswer) -> Verdict {
     }
 }
 
-fn print_step(z: ZoneFront, codes: &[u8; 72], values: &[f64; 600], s: State, version: u64) {
+fn print_step(
+    rt: &impl Print,
+    z: ZoneFront,
+    codes: &[u8; 72],
+    values: &[f64; 600],
+    s: State,
+    version: u64,
+) -> io::Result<()> {
     let c = warm_hour();
     let x = s.hour_step(z, codes, values, &c, version, not_looked_at());
     let answer = x.answer;
     let verdict = verdict_of(answer);
     number(
+        rt,
         b"  refusal                        ",
         verdict_number(verdict),
         FALSE_ENTRY,
-    );
+    )?;
     number(
+        rt,
         b"  index                          ",
         verdict_index(verdict),
         0,
-    );
-    print_kept(x.state, s);
+    )?;
+    print_kept(rt, x.state, s)
 }
 
 // An append behind one entry of version 1, which `b` holds.
 fn print_append(
+    rt: &impl Print,
     z: ZoneFront,
     codes: &[u8; 72],
     values: &[f64; 600],
     given: BookState,
     version: u64,
     b: &mut [u8; ROOM],
-) {
+) -> io::Result<()> {
     let c = warm_hour();
     let before = *b;
     let r = book::append(z, codes, values, given, &c, version, not_looked_at(), b);
     let after = r.values;
-    print_reply(r, FALSE_ENTRY, 1, 1, 1);
-    print_kept(after.state, given.state);
+    print_reply(rt, r, FALSE_ENTRY, 1, 1, 1)?;
+    print_kept(rt, after.state, given.state)?;
     number(
+        rt,
         b"  bytes of the buffer changed    ",
         differing(b, &before, 0, ROOM),
         0,
-    );
+    )
 }
 
-fn print_steps(z: ZoneFront, codes: &[u8; 72], values: &[f64; 600], s: State) {
-    text(b"an hour step in version 0\n");
-    print_step(z, codes, values, s, 0);
-    text(b"an hour step in version 4\n");
-    print_step(z, codes, values, s, NEXT);
-    text(b"an hour step in version 257\n");
-    print_step(z, codes, values, s, LOW_BYTE_ONE);
-    text(b"an hour step in version 2 ^ 64 - 1\n");
-    print_step(z, codes, values, s, GREATEST);
+fn print_steps(
+    rt: &impl Print,
+    z: ZoneFront,
+    codes: &[u8; 72],
+    values: &[f64; 600],
+    s: State,
+) -> io::Result<()> {
+    text(rt, b"an hour step in version 0\n")?;
+    print_step(rt, z, codes, values, s, 0)?;
+    text(rt, b"an hour step in version 4\n")?;
+    print_step(rt, z, codes, values, s, NEXT)?;
+    text(rt, b"an hour step in version 257\n")?;
+    print_step(rt, z, codes, values, s, LOW_BYTE_ONE)?;
+    text(rt, b"an hour step in version 2 ^ 64 - 1\n")?;
+    print_step(rt, z, codes, values, s, GREATEST)
 }
 
-fn print_appends(z: ZoneFront, codes: &[u8; 72], values: &[f64; 600], h: &[u8]) {
+fn print_appends(
+    rt: &impl Print,
+    z: ZoneFront,
+    codes: &[u8; 72],
+    values: &[f64; 600],
+    h: &[u8],
+) -> io::Result<()> {
     let c = warm_hour();
     let mut b = [0u8; ROOM];
     let one = one_hour(z, codes, values, h, &c, 1, not_looked_at(), &mut b);
-    text(b"behind one entry of version 1 an append in version 0\n");
-    print_append(z, codes, values, one.values, 0, &mut b);
-    text(b"in version 4\n");
-    print_append(z, codes, values, one.values, NEXT, &mut b);
-    text(b"in version 257\n");
-    print_append(z, codes, values, one.values, LOW_BYTE_ONE, &mut b);
-    text(b"in version 2 ^ 64 - 1\n");
-    print_append(z, codes, values, one.values, GREATEST, &mut b);
+    text(
+        rt,
+        b"behind one entry of version 1 an append in version 0\n",
+    )?;
+    print_append(rt, z, codes, values, one.values, 0, &mut b)?;
+    text(rt, b"in version 4\n")?;
+    print_append(rt, z, codes, values, one.values, NEXT, &mut b)?;
+    text(rt, b"in version 257\n")?;
+    print_append(rt, z, codes, values, one.values, LOW_BYTE_ONE, &mut b)?;
+    text(rt, b"in version 2 ^ 64 - 1\n")?;
+    print_append(rt, z, codes, values, one.values, GREATEST, &mut b)
 }
 
 pub fn print_unknown(
+    rt: &impl Print,
     z: ZoneFront,
     codes: &[u8; 72],
     values: &[f64; 600],
     h: &[u8; HEAD],
     start: State,
-) {
-    print_steps(z, codes, values, start);
-    print_appends(z, codes, values, h);
+) -> io::Result<()> {
+    print_steps(rt, z, codes, values, start)?;
+    print_appends(rt, z, codes, values, h)
 }

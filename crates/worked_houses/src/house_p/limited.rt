@@ -9,6 +9,7 @@ use crate::house_p::met::{Met, print_demand, print_gains, print_hour, print_whol
 use crate::house_p::rows::start;
 use crate::limits::{MOST, both, limits, not_looked_at, wide};
 use crate::table::{holds, number, shown, text};
+use std::io;
 use zone::{DemandAnswer, HourAnswer, ZoneFront};
 
 // What 21 asks of House P in balance, and 19, kWh.
@@ -44,18 +45,42 @@ fn cooled(power: f64) -> Met {
     convective(0.0, -ASKED, power)
 }
 
-fn print_heated(z: ZoneFront, codes: &[u8; 72], values: &[f64; 600]) {
+fn print_heated(
+    rt: &impl Print,
+    z: ZoneFront,
+    codes: &[u8; 72],
+    values: &[f64; 600],
+) -> io::Result<()> {
     let c = conditions_of(21.0, 24.0);
-    text(b"setpoints 21/24, version 2\n");
-    print_hour(z, codes, values, &c, 2, not_looked_at(), heated(144.0));
-    text(b"version 3, heating limit 72 W: it holds\n");
-    print_whole_hour(z, codes, values, &c, 3, limits(72.0, MOST), heated(72.0));
-    text(b"heating limit 36 W, cooling limit 0\n");
-    print_hour(z, codes, values, &c, 3, limits(36.0, 0.0), heated(36.0));
-    text(b"heating limit 144 W: met, and does not hold\n");
-    print_hour(z, codes, values, &c, 3, limits(144.0, 0.0), heated(144.0));
-    text(b"the float above 144\n");
+    text(rt, b"setpoints 21/24, version 2\n")?;
+    print_hour(rt, z, codes, values, &c, 2, not_looked_at(), heated(144.0))?;
+    text(rt, b"version 3, heating limit 72 W: it holds\n")?;
+    print_whole_hour(
+        rt,
+        z,
+        codes,
+        values,
+        &c,
+        3,
+        limits(72.0, MOST),
+        heated(72.0),
+    )?;
+    text(rt, b"heating limit 36 W, cooling limit 0\n")?;
+    print_hour(rt, z, codes, values, &c, 3, limits(36.0, 0.0), heated(36.0))?;
+    text(rt, b"heating limit 144 W: met, and does not hold\n")?;
     print_hour(
+        rt,
+        z,
+        codes,
+        values,
+        &c,
+        3,
+        limits(144.0, 0.0),
+        heated(144.0),
+    )?;
+    text(rt, b"the float above 144\n")?;
+    print_hour(
+        rt,
         z,
         codes,
         values,
@@ -63,42 +88,73 @@ fn print_heated(z: ZoneFront, codes: &[u8; 72], values: &[f64; 600]) {
         3,
         limits(JUST_ABOVE, 0.0),
         heated(144.0),
-    );
-    text(b"both limits 1e7\n");
-    print_hour(z, codes, values, &c, 3, wide(), heated(144.0));
-    text(b"both limits 0\n");
-    print_hour(z, codes, values, &c, 3, both(0.0), heated(0.0));
+    )?;
+    text(rt, b"both limits 1e7\n")?;
+    print_hour(rt, z, codes, values, &c, 3, wide(), heated(144.0))?;
+    text(rt, b"both limits 0\n")?;
+    print_hour(rt, z, codes, values, &c, 3, both(0.0), heated(0.0))
 }
 
 // The float below 144 lets the temperatures be; the gains are its own.
-fn print_just_below(z: ZoneFront, codes: &[u8; 72], values: &[f64; 600]) {
+fn print_just_below(
+    rt: &impl Print,
+    z: ZoneFront,
+    codes: &[u8; 72],
+    values: &[f64; 600],
+) -> io::Result<()> {
     let c = conditions_of(21.0, 24.0);
     let x = start().hour_step(z, codes, values, &c, 3, limits(JUST_BELOW, MOST));
     let answer = x.answer;
-    text(b"the float below 144: it holds\n");
+    text(rt, b"the float below 144: it holds\n")?;
     match answer {
         HourAnswer::Refused {
             number: n,
             index: _,
-        } => number(b"  hour step, refusal             ", n as u64, 0),
+        } => number(rt, b"  hour step, refusal             ", n as u64, 0),
         HourAnswer::Accepted(d, balance) => {
-            print_demand(d, heated(JUST_BELOW));
-            print_gains(balance, heated(JUST_BELOW));
+            print_demand(rt, d, heated(JUST_BELOW))?;
+            print_gains(rt, balance, heated(JUST_BELOW))
         }
     }
 }
 
-fn print_cooled(z: ZoneFront, codes: &[u8; 72], values: &[f64; 600]) {
+fn print_cooled(
+    rt: &impl Print,
+    z: ZoneFront,
+    codes: &[u8; 72],
+    values: &[f64; 600],
+) -> io::Result<()> {
     let c = conditions_of(15.0, 19.0);
-    text(b"setpoints 15/19, version 3, cooling limit 72 W: it holds\n");
-    print_whole_hour(z, codes, values, &c, 3, limits(0.0, 72.0), cooled(-72.0));
-    text(b"cooling limit 144 W: met, and does not hold\n");
-    print_hour(z, codes, values, &c, 3, limits(0.0, 144.0), cooled(-144.0));
+    text(
+        rt,
+        b"setpoints 15/19, version 3, cooling limit 72 W: it holds\n",
+    )?;
+    print_whole_hour(
+        rt,
+        z,
+        codes,
+        values,
+        &c,
+        3,
+        limits(0.0, 72.0),
+        cooled(-72.0),
+    )?;
+    text(rt, b"cooling limit 144 W: met, and does not hold\n")?;
+    print_hour(
+        rt,
+        z,
+        codes,
+        values,
+        &c,
+        3,
+        limits(0.0, 144.0),
+        cooled(-144.0),
+    )?;
     // the power is -0.0, and the gains are 0.0 + -0.0
-    text(b"cooling limit 0, heating limit 1e7\n");
-    print_hour(z, codes, values, &c, 3, limits(MOST, 0.0), cooled(0.0));
-    text(b"cooling limit -0.0\n");
-    print_hour(z, codes, values, &c, 3, limits(MOST, -0.0), cooled(0.0));
+    text(rt, b"cooling limit 0, heating limit 1e7\n")?;
+    print_hour(rt, z, codes, values, &c, 3, limits(MOST, 0.0), cooled(0.0))?;
+    text(rt, b"cooling limit -0.0\n")?;
+    print_hour(rt, z, codes, values, &c, 3, limits(MOST, -0.0), cooled(0.0))
 }
 
 // An hour beside other systems that asks power by the fraction 0.5.
@@ -131,12 +187,13 @@ fn by_halves(heating: f64, cooling: f64, sign: f64) -> Met {
 // Power w by 0.5 alone warms the air by 0.8125 w / 144, the other gains by 55.5 / 144; for a degree 1416/13 W are asked. No
 // float is that: the demand that is reported must be the demand call's, to the bit.
 fn print_asked(
+    rt: &impl Print,
     z: ZoneFront,
     codes: &[u8; 72],
     values: &[f64; 600],
     conditions: &[u8; 154],
     sign: f64,
-) -> f64 {
+) -> io::Result<f64> {
     let x = start().space_heat_cool_demand(z, codes, values, conditions);
     let answer = x.answer;
     match answer {
@@ -144,37 +201,53 @@ fn print_asked(
             number: n,
             index: _,
         } => {
-            number(b"  demand, refusal                ", n as u64, 0);
-            0.0
+            number(rt, b"  demand, refusal                ", n as u64, 0)?;
+            Ok(0.0)
         }
         DemandAnswer::Accepted(d) => {
             let asked = d.space_heat_demand + d.space_cool_demand;
             let off = asked - sign * 1.416 / 13.0;
-            shown(b"  asked, kWh             ", asked);
-            holds(b"  1416/13 W", -ROUNDING < off && off < ROUNDING);
-            asked
+            shown(rt, b"  asked, kWh             ", asked)?;
+            holds(rt, b"  1416/13 W", -ROUNDING < off && off < ROUNDING)?;
+            Ok(asked)
         }
     }
 }
 
 // "Shares follow version 2", of the power after the limit: 54 of 72 W go to the air, where the demand's share would be
 // 0.61 and that of the other fraction 0.83.
-fn print_shares(z: ZoneFront, codes: &[u8; 72], values: &[f64; 600]) {
+fn print_shares(
+    rt: &impl Print,
+    z: ZoneFront,
+    codes: &[u8; 72],
+    values: &[f64; 600],
+) -> io::Result<()> {
     let h = hour_of(with_other_gains(1.0));
     let c = hour_of(with_other_gains(-1.0));
-    text(b"with other gains of 48 and 12 W, heating fraction 0.5, heating limit 12 W\n");
-    let heat = print_asked(z, codes, values, &h, 1.0);
+    text(
+        rt,
+        b"with other gains of 48 and 12 W, heating fraction 0.5, heating limit 12 W\n",
+    )?;
+    let heat = print_asked(rt, z, codes, values, &h, 1.0)?;
     let warm = by_halves(heat, 0.0, 1.0);
-    print_whole_hour(z, codes, values, &h, 3, limits(12.0, 0.0), warm);
-    text(b"with -48 and -12 W, cooling fraction 0.5, cooling limit 12 W\n");
-    let cool = print_asked(z, codes, values, &c, -1.0);
+    print_whole_hour(rt, z, codes, values, &h, 3, limits(12.0, 0.0), warm)?;
+    text(
+        rt,
+        b"with -48 and -12 W, cooling fraction 0.5, cooling limit 12 W\n",
+    )?;
+    let cool = print_asked(rt, z, codes, values, &c, -1.0)?;
     let cold = by_halves(0.0, cool, -1.0);
-    print_whole_hour(z, codes, values, &c, 3, limits(0.0, 12.0), cold);
+    print_whole_hour(rt, z, codes, values, &c, 3, limits(0.0, 12.0), cold)
 }
 
 // Nothing is delivered, and other gains of -0.0 twice show the sign of that zero: beside them the power 0.0 makes the
 // total 0.0. "A delivered 0 is beyond no limit", so it does not become the limit -0.0, with which the total would be -0.0.
-fn print_no_power(z: ZoneFront, codes: &[u8; 72], values: &[f64; 600]) {
+fn print_no_power(
+    rt: &impl Print,
+    z: ZoneFront,
+    codes: &[u8; 72],
+    values: &[f64; 600],
+) -> io::Result<()> {
     let h = Hour {
         heat: 20.0,
         cool: 24.0,
@@ -186,40 +259,48 @@ fn print_no_power(z: ZoneFront, codes: &[u8; 72], values: &[f64; 600]) {
     let c = hour_of(h);
     let x = start().hour_step(z, codes, values, &c, 3, both(-0.0));
     let answer = x.answer;
-    text(b"setpoints 20/24, both limits -0.0: nothing is delivered\n");
+    text(
+        rt,
+        b"setpoints 20/24, both limits -0.0: nothing is delivered\n",
+    )?;
     match answer {
         HourAnswer::Refused {
             number: n,
             index: _,
-        } => number(b"  hour step, refusal             ", n as u64, 0),
+        } => number(rt, b"  hour step, refusal             ", n as u64, 0),
         HourAnswer::Accepted(d, balance) => {
-            print_demand(d, convective(0.0, 0.0, 0.0));
-            print_gains(balance, convective(0.0, 0.0, 0.0));
+            print_demand(rt, d, convective(0.0, 0.0, 0.0))?;
+            print_gains(rt, balance, convective(0.0, 0.0, 0.0))
         }
     }
 }
 
 // With versions 1 and 2 limits are not looked at: 0 would let nothing be delivered.
-fn print_earlier(z: ZoneFront, codes: &[u8; 72], values: &[f64; 600]) {
+fn print_earlier(
+    rt: &impl Print,
+    z: ZoneFront,
+    codes: &[u8; 72],
+    values: &[f64; 600],
+) -> io::Result<()> {
     let c = conditions_of(21.0, 24.0);
-    text(b"version 1, both limits 0\n");
-    print_hour(z, codes, values, &c, 1, both(0.0), heated(144.0));
-    text(b"version 2, both limits 0\n");
-    print_hour(z, codes, values, &c, 2, both(0.0), heated(144.0));
-    text(b"version 1, both limits no number\n");
-    print_hour(z, codes, values, &c, 1, not_looked_at(), heated(144.0));
+    text(rt, b"version 1, both limits 0\n")?;
+    print_hour(rt, z, codes, values, &c, 1, both(0.0), heated(144.0))?;
+    text(rt, b"version 2, both limits 0\n")?;
+    print_hour(rt, z, codes, values, &c, 2, both(0.0), heated(144.0))?;
+    text(rt, b"version 1, both limits no number\n")?;
+    print_hour(rt, z, codes, values, &c, 1, not_looked_at(), heated(144.0))
 }
 
-pub fn print_limited() {
+pub fn print_limited(rt: &impl Print) -> io::Result<()> {
     let p = head_of(house_p());
     let mut codes = [0; 72];
     let mut values = [0.0; 600];
     let h = zone::read_head(&p, &mut codes, &mut values);
     let z = h.zone;
-    print_heated(z, &codes, &values);
-    print_just_below(z, &codes, &values);
-    print_cooled(z, &codes, &values);
-    print_shares(z, &codes, &values);
-    print_no_power(z, &codes, &values);
-    print_earlier(z, &codes, &values);
+    print_heated(rt, z, &codes, &values)?;
+    print_just_below(rt, z, &codes, &values)?;
+    print_cooled(rt, z, &codes, &values)?;
+    print_shares(rt, z, &codes, &values)?;
+    print_no_power(rt, z, &codes, &values)?;
+    print_earlier(rt, z, &codes, &values)
 }

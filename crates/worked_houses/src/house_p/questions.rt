@@ -11,6 +11,7 @@ use crate::limits::{not_a_number, wide};
 use crate::replies::nothing;
 use crate::table::text;
 use book::BookState;
+use std::io;
 use zone::ZoneFront;
 
 const HEAD: usize = 180;
@@ -89,126 +90,203 @@ fn write_eight(z: ZoneFront, codes: &[u8; 72], values: &[f64; 600], h: &[u8], b:
 }
 
 // "from at or below a given value to above it"; start-up is at 20.
-fn print_above(b: &[u8; ROOM]) {
-    above(b"  first above 20.5               ", b, 20.5, 0);
-    above(b"  20, start-up's own             ", b, 20.0, 0);
-    above(b"  19.9, below start-up's         ", b, 19.9, 2);
-    above(b"  20.9, below the air's          ", b, 20.9, 4);
-    above(b"  19.875, that of hours 1 and 3  ", b, 19.875, 2);
-    above(b"  20.8125, that of hours 0 and 2 ", b, 20.8125, 4);
-    above(b"  19.75, that of hour 5          ", b, 19.75, 6);
-    above(b"  21.625, that of hour 4         ", b, 21.625, 7);
-    above(b"  that of hour 7, the greatest   ", b, WARMEST, NONE);
-    above(b"  19.7, below all                ", b, 19.7, NONE);
-    above(b"  1e6                            ", b, MOST, NONE);
-    above(b"  -1e6                           ", b, -MOST, NONE);
+fn print_above(rt: &impl Print, b: &[u8; ROOM]) -> io::Result<()> {
+    above(rt, b"  first above 20.5               ", b, 20.5, 0)?;
+    above(rt, b"  20, start-up's own             ", b, 20.0, 0)?;
+    above(rt, b"  19.9, below start-up's         ", b, 19.9, 2)?;
+    above(rt, b"  20.9, below the air's          ", b, 20.9, 4)?;
+    above(rt, b"  19.875, that of hours 1 and 3  ", b, 19.875, 2)?;
+    above(rt, b"  20.8125, that of hours 0 and 2 ", b, 20.8125, 4)?;
+    above(rt, b"  19.75, that of hour 5          ", b, 19.75, 6)?;
+    above(rt, b"  21.625, that of hour 4         ", b, 21.625, 7)?;
+    above(rt, b"  that of hour 7, the greatest   ", b, WARMEST, NONE)?;
+    above(rt, b"  19.7, below all                ", b, 19.7, NONE)?;
+    above(rt, b"  1e6                            ", b, MOST, NONE)?;
+    above(rt, b"  -1e6                           ", b, -MOST, NONE)
 }
 
 // "within an inclusive band"
-fn print_within(b: &[u8; ROOM]) {
-    within(b"  hours at 20.8125               ", b, 20.8125, 20.8125, 2);
-    within(b"  at 20, also start-up's         ", b, 20.0, 20.0, 1);
-    within(b"  19.875 to 20.8125              ", b, 19.875, 20.8125, 5);
-    within(b"  20.9 to 21.5, only of the air  ", b, 20.9, 21.5, 0);
-    within(b"  19.75 to hour 7's              ", b, 19.75, WARMEST, 8);
-    within(b"  19.75 to hour 4's              ", b, 19.75, 21.625, 7);
-    within(b"  -1e6 to 1e6                    ", b, -MOST, MOST, 8);
-    within(b"  0.0 to -0.0                    ", b, 0.0, -0.0, 0);
+fn print_within(rt: &impl Print, b: &[u8; ROOM]) -> io::Result<()> {
+    within(
+        rt,
+        b"  hours at 20.8125               ",
+        b,
+        20.8125,
+        20.8125,
+        2,
+    )?;
+    within(rt, b"  at 20, also start-up's         ", b, 20.0, 20.0, 1)?;
+    within(
+        rt,
+        b"  19.875 to 20.8125              ",
+        b,
+        19.875,
+        20.8125,
+        5,
+    )?;
+    within(rt, b"  20.9 to 21.5, only of the air  ", b, 20.9, 21.5, 0)?;
+    within(
+        rt,
+        b"  19.75 to hour 7's              ",
+        b,
+        19.75,
+        WARMEST,
+        8,
+    )?;
+    within(
+        rt,
+        b"  19.75 to hour 4's              ",
+        b,
+        19.75,
+        21.625,
+        7,
+    )?;
+    within(rt, b"  -1e6 to 1e6                    ", b, -MOST, MOST, 8)?;
+    within(rt, b"  0.0 to -0.0                    ", b, 0.0, -0.0, 0)
 }
 
 // "the distance rounded once, the earlier on a tie"
-fn print_nearest(b: &[u8; ROOM]) {
-    nearest(b"  nearest 20.8125, hours 0 and 2 ", b, 20.8125, 0);
-    nearest(b"  21.21875, between hours 0 and 4", b, 21.21875, 0);
-    nearest(b"  20.40625, between hours 0 and 6", b, 20.40625, 0);
-    nearest(b"  19.9375, between hours 1 and 6 ", b, 19.9375, 1);
-    nearest(b"  20, start-up's own             ", b, 20.0, 6);
-    nearest(b"  21.5, between the air's        ", b, 21.5, 4);
-    nearest(b"  22                             ", b, 22.0, 7);
-    nearest(b"  1e6, hours 4 and 7 when rounded", b, MOST, 4);
-    nearest(b"  -1e6                           ", b, -MOST, 5);
+fn print_nearest(rt: &impl Print, b: &[u8; ROOM]) -> io::Result<()> {
+    nearest(rt, b"  nearest 20.8125, hours 0 and 2 ", b, 20.8125, 0)?;
+    nearest(rt, b"  21.21875, between hours 0 and 4", b, 21.21875, 0)?;
+    nearest(rt, b"  20.40625, between hours 0 and 6", b, 20.40625, 0)?;
+    nearest(rt, b"  19.9375, between hours 1 and 6 ", b, 19.9375, 1)?;
+    nearest(rt, b"  20, start-up's own             ", b, 20.0, 6)?;
+    nearest(rt, b"  21.5, between the air's        ", b, 21.5, 4)?;
+    nearest(rt, b"  22                             ", b, 22.0, 7)?;
+    nearest(rt, b"  1e6, hours 4 and 7 when rounded", b, MOST, 4)?;
+    nearest(rt, b"  -1e6                           ", b, -MOST, 5)
 }
 
 // A value that no question takes.
-fn print_value(b: &[u8], said: &[u8], x: f64, expected: u64) {
-    text(said);
-    above(b"  first above                    ", b, x, expected);
-    within(b"  hours from there to 1e6        ", b, x, MOST, expected);
-    within(b"  from -1e6 to there             ", b, -MOST, x, expected);
-    nearest(b"  nearest                        ", b, x, expected);
+fn print_value(rt: &impl Print, b: &[u8], said: &[u8], x: f64, expected: u64) -> io::Result<()> {
+    text(rt, said)?;
+    above(rt, b"  first above                    ", b, x, expected)?;
+    within(
+        rt,
+        b"  hours from there to 1e6        ",
+        b,
+        x,
+        MOST,
+        expected,
+    )?;
+    within(
+        rt,
+        b"  from -1e6 to there             ",
+        b,
+        -MOST,
+        x,
+        expected,
+    )?;
+    nearest(rt, b"  nearest                        ", b, x, expected)
 }
 
 // Of a book that is refused, and of one whose values are turned away.
-fn print_each(b: &[u8], expected: u64) {
-    print_value(b, b"a value that is no number\n", not_a_number(), expected);
+fn print_each(rt: &impl Print, b: &[u8], expected: u64) -> io::Result<()> {
+    print_value(
+        rt,
+        b,
+        b"a value that is no number\n",
+        not_a_number(),
+        expected,
+    )?;
     within(
+        rt,
         b"  hours from 21 to 20            ",
         b,
         21.0,
         20.0,
         expected,
-    );
+    )
 }
 
 // An empty book has no hour, and its values are tested too.
-fn print_empty(b: &[u8]) {
+fn print_empty(rt: &impl Print, b: &[u8]) -> io::Result<()> {
     let turned_away = refused(VALUE, 0);
     let infinite = 1.0 / 0.0;
-    above(b"  first above 19                 ", b, 19.0, NONE);
-    within(b"  hours from -1e6 to 1e6         ", b, -MOST, MOST, 0);
-    nearest(b"  nearest 20                     ", b, 20.0, NONE);
-    print_each(b, turned_away);
-    print_value(b, b"infinite\n", infinite, turned_away);
-    print_value(b, b"infinite below 0\n", -infinite, turned_away);
-    print_value(b, b"the float above 1e6\n", TOO_MUCH, turned_away);
-    print_value(b, b"the float below -1e6\n", -TOO_MUCH, turned_away);
+    above(rt, b"  first above 19                 ", b, 19.0, NONE)?;
+    within(rt, b"  hours from -1e6 to 1e6         ", b, -MOST, MOST, 0)?;
+    nearest(rt, b"  nearest 20                     ", b, 20.0, NONE)?;
+    print_each(rt, b, turned_away)?;
+    print_value(rt, b, b"infinite\n", infinite, turned_away)?;
+    print_value(rt, b, b"infinite below 0\n", -infinite, turned_away)?;
+    print_value(rt, b, b"the float above 1e6\n", TOO_MUCH, turned_away)?;
+    print_value(rt, b, b"the float below -1e6\n", -TOO_MUCH, turned_away)
 }
 
-fn print_cuts(b: &[u8; ROOM]) {
-    text(b"without the last byte: hour 7 is dropped\n");
+fn print_cuts(rt: &impl Print, b: &[u8; ROOM]) -> io::Result<()> {
+    text(rt, b"without the last byte: hour 7 is dropped\n")?;
     let seven = part(b, 0, USED - 1);
-    above(b"  first above 21.625             ", seven, 21.625, NONE);
-    within(b"  hours from -1e6 to 1e6         ", seven, -MOST, MOST, 7);
-    nearest(b"  nearest 22                     ", seven, 22.0, 4);
-    text(b"the head alone\n");
-    print_empty(part(b, 0, HEAD));
-    text(b"the head without its last byte: 1 before 20\n");
-    print_each(part(b, 0, HEAD - 1), refused(SHORT, 0));
+    above(
+        rt,
+        b"  first above 21.625             ",
+        seven,
+        21.625,
+        NONE,
+    )?;
+    within(
+        rt,
+        b"  hours from -1e6 to 1e6         ",
+        seven,
+        -MOST,
+        MOST,
+        7,
+    )?;
+    nearest(rt, b"  nearest 22                     ", seven, 22.0, 4)?;
+    text(rt, b"the head alone\n")?;
+    print_empty(rt, part(b, 0, HEAD))?;
+    text(rt, b"the head without its last byte: 1 before 20\n")?;
+    print_each(rt, part(b, 0, HEAD - 1), refused(SHORT, 0))
 }
 
 // Of air and surface at 0 the mean is 0. Two hours of version 1: the air at -28 leads to the surface at -10 and the mean of
 // both at -19, then the air at 0 to the surface at 0.
-fn print_frozen(z: ZoneFront, codes: &[u8; 72], values: &[f64; 600], h: &[u8; HEAD]) {
+fn print_frozen(
+    rt: &impl Print,
+    z: ZoneFront,
+    codes: &[u8; 72],
+    values: &[f64; 600],
+    h: &[u8; HEAD],
+) -> io::Result<()> {
     let mut b = [0u8; TWO_HOURS];
     let begun = book::begin(nothing(), h, &mut b);
     let cold = hour_to(z, codes, values, begun.values, -28.0, 1, &mut b);
     hour_to(z, codes, values, cold, 0.0, 1, &mut b);
-    text(b"two hours, at -19 and 0\n");
-    within(b"  hours from 0.0 to -0.0         ", &b, 0.0, -0.0, 1);
-    within(b"  from -0.0 to 0.0               ", &b, -0.0, 0.0, 1);
-    above(b"  first above -0.0               ", &b, -0.0, NONE);
-    above(b"  first above -19                ", &b, -19.0, 1);
-    nearest(b"  nearest -9.5, between both     ", &b, -9.5, 0);
-    nearest(b"  20, start-up's own             ", &b, 20.0, 1);
+    text(rt, b"two hours, at -19 and 0\n")?;
+    within(rt, b"  hours from 0.0 to -0.0         ", &b, 0.0, -0.0, 1)?;
+    within(rt, b"  from -0.0 to 0.0               ", &b, -0.0, 0.0, 1)?;
+    above(rt, b"  first above -0.0               ", &b, -0.0, NONE)?;
+    above(rt, b"  first above -19                ", &b, -19.0, 1)?;
+    nearest(rt, b"  nearest -9.5, between both     ", &b, -9.5, 0)?;
+    nearest(rt, b"  20, start-up's own             ", &b, 20.0, 1)
 }
 
-fn print_whole(b: &[u8; ROOM]) {
-    text(b"eight hours of versions 1, 2 and 3 with 4 bytes behind them\n");
-    print_above(b);
-    print_within(b);
-    print_nearest(b);
-    print_each(b, refused(VALUE, 0));
-    print_cuts(b);
+fn print_whole(rt: &impl Print, b: &[u8; ROOM]) -> io::Result<()> {
+    text(
+        rt,
+        b"eight hours of versions 1, 2 and 3 with 4 bytes behind them\n",
+    )?;
+    print_above(rt, b)?;
+    print_within(rt, b)?;
+    print_nearest(rt, b)?;
+    print_each(rt, b, refused(VALUE, 0))?;
+    print_cuts(rt, b)
 }
 
-fn print_damaged(b: &[u8; ROOM]) {
+fn print_damaged(rt: &impl Print, b: &[u8; ROOM]) -> io::Result<()> {
     let false_entry = refused(FALSE_ENTRY, 3);
-    text(b"hour 3 damaged: 18 before 20\n");
-    above(b"  first above 20.5               ", b, 20.5, false_entry);
-    print_each(b, false_entry);
+    text(rt, b"hour 3 damaged: 18 before 20\n")?;
+    above(
+        rt,
+        b"  first above 20.5               ",
+        b,
+        20.5,
+        false_entry,
+    )?;
+    print_each(rt, b, false_entry)
 }
 
-pub fn print_questions() {
+pub fn print_questions(rt: &impl Print) -> io::Result<()> {
     let p = head_of(house_p());
     let mut codes = [0; 72];
     let mut values = [0.0; 600];
@@ -216,8 +294,8 @@ pub fn print_questions() {
     let z = h.zone;
     let mut b = [0u8; ROOM];
     write_eight(z, &codes, &values, &p, &mut b);
-    print_whole(&b);
+    print_whole(rt, &b)?;
     b[DAMAGED] = 1;
-    print_damaged(&b);
-    print_frozen(z, &codes, &values, &p);
+    print_damaged(rt, &b)?;
+    print_frozen(rt, z, &codes, &values, &p)
 }

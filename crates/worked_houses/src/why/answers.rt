@@ -3,7 +3,7 @@
 use crate::answers::refused;
 use crate::table::{refusal_column, text, verdict};
 use crate::why::room::{Hour, Room, before, conditions_of, head_of};
-use libc::STDOUT_FILENO;
+use std::io;
 use zone::{Load, Reason, WhyReply};
 
 // The reasons of document 02 (e), in the paper's order.
@@ -55,32 +55,31 @@ pub fn of_why(r: WhyReply) -> u64 {
     }
 }
 
-fn print_load(load: u64) {
+fn print_load(rt: &impl Print, load: u64) -> io::Result<()> {
     match load {
-        0 => text(b" neither"),
-        1 => text(b" heating"),
-        _ => text(b" cooling"),
+        0 => text(rt, b" neither"),
+        1 => text(rt, b" heating"),
+        _ => text(rt, b" cooling"),
     }
 }
 
 // In a column of eighteen.
-fn print_answer(x: u64) {
+fn print_answer(rt: &impl Print, x: u64) -> io::Result<()> {
     let number = x >> 32;
     if number != 0 {
-        refusal_column(number, x % 4294967296);
-        return;
+        return refusal_column(rt, number, x % 4294967296);
     }
-    text(b"  reason ");
-    io::print_decimal(STDOUT_FILENO, x >> 8);
-    print_load(x % 256);
+    text(rt, b"  reason ")?;
+    rt.print(x >> 8)?;
+    print_load(rt, x % 256)
 }
 
-pub fn row(asked: &[u8], came: u64, expected: u64) {
-    text(asked);
-    print_answer(came);
-    print_answer(expected);
-    text(b"             ");
-    verdict(came == expected);
+pub fn row(rt: &impl Print, asked: &[u8], came: u64, expected: u64) -> io::Result<()> {
+    text(rt, asked)?;
+    print_answer(rt, came)?;
+    print_answer(rt, expected)?;
+    text(rt, b"             ")?;
+    verdict(rt, came == expected)
 }
 
 fn why(r: Room, h: Hour) -> WhyReply {
@@ -92,6 +91,13 @@ fn why(r: Room, h: Hour) -> WhyReply {
     before(r).why(read.zone, &codes, &values, &c)
 }
 
-pub fn print_why(asked: &[u8], r: Room, h: Hour, reason: u64, load: u64) {
-    row(asked, of_why(why(r, h)), both(reason, load));
+pub fn print_why(
+    rt: &impl Print,
+    asked: &[u8],
+    r: Room,
+    h: Hour,
+    reason: u64,
+    load: u64,
+) -> io::Result<()> {
+    row(rt, asked, of_why(why(r, h)), both(reason, load))
 }

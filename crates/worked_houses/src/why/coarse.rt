@@ -9,6 +9,7 @@ use crate::table::text;
 use crate::why::answers::{HEATING, NEITHER, WINDOWS_ENOUGH, print_why};
 use crate::why::room::{BY_AIR, Hour, Room, hour_of, with_rates, with_supply};
 use crate::why::temperatures::print_air;
+use std::io;
 
 // 2 to the power -35 W/K.
 const UNIT: f64 = 2.9103830456733704e-11;
@@ -34,32 +35,38 @@ fn windows(heat: f64, cool: f64, vent: f64) -> Hour {
     with_rates(with_supply(hour_of(heat, cool, vent), 0.0), 0.0, 3.0)
 }
 
-pub fn print_coarse() {
+pub fn print_coarse(rt: &impl Print) -> io::Result<()> {
     let r = huge_surface(32.0);
-    text(b"a room with a huge surface at 32, supply 0, without demand\n");
-    print_air(b"  air, no ventilation            ", r, 0.0, 0.0, 32.0);
-    print_air(b"  with three air changes         ", r, 0.0, 3.0, 8.0);
-    print_air(b"  with 0.6, found for 20         ", r, 0.0, 0.6, 16.0);
-    text(b"free 32, found 16\n");
+    text(
+        rt,
+        b"a room with a huge surface at 32, supply 0, without demand\n",
+    )?;
+    print_air(rt, b"  air, no ventilation            ", r, 0.0, 0.0, 32.0)?;
+    print_air(rt, b"  with three air changes         ", r, 0.0, 3.0, 8.0)?;
+    print_air(rt, b"  with 0.6, found for 20         ", r, 0.0, 0.6, 16.0)?;
+    text(rt, b"free 32, found 16\n")?;
     print_why(
+        rt,
         b"  setpoints 20/30                ",
         r,
         windows(20.0, 30.0, 20.0),
         WINDOWS_ENOUGH,
         HEATING,
-    );
+    )?;
     print_why(
+        rt,
         b"  20/20                          ",
         r,
         windows(20.0, 20.0, 20.0),
         WINDOWS_ENOUGH,
         HEATING,
-    );
+    )?;
     print_why(
+        rt,
         b"  16/30                          ",
         r,
         windows(16.0, 30.0, 20.0),
         WINDOWS_ENOUGH,
         NEITHER,
-    );
+    )
 }

@@ -11,6 +11,7 @@ use crate::why::answers::{
     COOLING, HEATING, NOT_ABOVE_SUPPLY, STILL_ABOVE, WINDOWS_DO_NOT_COOL, both, of_why, row,
 };
 use crate::why::room::{BY_OPERATIVE, NODES};
+use std::io;
 use zone::{State, WhyReply};
 
 const USEFUL_AREA: f64 = 5e-11;
@@ -61,28 +62,34 @@ fn why(head: [u8; 180], conditions: [u8; 154]) -> WhyReply {
     s.why(read.zone, &codes, &values, &conditions)
 }
 
-fn print_loads(useful_area: f64, load: u64) {
+fn print_loads(rt: &impl Print, useful_area: f64, load: u64) -> io::Result<()> {
     let h = house(useful_area);
     row(
+        rt,
         b"  supply 40, rates 0 and 1       ",
         of_why(why(h, hour(40.0, 0.0, 1.0))),
         both(NOT_ABOVE_SUPPLY, load),
-    );
+    )?;
     row(
+        rt,
         b"  supply 10, rates 0.001 and 0   ",
         of_why(why(h, hour(10.0, 0.001, 0.0))),
         both(WINDOWS_DO_NOT_COOL, load),
-    );
+    )?;
     row(
+        rt,
         b"  supply 10, rates 0 and 1       ",
         of_why(why(h, hour(10.0, 0.0, 1.0))),
         both(STILL_ABOVE, load),
-    );
+    )
 }
 
-pub fn print_lost() {
-    text(b"a load that is lost among gains of 10 MW, by rounding\n");
-    print_loads(USEFUL_AREA, HEATING);
-    text(b"the same with twice the useful area\n");
-    print_loads(2.0 * USEFUL_AREA, COOLING);
+pub fn print_lost(rt: &impl Print) -> io::Result<()> {
+    text(
+        rt,
+        b"a load that is lost among gains of 10 MW, by rounding\n",
+    )?;
+    print_loads(rt, USEFUL_AREA, HEATING)?;
+    text(rt, b"the same with twice the useful area\n")?;
+    print_loads(rt, 2.0 * USEFUL_AREA, COOLING)
 }
