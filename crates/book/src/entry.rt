@@ -186,7 +186,9 @@ pub fn put_hour(
     );
 }
 
-// Is a whole entry the one that this version, these conditions and limits, this demand and these temperatures have: it is written anew and compared.
+// Is a whole entry the one that this version, these conditions and limits, this demand and these temperatures have: it is written anew and compared. Not
+// inlined, so that the stack of a take-up does not hold its buffer while an hour is calculated.
+#[inline(never)]
 pub fn is_entry(
     z: ZoneFront,
     codes: &[u8; 72],

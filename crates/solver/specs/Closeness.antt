@@ -21,7 +21,7 @@ is_finite (fin s m e) = true
 abbrev pub max : Float → Float → Float
 max x y = cond (lt x y) y x
 
--- The Rust's `relative_eq!`, document 01 "Closeness": equal, or both finite and |a - b| at most epsilon, or at most maxRelative times
+-- The Rust's `relative_eq!`, document 01 "Closeness": equal, or both finite and |a - b| at most epsilon, or at most max_relative times
 -- the larger magnitude, a product that is rounded once. So equal infinities are close, and a nan is close to nothing.
 unfoldable pub relative_eq : (a b epsilon max_relative : Float) → Bool
 relative_eq a b epsilon max_relative =

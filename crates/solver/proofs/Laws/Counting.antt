@@ -1,5 +1,5 @@
 -- Counting loops against `repeat`, `repeat_down` and `all` of specs/Repeat.antt. The invariant of a loop is that the turns that are left, from the
--- state now, give what all turns give from the state at the start. For `search (needs, repeat_turn)` and `search (needs, repeat_end)`.
+-- state now, give what all turns give from the state at the start. For `search (rules, repeat_turn)` and `search (rules, repeat_end)`.
 use mathlib.Core.Path.{◌≡◌, refl, sym, ap, ◌∙◌}
 use mathlib.Core.Bool.{Bool, true, false, ◌&&◌}
 use Prim.Native.Nat.{ℕ, suc, ◌+◌, ◌-◌, ◌≤◌, ◌<◌}

@@ -1,4 +1,4 @@
--- House P's head, start_up and hour, and its marked rows, by computing.
+-- House P's head, start-up and hour, and its marked rows, by computing.
 use mathlib.Core.Path.{◌≡◌, refl}
 use mathlib.Core.Bool.{true}
 use lib.ListN.{length}

@@ -1,5 +1,5 @@
 -- Counting loops whose invariant is that the turns or the terms that are left, from the state now, give what all give from the state at the start:
--- a turn keeps it, and at the end the state is the answer. For `search (needs, repeat_turn)` and `search (needs, repeat_end)`.
+-- a turn keeps it, and at the end the state is the answer. For `search (rules, repeat_turn)` and `search (rules, repeat_end)`.
 use mathlib.Core.Path.{◌≡◌, sym, ap, ◌∙◌}
 use mathlib.Core.List.{List}
 use Prim.Native.Nat.{ℕ, ◌+◌, ◌≤◌, ◌<◌}

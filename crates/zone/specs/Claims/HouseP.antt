@@ -1,4 +1,4 @@
--- House P: the marked rows of document 01 in one table under one claim, by computing; its head, start_up and hour. House and hours are bytes,
+-- House P: the marked rows of document 01 in one table under one claim, by computing; its head, start-up and hour. House and hours are bytes,
 -- read by the definitions that the contracts cite.
 use Rattle.std.specs.Prelude.{ℕ, ◌≡◌, Bool, true, false, ◌&&◌, List, [], ◌∷◌, ◌++◌, get_or, replicate, eqb, Float}
 use Rattle.std.specs.Float.{binary64, nan}
@@ -64,7 +64,7 @@ twenty = record { nodes = 3; temps = decimal 20 0 ∷ decimal 20 0 ∷ decimal 2
 abbrev pub no_demand : Demand
 no_demand = record { space_heat_demand = zero64; space_cool_demand = zero64; ach_cooling = zero64; ach_to_trigger_heating = Absent }
 
--- its head is 180 bytes; start_up finds 20, 20, 20; an hour with setpoints 20 and 24 wants nothing and leaves them, in each version; its heat balance is
+-- its head is 180 bytes; start-up finds 20, 20, 20; an hour with setpoints 20 and 24 wants nothing and leaves them, in each version; its heat balance is
 -- left open here
 pub record HousePClaims : Type 0 where
   pub head : head_of head_of_p ≡ ok (record { zone = house_p; length = 180 })

@@ -28,7 +28,7 @@ raised_to ach ach_min = cond (lt ach ach_min) ach_min ach
 unfoldable pub capped_at : (ach ach_max : Float) → Float
 capped_at ach ach_max = cond (lt ach_max ach) ach_max ach
 
--- Min: solved at the rate achMin; Max: solved at achMax; tempAch: the temperature that is controlled, tempIntAir: the air's. An early answer is
+-- Min: solved at the rate ach_min; Max: solved at ach_max; temp_ach: the temperature that is controlled, temp_int_air: the air's. An early answer is
 -- neither raised nor capped
 unfoldable pub ach_req_to_reach_temperature : (temp_target ach_min ach_max temp_ach_min temp_ach_max temp_int_air_min temp_int_air_max supply : Float) → Float
 ach_req_to_reach_temperature temp_target ach_min ach_max temp_ach_min temp_ach_max temp_int_air_min temp_int_air_max supply =

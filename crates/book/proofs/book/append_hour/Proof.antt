@@ -6,17 +6,13 @@ use Rattle.book.proofs.book.append_hour.Tie as tie
 
 append_entry_requires : tie.Need-append_entry-requires
 append_entry_requires c κs =
-    let h = c in
-    let s = h in
-    let l = s.well_formed.1.1.1.1.1.1.0 in
-    (s.requires.0, s.requires.1, append_given _ s.args.given _ _ _ s.args.buf.now s.requires.0 s.requires.1 s.requires.2 (passes _ l.1.1.0.1) (passes _ l.1.1.1.0.1) _ h.next_hour-x.ensures _ c.in-Accepted.is)
+    let l = c.well_formed.1.1.1.1.1.1.0 in
+    (c.requires.0, c.requires.1, append_given _ c.args.given _ _ _ c.args.buf.now c.requires.0 c.requires.1 c.requires.2 (passes _ l.1.1.0.1) (passes _ l.1.1.1.0.1) _ c.next_hour-x.ensures _ c.in-Accepted.is)
 
 returns : tie.Need-returns-in-Refused
 returns c =
-    let h = c in
-    let s = h in
-    let l = s.well_formed.1.1.1.1.1.1.0 in
-    append_hour_lem _ _ _ _ _ _ s.requires.0 s.requires.1 s.requires.2 (passes _ l.1.1.0.1) (passes _ l.1.1.1.0.1) _ h.next_hour-x.ensures _ _ _ c.refuse.ensures c.in-Refused.is
+    let l = c.well_formed.1.1.1.1.1.1.0 in
+    append_hour_lem _ _ _ _ _ _ c.requires.0 c.requires.1 c.requires.2 (passes _ l.1.1.0.1) (passes _ l.1.1.1.0.1) _ c.next_hour-x.ensures _ _ _ c.refuse.ensures c.in-Refused.is
 
 pub append_hour_spec : {M : Type 1} → statement M
 append_hour_spec =

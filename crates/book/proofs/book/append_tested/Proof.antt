@@ -8,7 +8,7 @@ returns : tie.Need-returns-then-given-ge-MOST_ENTRIES
 returns c = search append_cases
 
 append_hour_requires : tie.Need-append_hour-requires
-append_hour_requires c κs = let m = c in (m.requires, m.if-given-ge-MOST_ENTRIES.false, sym m.may_follow.ensures ∙ c.if-may_follow.true)
+append_hour_requires c κs = (c.requires, c.if-given-ge-MOST_ENTRIES.false, sym c.may_follow.ensures ∙ c.if-may_follow.true)
 
 returns_3 : tie.Need-returns
 returns_3 c = search append_cases

@@ -19,17 +19,15 @@ loop_holds c = (omega arith, refl, paste-zero c.args.b.now c.args.at c.args.src.
 
 loop_again : tie.Need-loop-i-preserved invariant_loop decreases_loop
 loop_again c =
-    let a = c in
-    (omega arith, simp length-set (omega arith), copy_more a.args.b.now a.args.at a.args.src.now a.args.count a.requires.1 a.requires.0 _ _ c.loop-i.invariant.2 (search))
+    (omega arith, simp length-set (omega arith), copy_more c.args.b.now c.args.at c.args.src.now c.args.count c.requires.1 c.requires.0 _ _ c.loop-i.invariant.2 (search))
 
 same_length : tie.Need-shape_of-b invariant_loop decreases_loop
 same_length c = c.loop-i.invariant.1
 
 returns : tie.Need-returns invariant_loop decreases_loop
 returns c =
-    let a = c in
     let l = c.loop-i in
-    copy_done a.args.b.now a.args.at a.args.src.now a.args.count a.requires.1 a.requires.0 l.b l.i l.invariant.2 (search) (search)
+    copy_done c.args.b.now c.args.at c.args.src.now c.args.count c.requires.1 c.requires.0 l.b l.i l.invariant.2 (search) (search)
 
 pub copy_spec : {M : Type 1} → statement M
 copy_spec =

@@ -7,20 +7,15 @@ use Rattle.book.proofs.checked_entry.check_entry.Tie as tie
 
 check_hour_requires : tie.Need-check_hour-requires
 check_hour_requires c κs =
-    let t = c in
-    let m = t in
-    let s = m in
-    let follows = sym m.may_follow.ensures ∙ t.if-may_follow.true in
-    (s.requires.0, entry_known _ _ _ s.requires.1 _ refl follows, s.requires.2, follows)
+    let follows = sym c.may_follow.ensures ∙ c.if-may_follow.true in
+    (c.requires.0, entry_known _ _ _ c.requires.1 _ refl follows, c.requires.2, follows)
 
 returns : tie.Need-returns-then-may_follow
 returns c = let e = c.check_hour.ensures in (entry_by_hour _ _ _ _ _ _ refl _ e.0, e.1)
 
 returns_2 : tie.Need-returns
 returns_2 c =
-    let t = c in
-    let m = t in
-    (entry_not_next _ _ _ _ _ _ refl _ m.may_follow.ensures t.if-may_follow.false _ c.false_entry.ensures, m.requires.2)
+    (entry_not_next _ _ _ _ _ _ refl _ c.may_follow.ensures c.if-may_follow.false _ c.false_entry.ensures, c.requires.2)
 
 pub check_entry_spec : {M : Type 1} → statement M
 check_entry_spec =

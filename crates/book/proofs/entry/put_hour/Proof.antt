@@ -13,25 +13,19 @@ use Rattle.book.proofs.entry.put_hour.Tie as tie
 
 put_entry_requires : tie.Need-put_entry-requires
 put_entry_requires c κs =
-    let b = c in
-    let s = b in
-    let cut = part_cut s.args.version s.args.limits _ _ b.put_limits.ensures c.limits_length-n.ensures.0 in
-    (s.requires.0, s.requires.1, ap length cut ∙ part_length s.args.version s.args.limits, s.requires.2)
+    let cut = part_cut c.args.version c.args.limits _ _ c.put_limits.ensures c.limits_length-n.ensures.0 in
+    (c.requires.0, c.requires.1, ap length cut ∙ part_length c.args.version c.args.limits, c.requires.2)
 
 part_end : tie.Need-slice_bounds-put_entry-end
 part_end c =
-    let b = c in
-    omega (arith, ap length b.put_limits.ensures ∙ limits_length_lem b.args.limits, c.limits_length-n.ensures.1)
+    omega (arith, ap length c.put_limits.ensures ∙ limits_length_lem c.args.limits, c.limits_length-n.ensures.1)
 
 returns : tie.Need-returns
 returns c =
-    let p = c in
-    let l = p in
-    let b = l in
-    let s = b.args in
-    let cut = part_cut s.version s.limits _ _ b.put_limits.ensures l.limits_length-n.ensures.0 in
+    let s = c.args in
+    let cut = part_cut s.version s.limits _ _ c.put_limits.ensures c.limits_length-n.ensures.0 in
     let z = zone_in s.z s.codes.now s.values.now in
-    p.put_entry.ensures ∙ ap (λ y. replace_at s.at (entry_of z s.version (s.conditions.now ++ y) s.d s.s) s.b.now) cut
+    c.put_entry.ensures ∙ ap (λ y. replace_at s.at (entry_of z s.version (s.conditions.now ++ y) s.d s.s) s.b.now) cut
 
 pub put_hour_spec : {M : Type 1} → statement M
 put_hour_spec =

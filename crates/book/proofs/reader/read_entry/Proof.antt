@@ -43,16 +43,16 @@ returns : tie.Need-returns-then-z-gt-MOST_ELEMENTS
 returns c = let a = c.args in many (zone_in a.z a.codes.now a.values.now) a.rest.now a.temps.now c.if-z-gt-MOST_ELEMENTS.true
 
 within : tie.Need-slice_bounds-read_state-end
-within c = let f = c in let a = f.args in
-    inside (zone_in a.z a.codes.now a.values.now) a.rest.now a.temps.now f.if-z-gt-MOST_ELEMENTS.false _ f.record_in-record.ensures _ c.in-Whole.is
+within c = let a = c.args in
+    inside (zone_in a.z a.codes.now a.values.now) a.rest.now a.temps.now c.if-z-gt-MOST_ELEMENTS.false _ c.record_in-record.ensures _ c.in-Whole.is
 
 returns_2 : tie.Need-returns-in-Dropped
-returns_2 c = let f = c in let a = f.args in
-    none_read (zone_in a.z a.codes.now a.values.now) a.rest.now a.temps.now f.if-z-gt-MOST_ELEMENTS.false _ f.record_in-record.ensures c.in-Dropped.is
+returns_2 c = let a = c.args in
+    none_read (zone_in a.z a.codes.now a.values.now) a.rest.now a.temps.now c.if-z-gt-MOST_ELEMENTS.false _ c.record_in-record.ensures c.in-Dropped.is
 
 returns_3 : tie.Need-returns-in-Whole
-returns_3 c = let f = c in let a = f.args in
-    first_read (zone_in a.z a.codes.now a.values.now) a.rest.now a.temps.now f.if-z-gt-MOST_ELEMENTS.false _ f.record_in-record.ensures _ c.in-Whole.is _ c.read_state.ensures
+returns_3 c = let a = c.args in
+    first_read (zone_in a.z a.codes.now a.values.now) a.rest.now a.temps.now c.if-z-gt-MOST_ELEMENTS.false _ c.record_in-record.ensures _ c.in-Whole.is _ c.read_state.ensures
 
 pub read_entry_spec : {M : Type 1} → statement M
 read_entry_spec =

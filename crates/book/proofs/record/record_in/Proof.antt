@@ -12,21 +12,16 @@ returns c = sym (rest_under _ _ c.if-rest-lt-FRONT_SIZE.true)
 
 returns_2 : tie.Need-returns-then-rest-length
 returns_2 c =
-    let l = c in
-    let v = l in
-    sym (rest_short _ _ (omega (arith, v.if-rest-lt-FRONT_SIZE.false)) (sym v.hour_version.ensures ∙ l.if-hour_version.true) (omega (arith, c.if-rest-length.true, l.whole_length-length.ensures.0)))
+    sym (rest_short _ _ (omega (arith, c.if-rest-lt-FRONT_SIZE.false)) (sym c.hour_version.ensures ∙ c.if-hour_version.true) (omega (arith, c.if-rest-length.true, c.whole_length-length.ensures.0)))
 
 returns_3 : tie.Need-returns-then-hour_version
 returns_3 c =
-    let l = c in
-    let v = l in
-    ap some l.whole_length-length.ensures.0
-    ∙ sym (rest_whole _ _ (omega (arith, v.if-rest-lt-FRONT_SIZE.false)) (sym v.hour_version.ensures ∙ l.if-hour_version.true) (omega (arith, c.if-rest-length.false, l.whole_length-length.ensures.0)))
+    ap some c.whole_length-length.ensures.0
+    ∙ sym (rest_whole _ _ (omega (arith, c.if-rest-lt-FRONT_SIZE.false)) (sym c.hour_version.ensures ∙ c.if-hour_version.true) (omega (arith, c.if-rest-length.false, c.whole_length-length.ensures.0)))
 
 returns_4 : tie.Need-returns
 returns_4 c =
-    let v = c in
-    sym (rest_unknown _ _ (omega (arith, v.if-rest-lt-FRONT_SIZE.false)) (sym v.hour_version.ensures ∙ c.if-hour_version.false))
+    sym (rest_unknown _ _ (omega (arith, c.if-rest-lt-FRONT_SIZE.false)) (sym c.hour_version.ensures ∙ c.if-hour_version.false))
 
 pub record_in_spec : {M : Type 1} → statement M
 record_in_spec =

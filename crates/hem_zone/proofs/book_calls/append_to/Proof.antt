@@ -5,14 +5,11 @@ use Rattle.hem_zone.proofs.book_calls.append_to.Tie as tie
 
 returns : tie.Need-returns-in-Refused
 returns c =
-    let a = c in
-    append_refused _ _ _ _ _ a.book_state_in-given.ensures _ _ a.append-x.ensures _ _ _ c.in-Refused.is c.refusal_code.ensures
+    append_refused _ _ _ _ _ c.book_state_in-given.ensures _ _ c.append-x.ensures _ _ _ c.in-Refused.is c.refusal_code.ensures
 
 returns_2 : tie.Need-returns-in-Accepted
 returns_2 c =
-    let t = c in
-    let a = t in
-    append_accepted _ _ _ _ _ a.book_state_in-given.ensures _ _ a.append-x.ensures _ t.in-Accepted.is c.write_book_state.ensures
+    append_accepted _ _ _ _ _ c.book_state_in-given.ensures _ _ c.append-x.ensures _ c.in-Accepted.is c.write_book_state.ensures
 
 pub append_to_spec : {M : Type 1} → statement M
 append_to_spec =

@@ -20,16 +20,14 @@ loop_holds c = (omega (arith, c.outer_slot-outer.ensures.2), refl)
 loop_again : tie.Need-loop-j-preserved invariant_loop decreases_loop
 loop_again c =
     let l = c.loop-j in
-    let s = c in
-    (omega (arith, l.invariant.0), sym (down_next (back_substitute_node s.args.diag.now s.args.next.now c.outer_slot-outer.result) l.j l.t (omega (arith, c.loop-j-test.true))) ∙ l.invariant.1)
+    (omega (arith, l.invariant.0), sym (down_next (back_substitute_node c.args.diag.now c.args.next.now c.outer_slot-outer.result) l.j l.t (omega (arith, c.loop-j-test.true))) ∙ l.invariant.1)
 
 returns : tie.Need-returns invariant_loop decreases_loop
 unfolding back_substitute_chain
 returns c =
     let l = c.loop-j in
-    let s = c in
     rw (← c.outer_slot-outer.ensures.0)
-    (sym (down_done (back_substitute_node s.args.diag.now s.args.next.now c.outer_slot-outer.result) l.j l.t c.loop-j-test.false) ∙ l.invariant.1)
+    (sym (down_done (back_substitute_node c.args.diag.now c.args.next.now c.outer_slot-outer.result) l.j l.t c.loop-j-test.false) ∙ l.invariant.1)
 
 pub back_substitute_chain_spec : {M : Type 1} → statement M
 back_substitute_chain_spec =

@@ -22,8 +22,7 @@ loop_again c = search (rules, repeat_turn)
 returns : tie.Need-returns invariant_loop decreases_loop
 returns c =
     let l = c.loop-e in
-    let s = c in
-    ap (λ (z : List Float). set z s.args.n s.args.air) (repeat_end (gather_loaded_inner s.args.b.now s.args.inner.now s.args.gains) l.e s.args.n l.v _ c.loop-e-test.false l.invariant)
+    ap (λ (z : List Float). set z c.args.n c.args.air) (repeat_end (gather_loaded_inner c.args.b.now c.args.inner.now c.args.gains) l.e c.args.n l.v _ c.loop-e-test.false l.invariant)
 
 pub gather_loaded_spec : {M : Type 1} → statement M
 gather_loaded_spec =

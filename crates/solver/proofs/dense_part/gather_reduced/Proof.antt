@@ -22,8 +22,7 @@ loop_again c = search (rules, repeat_turn)
 returns : tie.Need-returns invariant_loop decreases_loop
 returns c =
     let l = c.loop-e in
-    let s = c in
-    ap (λ (z : List Float). set z s.args.n (get_or s.args.b.now 120 nan)) (repeat_end (gather_reduced_inner s.args.b.now s.args.inner.now) l.e s.args.n l.v _ c.loop-e-test.false l.invariant)
+    ap (λ (z : List Float). set z c.args.n (get_or c.args.b.now 120 nan)) (repeat_end (gather_reduced_inner c.args.b.now c.args.inner.now) l.e c.args.n l.v _ c.loop-e-test.false l.invariant)
 
 pub gather_reduced_spec : {M : Type 1} → statement M
 gather_reduced_spec =

@@ -20,19 +20,17 @@ loop_holds c = (omega arith, refl)
 loop_again : tie.Need-loop-k-preserved invariant_loop decreases_loop
 unfolding back_step
 loop_again c =
-    let l = c.loop-k in
-    let s = c in (
+    let l = c.loop-k in (
       omega (arith, l.invariant.0),
-      ap (repeat_down (l.k - 1) (back_step s.args.m.now)) (rw c.entry.ensures at c.subtract_multiples.ensures)
-          ∙ sym (down_next (back_step s.args.m.now) l.k l.b c.loop-k-test.true) ∙ l.invariant.1,
+      ap (repeat_down (l.k - 1) (back_step c.args.m.now)) (rw c.entry.ensures at c.subtract_multiples.ensures)
+          ∙ sym (down_next (back_step c.args.m.now) l.k l.b c.loop-k-test.true) ∙ l.invariant.1,
     )
 
 returns : tie.Need-returns invariant_loop decreases_loop
 unfolding back_substitution
 returns c =
     let l = c.loop-k in
-    let s = c in
-    sym (down_done (back_step s.args.m.now) l.k l.b c.loop-k-test.false) ∙ l.invariant.1
+    sym (down_done (back_step c.args.m.now) l.k l.b c.loop-k-test.false) ∙ l.invariant.1
 
 pub back_substitution_spec : {M : Type 1} → statement M
 back_substitution_spec =

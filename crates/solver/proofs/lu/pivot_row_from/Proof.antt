@@ -8,9 +8,8 @@ use Rattle.solver.proofs.lu.pivot_row_from.Tie as tie
 
 returns : tie.Need-returns
 returns c =
-    let s = c in
-    let h = rw (part_to_end s.args.m.now (25 * s.args.k)) at c.pivot_row.ensures in
-    (ap (λ (x : ℕ). s.args.k + x) h.0, omega (arith, h.1))
+    let h = rw (part_to_end c.args.m.now (25 * c.args.k)) at c.pivot_row.ensures in
+    (ap (λ (x : ℕ). c.args.k + x) h.0, omega (arith, h.1))
 
 pub pivot_row_from_spec : {M : Type 1} → statement M
 pivot_row_from_spec =

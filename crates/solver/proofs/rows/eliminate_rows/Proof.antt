@@ -31,14 +31,12 @@ loop_less c = search rules
 loop_again : tie.Need-loop-i-preserved invariant_loop decreases_loop
 loop_again c =
     let l = c.loop-i in
-    let s = c in
-    rw c.eliminate_row.ensures (sym (repeat_next (eliminate_row s.args.w s.args.k s.args.pivots.now s.args.reciprocal) l.i s.args.h l.m c.loop-i-test.true) ∙ l.invariant)
+    rw c.eliminate_row.ensures (sym (repeat_next (eliminate_row c.args.w c.args.k c.args.pivots.now c.args.reciprocal) l.i c.args.h l.m c.loop-i-test.true) ∙ l.invariant)
 
 returns : tie.Need-returns invariant_loop decreases_loop
 returns c =
     let l = c.loop-i in
-    let s = c in
-    sym (repeat_done (eliminate_row s.args.w s.args.k s.args.pivots.now s.args.reciprocal) l.i s.args.h l.m c.loop-i-test.false) ∙ l.invariant
+    sym (repeat_done (eliminate_row c.args.w c.args.k c.args.pivots.now c.args.reciprocal) l.i c.args.h l.m c.loop-i-test.false) ∙ l.invariant
 
 pub eliminate_rows_spec : {M : Type 1} → statement M
 eliminate_rows_spec =

@@ -24,40 +24,39 @@ loop_holds : tie.Need-loop-length-init invariant_loop decreases_loop
 loop_holds c = (omega arith, omega arith, no_temperatures _, none_at_first _ _ _)
 
 next_hour_requires : tie.Need-next_hour-next-requires invariant_loop decreases_loop
-next_hour_requires c κs = let l = c in (l.requires, l.loop-length.invariant.2)
+next_hour_requires c κs = (c.requires, c.loop-length.invariant.2)
 
--- f: where the next hour is found; l: at the loop
 returns : tie.Need-returns-in-End invariant_loop decreases_loop
-returns c = let f = c in let l = f in let a = l.args in let z = zone_in a.z a.codes.now a.values.now in
-    rw (above_none a.value a.start (temperatures_in z a.entries.now) _ _ _ l.loop-length.invariant.3 (hours_end z l.loop-length.at a.entries.now _ f.next_hour-next.ensures.0 c.in-End.is)) refl
+returns c = let a = c.args in let z = zone_in a.z a.codes.now a.values.now in
+    rw (above_none a.value a.start (temperatures_in z a.entries.now) _ _ _ c.loop-length.invariant.3 (hours_end z c.loop-length.at a.entries.now _ c.next_hour-next.ensures.0 c.in-End.is)) refl
 
 returns_2 : tie.Need-returns-then-goes_above invariant_loop decreases_loop
-returns_2 c = let f = c in let l = f in let a = l.args in let z = zone_in a.z a.codes.now a.values.now in
-    let n = hours_next z l.loop-length.at a.entries.now _ f.next_hour-next.ensures.0 _ _ c.in-Next.is in
-    rw (above_found a.value a.start (temperatures_in z a.entries.now) _ _ _ l.loop-length.invariant.3 _ _ n.opened (sym c.goes_above.ensures ∙ c.if-goes_above.true)) refl
+returns_2 c = let a = c.args in let z = zone_in a.z a.codes.now a.values.now in
+    let n = hours_next z c.loop-length.at a.entries.now _ c.next_hour-next.ensures.0 _ _ c.in-Next.is in
+    rw (above_found a.value a.start (temperatures_in z a.entries.now) _ _ _ c.loop-length.invariant.3 _ _ n.opened (sym c.goes_above.ensures ∙ c.if-goes_above.true)) refl
 
 add_hour : tie.Need-overflow_add-hour invariant_loop decreases_loop
-add_hour c = let f = c in let l = f in let a = l.args in let z = zone_in a.z a.codes.now a.values.now in
-    let n = hours_next z l.loop-length.at a.entries.now _ f.next_hour-next.ensures.0 _ _ c.in-Next.is in
-    omega (arith, l.loop-length.invariant.0, l.loop-length.invariant.1, n.some_bytes, n.inside, l.before.before.well_formed.1.1.1.0)
+add_hour c = let a = c.args in let z = zone_in a.z a.codes.now a.values.now in
+    let n = hours_next z c.loop-length.at a.entries.now _ c.next_hour-next.ensures.0 _ _ c.in-Next.is in
+    omega (arith, c.loop-length.invariant.0, c.loop-length.invariant.1, n.some_bytes, n.inside, c.before.before.well_formed.1.1.1.0)
 
 add_at : tie.Need-overflow_add-at invariant_loop decreases_loop
-add_at c = let f = c in let l = f in let a = l.args in let z = zone_in a.z a.codes.now a.values.now in
-    let n = hours_next z l.loop-length.at a.entries.now _ f.next_hour-next.ensures.0 _ _ c.in-Next.is in
-    omega (arith, l.loop-length.invariant.0, n.inside, l.before.before.well_formed.1.1.1.0)
+add_at c = let a = c.args in let z = zone_in a.z a.codes.now a.values.now in
+    let n = hours_next z c.loop-length.at a.entries.now _ c.next_hour-next.ensures.0 _ _ c.in-Next.is in
+    omega (arith, c.loop-length.invariant.0, n.inside, c.before.before.well_formed.1.1.1.0)
 
 loop_less : tie.Need-loop-length-smaller invariant_loop decreases_loop
-loop_less c = let f = c in let l = f in let a = l.args in let z = zone_in a.z a.codes.now a.values.now in
-    let n = hours_next z l.loop-length.at a.entries.now _ f.next_hour-next.ensures.0 _ _ c.in-Next.is in
-    omega (arith, l.loop-length.invariant.0, n.some_bytes, n.inside)
+loop_less c = let a = c.args in let z = zone_in a.z a.codes.now a.values.now in
+    let n = hours_next z c.loop-length.at a.entries.now _ c.next_hour-next.ensures.0 _ _ c.in-Next.is in
+    omega (arith, c.loop-length.invariant.0, n.some_bytes, n.inside)
 
 loop_again : tie.Need-loop-length-preserved invariant_loop decreases_loop
-loop_again c = let f = c in let l = f in let a = l.args in let z = zone_in a.z a.codes.now a.values.now in
-    let n = hours_next z l.loop-length.at a.entries.now _ f.next_hour-next.ensures.0 _ _ c.in-Next.is in (
-      omega (arith, l.loop-length.invariant.0, n.inside),
-      omega (arith, l.loop-length.invariant.1, n.some_bytes),
-      f.next_hour-next.ensures.1,
-      above_turn a.value a.start (temperatures_in z a.entries.now) _ _ _ l.loop-length.invariant.3 _ _ n.opened (sym c.goes_above.ensures ∙ c.if-goes_above.false),
+loop_again c = let a = c.args in let z = zone_in a.z a.codes.now a.values.now in
+    let n = hours_next z c.loop-length.at a.entries.now _ c.next_hour-next.ensures.0 _ _ c.in-Next.is in (
+      omega (arith, c.loop-length.invariant.0, n.inside),
+      omega (arith, c.loop-length.invariant.1, n.some_bytes),
+      c.next_hour-next.ensures.1,
+      above_turn a.value a.start (temperatures_in z a.entries.now) _ _ _ c.loop-length.invariant.3 _ _ n.opened (sym c.goes_above.ensures ∙ c.if-goes_above.false),
     )
 
 pub first_above_in_spec : {M : Type 1} → statement M

@@ -6,55 +6,48 @@ use borrow.Author.Rules.{rules}
 use Rattle.tools.proofs.within.hours_within.Statement.{statement}
 use Rattle.tools.proofs.within.hours_within.Tie as tie
 
--- b: where the book is read; t: that it is accepted
 inside : tie.Need-slice_bounds-hours_within_in-count
 inside c =
-    let b = c in
-    let r = b.read_book-book in
-    let a = b.args in
+    let r = c.read_book-book in
+    let a = c.args in
     let t = c.in-Accepted.is in
-    (book_taken a.bytes.now r.result.head r.new.codes r.new.values r.ensures.0 b.nothing_held-given.result _ r.ensures.2 _ r.ensures.3 t).inside
+    (book_taken a.bytes.now r.result.head r.new.codes r.new.values r.ensures.0 c.nothing_held-given.result _ r.ensures.2 _ r.ensures.3 t).inside
 
 starts : tie.Need-slice_bounds-hours_within_in-start
 starts c =
-    let b = c in
-    let r = b.read_book-book in
-    let a = b.args in
+    let r = c.read_book-book in
+    let a = c.args in
     let t = c.in-Accepted.is in
-    let within = (book_taken a.bytes.now r.result.head r.new.codes r.new.values r.ensures.0 b.nothing_held-given.result _ r.ensures.2 _ r.ensures.3 t).inside in
+    let within = (book_taken a.bytes.now r.result.head r.new.codes r.new.values r.ensures.0 c.nothing_held-given.result _ r.ensures.2 _ r.ensures.3 t).inside in
     omega (arith, within)
 
 hours_within_in_requires : tie.Need-hours_within_in-requires
 hours_within_in_requires c κs =
-    let b = c in
-    let r = b.read_book-book in
-    let a = b.args in
+    let r = c.read_book-book in
+    let a = c.args in
     let t = c.in-Accepted.is in
-    (book_taken a.bytes.now r.result.head r.new.codes r.new.values r.ensures.0 b.nothing_held-given.result _ r.ensures.2 _ r.ensures.3 t).few
+    (book_taken a.bytes.now r.result.head r.new.codes r.new.values r.ensures.0 c.nothing_held-given.result _ r.ensures.2 _ r.ensures.3 t).few
 
 returns : tie.Need-returns-then-band_valid
 returns c =
-    let b = c in
-    let r = b.read_book-book in
-    let a = b.args in
+    let r = c.read_book-book in
+    let a = c.args in
     let t = c.in-Accepted.is in
     let valid = sym c.band_valid.ensures ∙ c.if-band_valid.true in
-    within_answer a.bytes.now _ _ _ (book_taken a.bytes.now r.result.head r.new.codes r.new.values r.ensures.0 b.nothing_held-given.result _ r.ensures.2 _ r.ensures.3 t) a.lower a.upper valid _ c.hours_within_in.ensures
+    within_answer a.bytes.now _ _ _ (book_taken a.bytes.now r.result.head r.new.codes r.new.values r.ensures.0 c.nothing_held-given.result _ r.ensures.2 _ r.ensures.3 t) a.lower a.upper valid _ c.hours_within_in.ensures
 
 returns_2 : tie.Need-returns-in-Refused
 returns_2 c =
-    let b = c in
-    let r = b.read_book-book in
-    let a = b.args in
-    rw (within_refused a.bytes.now _ _ (book_refused b.nothing_held-given.result a.bytes.now r.result.reply r.ensures.3 _ _ c.in-Refused.is) a.lower a.upper) refl
+    let r = c.read_book-book in
+    let a = c.args in
+    rw (within_refused a.bytes.now _ _ (book_refused c.nothing_held-given.result a.bytes.now r.result.reply r.ensures.3 _ _ c.in-Refused.is) a.lower a.upper) refl
 
 returns_3 : tie.Need-returns-else-band_valid
 returns_3 c =
-    let b = c in
-    let r = b.read_book-book in
-    let a = b.args in
+    let r = c.read_book-book in
+    let a = c.args in
     let t = c.in-Accepted.is in
-    let C = book_taken a.bytes.now r.result.head r.new.codes r.new.values r.ensures.0 b.nothing_held-given.result _ r.ensures.2 _ r.ensures.3 t in
+    let C = book_taken a.bytes.now r.result.head r.new.codes r.new.values r.ensures.0 c.nothing_held-given.result _ r.ensures.2 _ r.ensures.3 t in
     rw (within_invalid a.bytes.now _ C.contents a.lower a.upper (sym c.band_valid.ensures ∙ c.if-band_valid.false)) refl
 
 pub hours_within_spec : {M : Type 1} → statement M

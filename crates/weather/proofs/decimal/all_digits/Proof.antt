@@ -18,15 +18,15 @@ loop_holds : tie.Need-loop-i-init invariant_loop decreases_loop
 loop_holds c = (omega arith, refl)
 
 returns : tie.Need-returns-then-not-is_digit invariant_loop decreases_loop
-returns c = let i = c in let l = i in let bs = l.args.bytes.now in
-    sym (l.loop-i.invariant.1 ∙ digits_stop bs l.loop-i.i i.loop-i-test.true (sym c.is_digit.ensures ∙ c.if-not-is_digit.true))
+returns c = let bs = c.args.bytes.now in
+    sym (c.loop-i.invariant.1 ∙ digits_stop bs c.loop-i.i c.loop-i-test.true (sym c.is_digit.ensures ∙ c.if-not-is_digit.true))
 
 loop_again : tie.Need-loop-i-preserved invariant_loop decreases_loop
-loop_again c = let i = c in let l = i in let bs = l.args.bytes.now in
-    (omega (arith, i.loop-i-test.true), l.loop-i.invariant.1 ∙ digits_next bs l.loop-i.i i.loop-i-test.true (sym c.is_digit.ensures ∙ c.if-not-is_digit.false))
+loop_again c = let bs = c.args.bytes.now in
+    (omega (arith, c.loop-i-test.true), c.loop-i.invariant.1 ∙ digits_next bs c.loop-i.i c.loop-i-test.true (sym c.is_digit.ensures ∙ c.if-not-is_digit.false))
 
 returns_2 : tie.Need-returns invariant_loop decreases_loop
-returns_2 c = let l = c in sym (l.loop-i.invariant.1 ∙ digits_end l.args.bytes.now l.loop-i.i c.loop-i-test.false)
+returns_2 c = sym (c.loop-i.invariant.1 ∙ digits_end c.args.bytes.now c.loop-i.i c.loop-i-test.false)
 
 pub all_digits_spec : {M : Type 1} → statement M
 all_digits_spec = tie.close (tie.spec invariant_loop decreases_loop loop_holds (λ c. search rules) (λ c κs. tt) returns (λ c. search rules) (λ c. search rules) loop_again returns_2)

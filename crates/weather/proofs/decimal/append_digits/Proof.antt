@@ -22,32 +22,32 @@ loop_holds c = let ds = c.args.digits.now in let z : length ds - 0 ≡ length ds
     (omega arith, c.requires.0, ap (λ x. c.args.before * 10 ^ x + number ds) z)
 
 mul_n : tie.Need-overflow_mul-n invariant_loop decreases_loop
-mul_n c = let l = c in let ds = l.args.digits.now in
-    let h = digits_room ds l.loop-i.n l.loop-i.i c.loop-i-test.true in
-    omega (arith, h, l.loop-i.invariant.2, l.requires.1)
+mul_n c = let ds = c.args.digits.now in
+    let h = digits_room ds c.loop-i.n c.loop-i.i c.loop-i-test.true in
+    omega (arith, h, c.loop-i.invariant.2, c.requires.1)
 
 sub_n : tie.Need-overflow_sub-n invariant_loop decreases_loop
-sub_n c = let l = c in (digit_bounds l.args.digits.now l.loop-i.i c.loop-i-test.true l.loop-i.invariant.1).0
+sub_n c = (digit_bounds c.args.digits.now c.loop-i.i c.loop-i-test.true c.loop-i.invariant.1).0
 
 cast_n : tie.Need-overflow_cast-n invariant_loop decreases_loop
-cast_n c = let l = c in
-    let b = digit_bounds l.args.digits.now l.loop-i.i c.loop-i-test.true l.loop-i.invariant.1 in
+cast_n c =
+    let b = digit_bounds c.args.digits.now c.loop-i.i c.loop-i-test.true c.loop-i.invariant.1 in
     omega (arith, b.1)
 
 add_n : tie.Need-overflow_add-n invariant_loop decreases_loop
-add_n c = let l = c in let ds = l.args.digits.now in
-    let h = digits_room ds l.loop-i.n l.loop-i.i c.loop-i-test.true in
-    omega (arith, h, l.loop-i.invariant.2, l.requires.1)
+add_n c = let ds = c.args.digits.now in
+    let h = digits_room ds c.loop-i.n c.loop-i.i c.loop-i-test.true in
+    omega (arith, h, c.loop-i.invariant.2, c.requires.1)
 
 loop_again : tie.Need-loop-i-preserved invariant_loop decreases_loop
-loop_again c = let l = c in let ds = l.args.digits.now in let within = c.loop-i-test.true in (
+loop_again c = let ds = c.args.digits.now in let within = c.loop-i-test.true in (
   omega (arith, within),
-  (digit_bounds ds l.loop-i.i within l.loop-i.invariant.1).2,
-  sym (digits_append ds l.loop-i.n l.loop-i.i within) ∙ l.loop-i.invariant.2,
+  (digit_bounds ds c.loop-i.i within c.loop-i.invariant.1).2,
+  sym (digits_append ds c.loop-i.n c.loop-i.i within) ∙ c.loop-i.invariant.2,
 )
 
 returns : tie.Need-returns invariant_loop decreases_loop
-returns c = let l = c in digits_whole l.args.digits.now l.loop-i.n l.loop-i.i c.loop-i-test.false ∙ l.loop-i.invariant.2
+returns c = digits_whole c.args.digits.now c.loop-i.n c.loop-i.i c.loop-i-test.false ∙ c.loop-i.invariant.2
 
 pub append_digits_spec : {M : Type 1} → statement M
 append_digits_spec =

@@ -16,13 +16,13 @@ returns : tie.Need-returns-then-field-eq0
 returns c = empty_field _ c.if-field-eq0.true
 
 returns_2 : tie.Need-returns-then-field-eq-MINUS_SIGN
-returns_2 c = let t = c in let f = t.args.field.now in
+returns_2 c = let f = c.args.field.now in
     subst (λ o. Reads o c.read_unsigned.result)
-    (ap (short_unsigned true) (part_to_end f 1) ∙ minus_field f (some_bytes _ t.if-field-eq0.false) t.if-field-eq-MINUS_SIGN.true) c.read_unsigned.ensures
+    (ap (short_unsigned true) (part_to_end f 1) ∙ minus_field f (some_bytes _ c.if-field-eq0.false) c.if-field-eq-MINUS_SIGN.true) c.read_unsigned.ensures
 
 returns_3 : tie.Need-returns
-returns_3 c = let e = c in let f = e.args.field.now in
-    subst (λ o. Reads o c.read_unsigned-2.result) (plain_field f (some_bytes _ e.if-field-eq0.false) e.if-field-eq-MINUS_SIGN.false) c.read_unsigned-2.ensures
+returns_3 c = let f = c.args.field.now in
+    subst (λ o. Reads o c.read_unsigned-2.result) (plain_field f (some_bytes _ c.if-field-eq0.false) c.if-field-eq-MINUS_SIGN.false) c.read_unsigned-2.ensures
 
 pub read_decimal_spec : {M : Type 1} → statement M
 read_decimal_spec =

@@ -12,17 +12,17 @@ of_digits_requires c κs = (
 )
 
 returns : tie.Need-returns-then-is_digits-2
-returns c = let t = c in let i = t in let a = i.args in
+returns c = let a = c.args in
     subst (λ o. Reads o c.of_digits.result)
-    (both_digits a.minus a.whole.now a.fraction.now (sym i.is_digits.ensures ∙ t.if-is_digits.true) (sym t.is_digits-then-is_digits.ensures ∙ t.if-is_digits-2.true))
+    (both_digits a.minus a.whole.now a.fraction.now (sym c.is_digits.ensures ∙ c.if-is_digits.true) (sym c.is_digits-then-is_digits.ensures ∙ c.if-is_digits-2.true))
     c.of_digits.ensures
 
 returns_2 : tie.Need-returns-else-is_digits-2
-returns_2 c = let i = c in let a = i.args in
-    not_fraction a.minus a.whole.now a.fraction.now (sym i.is_digits.ensures ∙ c.if-is_digits.true) (sym c.is_digits-then-is_digits.ensures ∙ c.if-is_digits-2.false)
+returns_2 c = let a = c.args in
+    not_fraction a.minus a.whole.now a.fraction.now (sym c.is_digits.ensures ∙ c.if-is_digits.true) (sym c.is_digits-then-is_digits.ensures ∙ c.if-is_digits-2.false)
 
 returns_3 : tie.Need-returns-else-is_digits
-returns_3 c = let i = c in let a = i.args in not_whole a.minus a.whole.now a.fraction.now (sym i.is_digits.ensures ∙ c.if-is_digits.false)
+returns_3 c = let a = c.args in not_whole a.minus a.whole.now a.fraction.now (sym c.is_digits.ensures ∙ c.if-is_digits.false)
 
 pub read_parts_spec : {M : Type 1} → statement M
 read_parts_spec = tie.close (tie.spec (λ c κs. tt) (λ c κs. tt) of_digits_requires returns returns_2 returns_3)

@@ -16,41 +16,40 @@ use Rattle.weather.proofs.decimal.read_unsigned.Tie as tie
 
 of_digits_requires : tie.Need-of_digits-requires
 unfolding all_digits
-of_digits_requires c κs = let p = c in let bs = p.args.bytes.now in (
+of_digits_requires c κs = let bs = c.args.bytes.now in (
   digits_all bs (sym c.is_digits.ensures ∙ c.if-is_digits.true),
-  subst (λ l. all_digits l ≡ true) (sym (empty_part bs p.piece_length-n.result)) refl,
+  subst (λ l. all_digits l ≡ true) (sym (empty_part bs c.piece_length-n.result)) refl,
 )
 
--- p: where the first point is found
 returns : tie.Need-returns-then-is_digits
-returns c = let t = c in let p = t in let a = p.args in let bs = a.bytes.now in
+returns c = let a = c.args in let bs = a.bytes.now in
     subst (λ o. Reads o c.of_digits.result)
-    (ap (λ l. short (some (of_digits a.minus bs l))) (empty_part bs p.piece_length-n.result)
-    ∙ sym (whole_good a.minus bs _ p.piece_length-n.ensures t.if-n-bytes.true (sym t.is_digits.ensures ∙ t.if-is_digits.true)))
+    (ap (λ l. short (some (of_digits a.minus bs l))) (empty_part bs c.piece_length-n.result)
+    ∙ sym (whole_good a.minus bs _ c.piece_length-n.ensures c.if-n-bytes.true (sym c.is_digits.ensures ∙ c.if-is_digits.true)))
     c.of_digits.ensures
 
 returns_2 : tie.Need-returns-then-n-bytes
-returns_2 c = let p = c in let a = p.args in
-    whole_wrong a.minus a.bytes.now _ p.piece_length-n.ensures c.if-n-bytes.true (sym c.is_digits.ensures ∙ c.if-is_digits.false)
+returns_2 c = let a = c.args in
+    whole_wrong a.minus a.bytes.now _ c.piece_length-n.ensures c.if-n-bytes.true (sym c.is_digits.ensures ∙ c.if-is_digits.false)
 
 part_read_parts_end : tie.Need-slice_bounds-read_parts-end
 part_read_parts_end c = c.piece_length-n.ensures.0
 
 sub_read_parts_2 : tie.Need-slice_bounds-read_parts-count-2
-sub_read_parts_2 c = let p = c in let l = lt_of_le-ne p.piece_length-n.ensures.0 c.if-n-bytes.false in omega (arith, l)
+sub_read_parts_2 c = let l = lt_of_le-ne c.piece_length-n.ensures.0 c.if-n-bytes.false in omega (arith, l)
 
 add_read_parts : tie.Need-overflow_add-n
-add_read_parts c = let p = c in let l = lt_of_le-ne p.piece_length-n.ensures.0 c.if-n-bytes.false in omega (arith, l, p.before.before.well_formed.1.0)
+add_read_parts c = let l = lt_of_le-ne c.piece_length-n.ensures.0 c.if-n-bytes.false in omega (arith, l, c.before.before.well_formed.1.0)
 
 part_read_parts_start_2 : tie.Need-slice_bounds-read_parts-start-2
-part_read_parts_start_2 c = let p = c in let l = lt_of_le-ne p.piece_length-n.ensures.0 c.if-n-bytes.false in omega (arith, l)
+part_read_parts_start_2 c = let l = lt_of_le-ne c.piece_length-n.ensures.0 c.if-n-bytes.false in omega (arith, l)
 
 returns_3 : tie.Need-returns
-returns_3 c = let e = c in let p = e in let a = p.args in let bs = a.bytes.now in let n = p.piece_length-n.result in
+returns_3 c = let a = c.args in let bs = a.bytes.now in let n = c.piece_length-n.result in
     subst (λ o. Reads o c.read_parts.result)
     (ap (λ l. short_parts a.minus l (take (length bs - (n + 1)) (drop (n + 1) bs))) (front_part bs n)
     ∙ ap (λ l. short_parts a.minus (take n bs) l) (part_to_end bs (n + 1))
-    ∙ sym (parts a.minus bs n p.piece_length-n.ensures (lt_of_le-ne p.piece_length-n.ensures.0 e.if-n-bytes.false)))
+    ∙ sym (parts a.minus bs n c.piece_length-n.ensures (lt_of_le-ne c.piece_length-n.ensures.0 c.if-n-bytes.false)))
     c.read_parts.ensures
 
 pub read_unsigned_spec : {M : Type 1} → statement M

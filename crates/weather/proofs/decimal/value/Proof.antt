@@ -24,12 +24,12 @@ unfolding of_int
 quotient m p h = div_of _ _ m p h.1 (round_whole binary64 false m (omega (arith, h.0))) (round_whole binary64 false p (omega (arith, h.2)))
 
 returns : tie.Need-returns-then-minus
-returns c = let s = c in let m = s.args.number in let p = s.args.power in
-    ap neg (quotient m p s.requires) ∙ neg_round binary64 m p ∙ ap (λ b. round binary64 b m p) (sym c.if-minus.true)
+returns c = let m = c.args.number in let p = c.args.power in
+    ap neg (quotient m p c.requires) ∙ neg_round binary64 m p ∙ ap (λ b. round binary64 b m p) (sym c.if-minus.true)
 
 returns_2 : tie.Need-returns-else-minus
-returns_2 c = let s = c in let m = s.args.number in let p = s.args.power in
-    quotient m p s.requires ∙ ap (λ b. round binary64 b m p) (sym c.if-minus.false)
+returns_2 c = let m = c.args.number in let p = c.args.power in
+    quotient m p c.requires ∙ ap (λ b. round binary64 b m p) (sym c.if-minus.false)
 
 pub value_spec : {M : Type 1} → statement M
 value_spec = tie.close (tie.spec int_to_float_quotient int_to_float_quotient_2 returns returns_2)

@@ -8,38 +8,37 @@ use borrow.Author.Rules.{rules}
 use Rattle.weather.proofs.field.read_radiation.Statement.{statement}
 use Rattle.weather.proofs.field.read_radiation.Tie as tie
 
--- d: where the decimal is known; w: what was read of it
 mul_if1 : tie.Need-overflow_mul-power
-mul_if1 c = let d = c in let r = d in
-    let w = subst (Reads (short_decimal r.args.field.now)) d.in-Written.is r.read_decimal-d.ensures in
+mul_if1 c =
+    let w = subst (Reads (short_decimal c.args.field.now)) c.in-Written.is c.read_decimal-d.ensures in
     omega (arith, w.number_few, w.power_few)
 
 returns : tie.Need-returns-then-minus-number
-returns c = let t = c in let d = t in let r = d in let f = r.args.field.now in
-    let w = subst (Reads (short_decimal f)) d.in-Written.is r.read_decimal-d.ensures in
-    c.refused-then-minus-number.ensures ∙ ap field_reply (sym (is_missing_lem (is 9999 0) irradiance_range f _ _ _ w (sym (is_9999 f _ _ _ w) ∙ t.if-minus-number.true)))
+returns c = let f = c.args.field.now in
+    let w = subst (Reads (short_decimal f)) c.in-Written.is c.read_decimal-d.ensures in
+    c.refused-then-minus-number.ensures ∙ ap field_reply (sym (is_missing_lem (is 9999 0) irradiance_range f _ _ _ w (sym (is_9999 f _ _ _ w) ∙ c.if-minus-number.true)))
 
 value_requires : tie.Need-value-x-requires
-value_requires c κs = let d = c in let r = d in
-    let w = subst (Reads (short_decimal r.args.field.now)) d.in-Written.is r.read_decimal-d.ensures in
+value_requires c κs =
+    let w = subst (Reads (short_decimal c.args.field.now)) c.in-Written.is c.read_decimal-d.ensures in
     (w.number_few, w.power_some, w.power_few)
 
 returns_2 : tie.Need-returns-then-irradiance_in_range
-returns_2 c = let i = c in let v = i in let e = v in let d = e in let r = d in let f = r.args.field.now in
-    let w = subst (Reads (short_decimal f)) d.in-Written.is r.read_decimal-d.ensures in
+returns_2 c = let f = c.args.field.now in
+    let w = subst (Reads (short_decimal f)) c.in-Written.is c.read_decimal-d.ensures in
     ap field_reply
-    (sym (in_range (is 9999 0) irradiance_range f _ _ _ w v.value-x.result (sym (is_9999 f _ _ _ w) ∙ e.if-minus-number.false) v.value-x.ensures (sym i.irradiance_in_range.ensures ∙ c.if-irradiance_in_range.true)))
+    (sym (in_range (is 9999 0) irradiance_range f _ _ _ w c.value-x.result (sym (is_9999 f _ _ _ w) ∙ c.if-minus-number.false) c.value-x.ensures (sym c.irradiance_in_range.ensures ∙ c.if-irradiance_in_range.true)))
 
 returns_3 : tie.Need-returns-in-NotDecimal
-returns_3 c = let t = c in let r = t in let f = r.args.field.now in
-    c.refused.ensures ∙ ap field_reply (sym (not_decimal (is 9999 0) irradiance_range f (subst (Reads (short_decimal f)) t.in-NotDecimal.is r.read_decimal-d.ensures)))
+returns_3 c = let f = c.args.field.now in
+    c.refused.ensures ∙ ap field_reply (sym (not_decimal (is 9999 0) irradiance_range f (subst (Reads (short_decimal f)) c.in-NotDecimal.is c.read_decimal-d.ensures)))
 
 returns_4 : tie.Need-returns-else-irradiance_in_range
-returns_4 c = let o = c in let i = o in let v = i in let e = v in let d = e in let r = d in let f = r.args.field.now in
-    let w = subst (Reads (short_decimal f)) d.in-Written.is r.read_decimal-d.ensures in
+returns_4 c = let f = c.args.field.now in
+    let w = subst (Reads (short_decimal f)) c.in-Written.is c.read_decimal-d.ensures in
     c.refused-in-Written.ensures
     ∙ ap field_reply
-    (sym (out_of_range (is 9999 0) irradiance_range f _ _ _ w v.value-x.result (sym (is_9999 f _ _ _ w) ∙ e.if-minus-number.false) v.value-x.ensures (sym i.irradiance_in_range.ensures ∙ o.if-irradiance_in_range.false)))
+    (sym (out_of_range (is 9999 0) irradiance_range f _ _ _ w c.value-x.result (sym (is_9999 f _ _ _ w) ∙ c.if-minus-number.false) c.value-x.ensures (sym c.irradiance_in_range.ensures ∙ c.if-irradiance_in_range.false)))
 
 pub read_radiation_spec : {M : Type 1} → statement M
 read_radiation_spec =

@@ -7,22 +7,21 @@ use borrow.Author.Rules.{rules}
 use Rattle.weather.proofs.lines.find_field.Statement.{statement}
 use Rattle.weather.proofs.lines.find_field.Tie as tie
 
--- s: where the start is found
 returns : tie.Need-returns-in-Absent
-returns c = let s = c in let a = s.args in
-    no_field a.line.now a.place (subst (BeginsAt comma a.line.now (a.place - 1)) c.in-Absent.is s.piece_start-begins.ensures)
+returns c = let a = c.args in
+    no_field a.line.now a.place (subst (BeginsAt comma a.line.now (a.place - 1)) c.in-Absent.is c.piece_start-begins.ensures)
 
 sub_piece_length : tie.Need-slice_bounds-piece_length-count
-sub_piece_length c = let s = c in let a = s.args in
-    (subst (BeginsAt comma a.line.now (a.place - 1)) c.in-At.is s.piece_start-begins.ensures).0
+sub_piece_length c = let a = c.args in
+    (subst (BeginsAt comma a.line.now (a.place - 1)) c.in-At.is c.piece_start-begins.ensures).0
 
 part_piece_length_start : tie.Need-slice_bounds-piece_length-start
-part_piece_length_start c = let s = c in let a = s.args in
-    (subst (BeginsAt comma a.line.now (a.place - 1)) c.in-At.is s.piece_start-begins.ensures).0
+part_piece_length_start c = let a = c.args in
+    (subst (BeginsAt comma a.line.now (a.place - 1)) c.in-At.is c.piece_start-begins.ensures).0
 
 returns_2 : tie.Need-returns-in-At
-returns_2 c = let k = c in let s = k in let a = s.args in
-    field_found a.line.now a.place _ _ (subst (BeginsAt comma a.line.now (a.place - 1)) k.in-At.is s.piece_start-begins.ensures)
+returns_2 c = let a = c.args in
+    field_found a.line.now a.place _ _ (subst (BeginsAt comma a.line.now (a.place - 1)) c.in-At.is c.piece_start-begins.ensures)
     (ends_in comma a.line.now _ _ c.piece_length-length.ensures)
 
 pub find_field_spec : {M : Type 1} → statement M

@@ -9,26 +9,25 @@ use borrow.Author.Rules.{rules}
 use Rattle.weather.proofs.weather.read_weather.Statement.{statement}
 use Rattle.weather.proofs.weather.read_weather.Tie as tie
 
--- k: where the line is known to be found; f: where it is looked for
 add_weather_in : tie.Need-overflow_add-start
-add_weather_in c = let k = c in let f = k in let a = f.args in
-    let s = subst (Spans a.file.now (line_of a.file.now a.line)) k.in-Found.is f.find_line-chosen.ensures in
-    omega (arith, s.0, f.before.before.well_formed.0)
+add_weather_in c = let a = c.args in
+    let s = subst (Spans a.file.now (line_of a.file.now a.line)) c.in-Found.is c.find_line-chosen.ensures in
+    omega (arith, s.0, c.before.before.well_formed.0)
 
 part_weather_in_end : tie.Need-slice_bounds-weather_in-end
-part_weather_in_end c = let k = c in let f = k in let a = f.args in
-    (subst (Spans a.file.now (line_of a.file.now a.line)) k.in-Found.is f.find_line-chosen.ensures).0
+part_weather_in_end c = let a = c.args in
+    (subst (Spans a.file.now (line_of a.file.now a.line)) c.in-Found.is c.find_line-chosen.ensures).0
 
 returns : tie.Need-returns-in-Absent
-returns c = let t = c in let f = t in let a = f.args in
+returns c = let a = c.args in
     c.absent.ensures
-    ∙ ap weather_reply (sym (line_absent a.file.now a.line (subst (Spans a.file.now (line_of a.file.now a.line)) t.in-Absent.is f.find_line-chosen.ensures)))
+    ∙ ap weather_reply (sym (line_absent a.file.now a.line (subst (Spans a.file.now (line_of a.file.now a.line)) c.in-Absent.is c.find_line-chosen.ensures)))
 
 returns_2 : tie.Need-returns-in-Found
-returns_2 c = let k = c in let f = k in let a = f.args in
-    let s = subst (Spans a.file.now (line_of a.file.now a.line)) k.in-Found.is f.find_line-chosen.ensures in
+returns_2 c = let a = c.args in
+    let s = subst (Spans a.file.now (line_of a.file.now a.line)) c.in-Found.is c.find_line-chosen.ensures in
     c.weather_in.ensures
-    ∙ ap (λ l. weather_reply (weather_in l)) (part_at a.file.now k.in-Found.start k.in-Found.length)
+    ∙ ap (λ l. weather_reply (weather_in l)) (part_at a.file.now c.in-Found.start c.in-Found.length)
     ∙ ap weather_reply (sym (line_present a.file.now a.line _ s.1))
 
 pub read_weather_spec : {M : Type 1} → statement M

@@ -9,11 +9,9 @@ returns c = step_reply_refused _ _ _ _ _ _ _ _ _ _ _ _ c.in-Refused.is c.refuse.
 -- back from the state: the heat balance, its numbers, the load
 returns_2 : tie.Need-returns-in-Accepted
 returns_2 c =
-    let b = c in
-    let n = b in
-    let w = n.before.before.before.before in
-    step_reply_accepted _ _ _ _ _ _ _ _ _ _ w.in-Accepted.is _ _ _ w.delivered_by-w.ensures n.total_gains-g.ensures n.convective_share-share.ensures
-    _ _ _ _ n.standard_coefficients-c.ensures n.delta_t_of-delta_t.ensures b.heat_balance-balance.ensures c.state_of-state.ensures
+    let w = c.before.before.before.before in
+    step_reply_accepted _ _ _ _ _ _ _ _ _ _ w.in-Accepted.is _ _ _ w.delivered_by-w.ensures c.total_gains-g.ensures c.convective_share-share.ensures
+    _ _ _ _ c.standard_coefficients-c.ensures c.delta_t_of-delta_t.ensures c.heat_balance-balance.ensures c.state_of-state.ensures
 
 pub hour_step_reply_spec : {M : Type 1} → statement M
 hour_step_reply_spec =

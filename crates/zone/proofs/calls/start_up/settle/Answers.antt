@@ -7,12 +7,11 @@ use Rattle.zone.specs.Inner.Kept.{arrays, held}
 use Rattle.zone.proofs.calls.start_up.settle.Goals as goal
 
 pub loop-passes-init : goal.loop-passes-init
-loop-passes-init c =
-    let s = c in (
-      start_conditions _ _ _ _ c.start_up_conditions-h.ensures c.first_hours.ensures,
-      none_kept_in (zone_in s.args.z s.args.codes.now s.args.values.now) _ s.requires,
-      settle_start _ _ _ _ c.start_slots-t.ensures,
-    )
+loop-passes-init c = (
+  start_conditions _ _ _ _ c.start_up_conditions-h.ensures c.first_hours.ensures,
+  none_kept_in (zone_in c.args.z c.args.codes.now c.args.values.now) _ c.requires,
+  settle_start _ _ _ _ c.start_slots-t.ensures,
+)
 
 -- back at a pass, and at the test of the limit
 pub loop-passes-preserved : goal.loop-passes-preserved

@@ -7,8 +7,8 @@ settle_requires : tie.Need-settle-s-requires
 settle_requires c κs = c.hold_none.ensures
 
 returns : tie.Need-returns-in-Refused
-returns c = let t = c in
-    (t.hold_none.ensures, start_refused _ _ t.zone_test-zone.ensures _ _ _ c.in-Refused.is c.no_state.ensures)
+returns c =
+    (c.hold_none.ensures, start_refused _ _ c.zone_test-zone.ensures _ _ _ c.in-Refused.is c.no_state.ensures)
 
 returns_2 : tie.Need-returns
 returns_2 c =

@@ -34,20 +34,20 @@ tested : (c : tie.After-element_hour_in_range invariant_loop decreases_loop) →
 tested c = rw (c.element_hour_in_range.ensures, c.element_hour_of-h.ensures) refl
 
 loop_again : tie.Need-loop-i-preserved invariant_loop decreases_loop
-loop_again c = let l = c.loop-i in let s = c in
-    (omega arith, l.invariant.1 ∙ required_in element_hour_in_range conditions_value (element_hours_in s.args.parts.now s.args.opens.now) l.i s.args.n _ (omega arith) (few s.args.parts.now s.args.opens.now s.args.n s.requires) (tested c.before ∙ c.if-element_hour_in_range.true))
+loop_again c = let l = c.loop-i in
+    (omega arith, l.invariant.1 ∙ required_in element_hour_in_range conditions_value (element_hours_in c.args.parts.now c.args.opens.now) l.i c.args.n _ (omega arith) (few c.args.parts.now c.args.opens.now c.args.n c.requires) (tested c.before ∙ c.if-element_hour_in_range.true))
 
 returns : tie.Need-returns-else-element_hour_in_range invariant_loop decreases_loop
 unfolding conditions_test hour_and_gains_in_range setpoints_in_range
-returns c = let l = c.loop-i in let s = c in
+returns c = let l = c.loop-i in
     rw (sym c.front_in_range.ensures ∙ c.if-front_in_range.true)
-    (sym (ap verdict_of (l.invariant.1 ∙ required_out element_hour_in_range conditions_value (element_hours_in s.args.parts.now s.args.opens.now) l.i s.args.n _ (omega arith) (few s.args.parts.now s.args.opens.now s.args.n s.requires) (tested c.before ∙ c.if-element_hour_in_range.false))))
+    (sym (ap verdict_of (l.invariant.1 ∙ required_out element_hour_in_range conditions_value (element_hours_in c.args.parts.now c.args.opens.now) l.i c.args.n _ (omega arith) (few c.args.parts.now c.args.opens.now c.args.n c.requires) (tested c.before ∙ c.if-element_hour_in_range.false))))
 
 returns_2 : tie.Need-returns-then-front_in_range invariant_loop decreases_loop
 unfolding conditions_test hour_and_gains_in_range setpoints_in_range
-returns_2 c = let l = c.loop-i in let s = c in
+returns_2 c = let l = c.loop-i in
     rw (sym c.front_in_range.ensures ∙ c.if-front_in_range.true)
-    (sym (ap verdict_of (l.invariant.1 ∙ required_done element_hour_in_range conditions_value (element_hours_in s.args.parts.now s.args.opens.now) l.i s.args.n (omega arith))))
+    (sym (ap verdict_of (l.invariant.1 ∙ required_done element_hour_in_range conditions_value (element_hours_in c.args.parts.now c.args.opens.now) l.i c.args.n (omega arith))))
 
 returns_3 : tie.Need-returns invariant_loop decreases_loop
 unfolding conditions_test hour_and_gains_in_range setpoints_in_range

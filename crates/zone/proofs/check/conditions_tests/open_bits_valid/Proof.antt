@@ -30,13 +30,13 @@ tested c = let a = c.args in let i = c.loop-i.i in
     rw (counted_at (λ e. get_or a.codes.now (3 * e + 1) 0) 24 i 0 (omega (arith, c.loop-i-test.true, c.requires.0)), c.open_within.ensures, c.count_of-treatments.ensures.0) refl
 
 loop_again : tie.Need-loop-i-preserved invariant_loop decreases_loop
-loop_again c = let l = c.loop-i in let st = c in let a = st.args in
-    let few : a.n ≤ length (treatments_in a.codes.now) = omega (arith, st.requires.0, counted_length (λ e. get_or a.codes.now (3 * e + 1) 0) 0 24) in
+loop_again c = let l = c.loop-i in let a = c.args in
+    let few : a.n ≤ length (treatments_in a.codes.now) = omega (arith, c.requires.0, counted_length (λ e. get_or a.codes.now (3 * e + 1) 0) 0 24) in
     (omega arith, omega arith, l.invariant.2 ∙ open_in a.s.now (treatments_in a.codes.now) l.p l.i a.n (omega arith) few (tested c.before ∙ c.if-open_within.true))
 
 returns : tie.Need-returns-else-open_within invariant_loop decreases_loop
-returns c = let l = c.loop-i in let st = c in let a = st.args in
-    let few : a.n ≤ length (treatments_in a.codes.now) = omega (arith, st.requires.0, counted_length (λ e. get_or a.codes.now (3 * e + 1) 0) 0 24) in
+returns c = let l = c.loop-i in let a = c.args in
+    let few : a.n ≤ length (treatments_in a.codes.now) = omega (arith, c.requires.0, counted_length (λ e. get_or a.codes.now (3 * e + 1) 0) 0 24) in
     sym (l.invariant.2 ∙ open_out a.s.now (treatments_in a.codes.now) l.p l.i a.n (omega arith) few (tested c.before ∙ c.if-open_within.false))
 
 returns_2 : tie.Need-returns invariant_loop decreases_loop

@@ -44,19 +44,19 @@ loop_holds c = let n = c.args.z.count in
 
 returns_2 : tie.Need-returns-then-most-e invariant_loop decreases_loop
 unfolding counts_test
-returns_2 c = let l = c.loop-i in let s = c in
-    let out : element_treatments_valid (element (elements_in s.args.codes.now s.args.values.now) l.i) ≡ false = rw (← c.element_of-e.ensures) (lt-leb _ _ (rw c.max_treatments-most.ensures at c.if-most-e.true)) in
-    rw l.invariant.2 (sym (ap verdict_of (l.invariant.3 ∙ required_out element_treatments_valid structure (elements_in s.args.codes.now s.args.values.now) l.i s.args.z.count no_element (omega arith) (few s.args.codes.now s.args.values.now s.args.z.count l.invariant.1) out)))
+returns_2 c = let l = c.loop-i in
+    let out : element_treatments_valid (element (elements_in c.args.codes.now c.args.values.now) l.i) ≡ false = rw (← c.element_of-e.ensures) (lt-leb _ _ (rw c.max_treatments-most.ensures at c.if-most-e.true)) in
+    rw l.invariant.2 (sym (ap verdict_of (l.invariant.3 ∙ required_out element_treatments_valid structure (elements_in c.args.codes.now c.args.values.now) l.i c.args.z.count no_element (omega arith) (few c.args.codes.now c.args.values.now c.args.z.count l.invariant.1) out)))
 
 loop_again : tie.Need-loop-i-preserved invariant_loop decreases_loop
-loop_again c = let l = c.loop-i in let s = c in
-    let in' : element_treatments_valid (element (elements_in s.args.codes.now s.args.values.now) l.i) ≡ true = rw (← c.element_of-e.ensures) (le-leb _ _ (rw c.max_treatments-most.ensures at c.if-most-e.false)) in
-    (omega arith, l.invariant.1, l.invariant.2, l.invariant.3 ∙ required_in element_treatments_valid structure (elements_in s.args.codes.now s.args.values.now) l.i s.args.z.count no_element (omega arith) (few s.args.codes.now s.args.values.now s.args.z.count l.invariant.1) in')
+loop_again c = let l = c.loop-i in
+    let in' : element_treatments_valid (element (elements_in c.args.codes.now c.args.values.now) l.i) ≡ true = rw (← c.element_of-e.ensures) (le-leb _ _ (rw c.max_treatments-most.ensures at c.if-most-e.false)) in
+    (omega arith, l.invariant.1, l.invariant.2, l.invariant.3 ∙ required_in element_treatments_valid structure (elements_in c.args.codes.now c.args.values.now) l.i c.args.z.count no_element (omega arith) (few c.args.codes.now c.args.values.now c.args.z.count l.invariant.1) in')
 
 returns_3 : tie.Need-returns invariant_loop decreases_loop
 unfolding counts_test
-returns_3 c = let l = c.loop-i in let s = c in
-    rw l.invariant.2 (sym (ap verdict_of (l.invariant.3 ∙ required_done element_treatments_valid structure (elements_in s.args.codes.now s.args.values.now) l.i s.args.z.count (omega arith))))
+returns_3 c = let l = c.loop-i in
+    rw l.invariant.2 (sym (ap verdict_of (l.invariant.3 ∙ required_done element_treatments_valid structure (elements_in c.args.codes.now c.args.values.now) l.i c.args.z.count (omega arith))))
 
 pub counts_test_spec : {M : Type 1} → statement M
 counts_test_spec =

@@ -30,20 +30,20 @@ tested : (c : tie.After-element_in_range invariant_loop decreases_loop) → elem
 tested c = rw (← c.element_of-e.ensures) (sym c.element_in_range.ensures)
 
 loop_again : tie.Need-loop-i-preserved invariant_loop decreases_loop
-loop_again c = let l = c.loop-i in let s = c in
-    (omega arith, l.invariant.1 ∙ required_in element_in_range zone_value (elements_in s.args.codes.now s.args.values.now) l.i s.args.z.count no_element (omega arith) (few s.args.codes.now s.args.values.now s.args.z.count s.requires) (tested c.before ∙ c.if-element_in_range.true))
+loop_again c = let l = c.loop-i in
+    (omega arith, l.invariant.1 ∙ required_in element_in_range zone_value (elements_in c.args.codes.now c.args.values.now) l.i c.args.z.count no_element (omega arith) (few c.args.codes.now c.args.values.now c.args.z.count c.requires) (tested c.before ∙ c.if-element_in_range.true))
 
 returns : tie.Need-returns-else-element_in_range invariant_loop decreases_loop
 unfolding values_test
-returns c = let l = c.loop-i in let s = c in
-    rw (front_same s.args.z (elements_in s.args.codes.now s.args.values.now) ∙ sym c.front_in_range.ensures ∙ c.if-front_in_range.true)
-    (sym (ap verdict_of (l.invariant.1 ∙ required_out element_in_range zone_value (elements_in s.args.codes.now s.args.values.now) l.i s.args.z.count no_element (omega arith) (few s.args.codes.now s.args.values.now s.args.z.count s.requires) (tested c.before ∙ c.if-element_in_range.false))))
+returns c = let l = c.loop-i in
+    rw (front_same c.args.z (elements_in c.args.codes.now c.args.values.now) ∙ sym c.front_in_range.ensures ∙ c.if-front_in_range.true)
+    (sym (ap verdict_of (l.invariant.1 ∙ required_out element_in_range zone_value (elements_in c.args.codes.now c.args.values.now) l.i c.args.z.count no_element (omega arith) (few c.args.codes.now c.args.values.now c.args.z.count c.requires) (tested c.before ∙ c.if-element_in_range.false))))
 
 returns_2 : tie.Need-returns-then-front_in_range invariant_loop decreases_loop
 unfolding values_test
-returns_2 c = let l = c.loop-i in let s = c in
-    rw (front_same s.args.z (elements_in s.args.codes.now s.args.values.now) ∙ sym c.front_in_range.ensures ∙ c.if-front_in_range.true)
-    (sym (ap verdict_of (l.invariant.1 ∙ required_done element_in_range zone_value (elements_in s.args.codes.now s.args.values.now) l.i s.args.z.count (omega arith))))
+returns_2 c = let l = c.loop-i in
+    rw (front_same c.args.z (elements_in c.args.codes.now c.args.values.now) ∙ sym c.front_in_range.ensures ∙ c.if-front_in_range.true)
+    (sym (ap verdict_of (l.invariant.1 ∙ required_done element_in_range zone_value (elements_in c.args.codes.now c.args.values.now) l.i c.args.z.count (omega arith))))
 
 returns_3 : tie.Need-returns invariant_loop decreases_loop
 unfolding values_test

@@ -5,8 +5,8 @@ use Rattle.zone.proofs.format.bytes.read_u16_be.Statement.{statement}
 use Rattle.zone.proofs.format.bytes.read_u16_be.Tie as tie
 
 returns : tie.Need-returns
-returns c = let start = c in
-    (rw (c.byte_at-b0.ensures.0, c.byte_at-b1.ensures.0) (two_bytes start.args.s.now start.args.at start.requires), omega (arith, c.byte_at-b0.ensures.1, c.byte_at-b1.ensures.1))
+returns c =
+    (rw (c.byte_at-b0.ensures.0, c.byte_at-b1.ensures.0) (two_bytes c.args.s.now c.args.at c.requires), omega (arith, c.byte_at-b0.ensures.1, c.byte_at-b1.ensures.1))
 
 pub read_u16_be_spec : {M : Type 1} → statement M
 read_u16_be_spec =

@@ -6,8 +6,7 @@ use Rattle.zone.proofs.format.bytes.read_u32_be.Tie as tie
 
 returns : tie.Need-returns
 returns c = let b₀ = c.byte_at-b0 in let b₁ = c.byte_at-b1 in let b₂ = c.byte_at-b2 in let b₃ = c.byte_at-b3 in
-    let start = c in
-    (rw (b₀.ensures.0, b₁.ensures.0, b₂.ensures.0, b₃.ensures.0) (four_bytes start.args.s.now start.args.at start.requires), omega (arith, b₀.ensures.1, b₁.ensures.1, b₂.ensures.1, b₃.ensures.1))
+    (rw (b₀.ensures.0, b₁.ensures.0, b₂.ensures.0, b₃.ensures.0) (four_bytes c.args.s.now c.args.at c.requires), omega (arith, b₀.ensures.1, b₁.ensures.1, b₂.ensures.1, b₃.ensures.1))
 
 pub read_u32_be_spec : {M : Type 1} → statement M
 read_u32_be_spec =

@@ -51,9 +51,9 @@ values_to_requires c κs = let pre = c.requires in
     (pre.0, f.0, f.1, f.2, f.3, pre.4)
 
 returns : tie.Need-returns
-returns c = let h = c in let t = h.before.before in let start = t in
+returns c = let t = c.before.before in let start = t in
     let a = start.args in let pre = start.requires in
-    put a.s.now a.p pre.2 t.kind_of-kind.ensures t.count_of-t.ensures.0 h.number_of_nodes-kc.ensures h.h_count-hc.ensures
+    put a.s.now a.p pre.2 t.kind_of-kind.ensures t.count_of-t.ensures.0 c.number_of_nodes-kc.ensures c.h_count-hc.ensures
     a.codes.now a.values.now a.e pre.0 pre.5 pre.4 pre.3 c.values_to.ensures
 
 pub element_to_spec : {M : Type 1} → statement M

@@ -6,12 +6,12 @@ use Rattle.zone.proofs.format.decode.front_at.Tie as tie
 -- field by field
 returns : tie.Need-returns
 unfolding zone_at
-returns c = let f₁ = c in let limit = f₁ in let n = limit in
+returns c =
     λ i. record {
-      temp_setpnt_basis = n.basis_of-basis.ensures i;
-      count = n.count_of-n.ensures.0 i;
-      start_up_limit = limit.read_u16_be-limit.ensures.0 i;
-      useful_area = f₁.read_f64_be.ensures i;
+      temp_setpnt_basis = c.basis_of-basis.ensures i;
+      count = c.count_of-n.ensures.0 i;
+      start_up_limit = c.read_u16_be-limit.ensures.0 i;
+      useful_area = c.read_f64_be.ensures i;
       volume = c.read_f64_be-2.ensures i;
       tb_heat_trans_coeff = c.read_f64_be-3.ensures i;
       temp_ext_air_init = c.read_f64_be-4.ensures i;

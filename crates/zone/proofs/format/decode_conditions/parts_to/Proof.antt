@@ -29,19 +29,19 @@ loop_holds c = let a = c.args in let none = c.requires.2 in
     (omega arith, omega arith, no_parts_sized a.parts.now a.opens.now none, replaced_replicate a.n 24 no_element_hour (element_hours_at a.s.now 113 a.n))
 
 floats_to_requires : tie.Need-floats_to-requires invariant_loop decreases_loop
-floats_to_requires c κs = let i = c in let l = i.loop-i in let pre = i.requires in
-    (omega (arith, l.invariant.2.of_parts, i.loop-i-test.true, pre.0), omega (arith, l.invariant.1, i.loop-i-test.true, pre.1))
+floats_to_requires c κs = let l = c.loop-i in let pre = c.requires in
+    (omega (arith, l.invariant.2.of_parts, c.loop-i-test.true, pre.0), omega (arith, l.invariant.1, c.loop-i-test.true, pre.1))
 
 loop_again : tie.Need-loop-i-preserved invariant_loop decreases_loop
-loop_again c = let i = c in let l = i.loop-i in let a = i.args in
-    let few : l.i < 24 = omega (arith, i.loop-i-test.true, i.requires.0) in
+loop_again c = let l = c.loop-i in let a = c.args in
+    let few : l.i < 24 = omega (arith, c.loop-i-test.true, c.requires.0) in
     let out = element_hours_in l.parts l.opens in
     let inside : l.i < length out = omega (arith, few, counted_length (element_hour_in l.parts l.opens) 0 24) in (
-      omega (arith, i.loop-i-test.true),
+      omega (arith, c.loop-i-test.true),
       omega (arith, l.invariant.1),
       rw c.floats_to.ensures (part_sized l.parts l.opens l.invariant.2 a.s.now l.p l.i few _),
       rw (c.floats_to.ensures, part_stored l.parts l.opens l.invariant.2 a.s.now l.p l.i few)
-          (parts_turn out _ a.s.now l.i a.n l.p i.loop-i-test.true inside l.invariant.3),
+          (parts_turn out _ a.s.now l.i a.n l.p c.loop-i-test.true inside l.invariant.3),
     )
 
 returns : tie.Need-returns invariant_loop decreases_loop

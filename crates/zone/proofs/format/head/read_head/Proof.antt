@@ -14,19 +14,19 @@ use Rattle.zone.proofs.format.head.read_head.Statement.{statement}
 use Rattle.zone.proofs.format.head.read_head.Tie as tie
 
 front_at_requires : tie.Need-front_at-zone-requires
-front_at_requires c κs = let o = c in let s = o.args.bytes.now in
-    let q = structured s _ (answer_end (structure_of s) _ (sym o.structure_of-structure.ensures ∙ c.in-End.is)) in
+front_at_requires c κs = let s = c.args.bytes.now in
+    let q = structured s _ (answer_end (structure_of s) _ (sym c.structure_of-structure.ensures ∙ c.in-End.is)) in
     omega (arith, q.low, q.there)
 
 elements_to_requires : tie.Need-elements_to-requires
 unfolding zone_at
-elements_to_requires c κs = let f = c in let o = f in let s = o.args.bytes.now in
-    let q = structured s _ (answer_end (structure_of s) _ (sym o.structure_of-structure.ensures ∙ f.in-End.is)) in
-    rw f.front_at-zone.ensures (q.few, q.there, q.elements, record { no_codes = refl; no_values = refl })
+elements_to_requires c κs = let s = c.args.bytes.now in
+    let q = structured s _ (answer_end (structure_of s) _ (sym c.structure_of-structure.ensures ∙ c.in-End.is)) in
+    rw c.front_at-zone.ensures (q.few, q.there, q.elements, record { no_codes = refl; no_values = refl })
 
 returns : tie.Need-returns-in-Refused
-returns c = let o = c in let s = o.args.bytes.now in (
-  rw c.refuse.ensures (sym (structured_wrong s _ _ (answer_refused (structure_of s) _ _ (sym o.structure_of-structure.ensures ∙ c.in-Refused.is)))),
+returns c = let s = c.args.bytes.now in (
+  rw c.refuse.ensures (sym (structured_wrong s _ _ (answer_refused (structure_of s) _ _ (sym c.structure_of-structure.ensures ∙ c.in-Refused.is)))),
   λ number index e. record {
     no_zone_lem = ap (λ (r : Head). r.zone) c.refuse.ensures;
     no_length = ap (λ (r : Head). r.length) c.refuse.ensures;
@@ -36,9 +36,9 @@ returns c = let o = c in let s = o.args.bytes.now in (
 )
 
 returns_2 : tie.Need-returns-in-End
-returns_2 c = let f = c in let o = f in let s = o.args.bytes.now in
-    let right = structured_right s _ (answer_end (structure_of s) _ (sym o.structure_of-structure.ensures ∙ f.in-End.is)) in (
-      ap (λ (z : Zone). ok (record { zone = z; length = f.in-End.end })) (zone_whole s _ _ f.front_at-zone.ensures c.elements_to.ensures) ∙ sym right,
+returns_2 c = let s = c.args.bytes.now in
+    let right = structured_right s _ (answer_end (structure_of s) _ (sym c.structure_of-structure.ensures ∙ c.in-End.is)) in (
+      ap (λ (z : Zone). ok (record { zone = z; length = c.in-End.end })) (zone_whole s _ _ c.front_at-zone.ensures c.elements_to.ensures) ∙ sym right,
       λ number index e. ok_not_refused _ number index (sym right ∙ e),
     )
 

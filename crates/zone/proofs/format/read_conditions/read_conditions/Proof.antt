@@ -14,9 +14,9 @@ returns_2 c = let a = c.args in
     rw c.refuse-then-bytes-size.ensures (sym (wrong_size a.count (treatments_in a.codes.now) a.bytes.now c.if-count-gt24.false c.if-bytes-size.true))
 
 returns_3 : tie.Need-returns-then-rate-open
-returns_3 c = let k = c in let a = k.args in
+returns_3 c = let a = c.args in
     c.tested_at.ensures
-    ∙ sym (right_code a.count (treatments_in a.codes.now) a.bytes.now k.if-count-gt24.false k.if-bytes-size.false (rw (k.rate_code_valid-rate.ensures, k.open_bits_valid-open.ensures) at k.if-rate-open.true))
+    ∙ sym (right_code a.count (treatments_in a.codes.now) a.bytes.now c.if-count-gt24.false c.if-bytes-size.false (rw (c.rate_code_valid-rate.ensures, c.open_bits_valid-open.ensures) at c.if-rate-open.true))
 
 returns_4 : tie.Need-returns
 returns_4 c = let a = c.args in

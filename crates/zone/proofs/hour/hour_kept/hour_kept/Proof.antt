@@ -6,10 +6,9 @@ use Rattle.zone.proofs.hour.hour_kept.hour_kept.Tie as tie
 -- back from the last call: the factors, the directions, the timestep
 returns : tie.Need-returns
 returns c =
-    let d = c in
-    let s = d.args in (
+    let s = c.args in (
       keeps_hour s.z (elements_in s.codes.now s.values.now) s.t.now s.h (element_hours_in s.parts.now s.opens.now) s.opens.now
-          _ _ d.directions_of-directions.ensures d.delta_t_of-delta_t.ensures _ _ d.keep_factors.ensures,
+          _ _ c.directions_of-directions.ensures c.delta_t_of-delta_t.ensures _ _ c.keep_factors.ensures,
       c.hour_with.ensures,
     )
 

@@ -10,8 +10,7 @@ assemble_sides_requires c κs = c.at_most_24-n.ensures.1
 -- back from the last call to the first: the areas, the reduction, the right sides, the zone's terms, the hour's numbers
 returns : tie.Need-returns
 returns c =
-    let a = c in
-    let r = a.before in
+    let r = c.before in
     let b = r in
     let m = b in
     let n = m.before in
@@ -23,7 +22,7 @@ returns c =
     _ g.numbers.now g.two_nodes.now g.diag.now g.next.now g.prev.now g.dense.now g.interchanges.now g.column.now
     _ _ _ q.standard_coefficients-c.ensures l.delta_t_of-delta_t.ensures n.at_most_24-n.ensures.0
     _ m.terms_of-terms.ensures _ _ _ b.assemble_sides.ensures r.reduce_base.ensures.0 r.reduce_base.ensures.1
-    _ a.areas_of-area.ensures g.asked g.after.now _ c.answer_in.ensures
+    _ c.areas_of-area.ensures g.asked g.after.now _ c.answer_in.ensures
 
 pub hour_with_spec : {M : Type 1} → statement M
 hour_with_spec =

@@ -24,8 +24,7 @@ loop_again c =
 returns : tie.Need-returns invariant_loop decreases_loop
 unfolding with_terms
 returns c =
-    let n = c in
-    rw (← n.standard_coefficients-c.ensures, ← n.at_most_24-n.ensures.0) (repeat_end _ _ _ _ _ c.loop-e-test.false c.loop-e.invariant)
+    rw (← c.standard_coefficients-c.ensures, ← c.at_most_24-n.ensures.0) (repeat_end _ _ _ _ _ c.loop-e-test.false c.loop-e.invariant)
 
 pub directions_of_spec : {M : Type 1} → statement M
 directions_of_spec =

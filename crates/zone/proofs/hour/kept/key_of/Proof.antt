@@ -15,8 +15,8 @@ loop_holds : tie.Need-loop-e-init invariant_loop decreases_loop
 loop_holds c = none_marked _ _ _ refl
 
 loop_again : tie.Need-loop-e-preserved invariant_loop decreases_loop
-loop_again c = let l = c in
-    one_more_marked _ _ _ _ _ _ c.loop-e-test.true refl refl l.loop-e.invariant
+loop_again c =
+    one_more_marked _ _ _ _ _ _ c.loop-e-test.true refl refl c.loop-e.invariant
 
 returns : tie.Need-returns invariant_loop decreases_loop
 returns c = all_marked _ _ _ _ c.loop-e.invariant c.loop-e-test.false

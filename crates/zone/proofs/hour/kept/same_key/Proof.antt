@@ -18,8 +18,8 @@ returns : tie.Need-returns-then-not-held invariant_loop decreases_loop
 returns c = key_none _ _ _ _ _ _ _ c.if-not-held.true
 
 returns_2 : tie.Need-returns-then-bits_of invariant_loop decreases_loop
-returns_2 c = let b = c in
-    key_step _ _ _ _ _ _ _ b.if-not-held.false _ _ b.bits_of.ensures b.bits_of-2.ensures c.if-bits_of.true
+returns_2 c =
+    key_step _ _ _ _ _ _ _ c.if-not-held.false _ _ c.bits_of.ensures c.bits_of-2.ensures c.if-bits_of.true
 
 loop_holds : tie.Need-loop-e-init invariant_loop decreases_loop
 unfolding same_elements

@@ -17,17 +17,17 @@ convective_sum_requires : tie.Need-convective_sum-convective-requires
 convective_sum_requires c κs = omega (arith, c.requires)
 
 returns : tie.Need-returns
-returns c = let s = c in
+returns c =
     let taken = c.fill_surfaces.ensures in
-    let es = elements_in s.args.codes.now s.args.values.now in
-    let by = h_ci_in s.args.directions.now in
-    let small : s.args.n ≤ length (replicate 24 zero64) = s.requires in
-    let k = surfaces s.args.n es by _ _ _ _ (replicate 24 zero64) c.area_total-total.result small taken.0 taken.1 c.area_total-total.ensures c.shares_of-share.ensures c.h_ci_of-h_ci.ensures in (
+    let es = elements_in c.args.codes.now c.args.values.now in
+    let by = h_ci_in c.args.directions.now in
+    let small : c.args.n ≤ length (replicate 24 zero64) = c.requires in
+    let k = surfaces c.args.n es by _ _ _ _ (replicate 24 zero64) c.area_total-total.result small taken.0 taken.1 c.area_total-total.ensures c.shares_of-share.ensures c.h_ci_of-h_ci.ensures in (
       taken.2,
-      c.assemble_chains.ensures ∙ chains_is s.args.n es by _ _ _ _ _ k s.args.opens.now s.args.delta_t _,
-      c.couple_rows.ensures ∙ couplings_is s.args.n es by _ _ _ _ _ k _,
+      c.assemble_chains.ensures ∙ chains_is c.args.n es by _ _ _ _ _ k c.args.opens.now c.args.delta_t _,
+      c.couple_rows.ensures ∙ couplings_is c.args.n es by _ _ _ _ _ k _,
       k.total_is,
-      c.convective_sum-convective.ensures ∙ convective_is s.args.n es by _ _ _ _ _ k,
+      c.convective_sum-convective.ensures ∙ convective_is c.args.n es by _ _ _ _ _ k,
     )
 
 pub assemble_elements_spec : {M : Type 1} → statement M

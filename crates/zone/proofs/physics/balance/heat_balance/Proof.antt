@@ -14,22 +14,20 @@ use Rattle.zone.proofs.physics.balance.heat_balance.Tie as tie
 -- boundary by boundary
 returns : tie.Need-returns
 unfolding heat_balance
-returns c = let at_air = c in
-    let at_h_ve = at_air in
-    let n = at_h_ve in
-    let a = n.args in
+returns c =
+    let a = c.args in
     let z = zone_in a.z a.codes.now a.values.now in
     let hour = conditions_in a.hour a.parts.now a.opens.now in
     let x = a.vector_x.now in
     let g = a.gains_heat_cool in
-    let node = at_air.air_node-air.result in
-    let air_is = at_air.air_node-air.ensures ∙ (λ i. air_node a.c (c_int a.c z) (at_h_ve.calc_vent_heat_transfer_coeff-h_ve.ensures i) a.z.tb_heat_trans_coeff hour a.delta_t g a.f_hc_c (air a.temp_prev.now) (air x)) in
+    let node = c.air_node-air.result in
+    let air_is = c.air_node-air.ensures ∙ (λ i. air_node a.c (c_int a.c z) (c.calc_vent_heat_transfer_coeff-h_ve.ensures i) a.z.tb_heat_trans_coeff hour a.delta_t g a.f_hc_c (air a.temp_prev.now) (air x)) in
     let internal = c.internal_boundary.ensures
     ∙ (λ i. internal_boundary_from a.c (c.convective_sums-convective.ensures i) (hour_of a.hour []) g a.f_hc_c)
-    ∙ internal_is a.c z a.temp_prev.now x hour g a.f_hc_c n.at_most_24-n.result n.at_most_24-n.ensures.0 in
+    ∙ internal_is a.c z a.temp_prev.now x hour g a.f_hc_c c.at_most_24-n.result c.at_most_24-n.ensures.0 in
     let external = c.external_boundary.ensures
     ∙ (λ i. external_boundary_from (c.fabric_sums-sums.ensures i) node (hour_of a.hour []) g)
-    ∙ external_is z hour x n.at_most_24-n.result node g n.at_most_24-n.ensures.0
+    ∙ external_is z hour x c.at_most_24-n.result node g c.at_most_24-n.ensures.0
     ∙ (λ i. external_boundary z hour x (air_is i) g) in
     λ i. record { air_node = air_is i; internal_boundary = internal i; external_boundary = external i }
 

@@ -22,9 +22,9 @@ loop_again c = let surface = c.before.before.before.before.before in
     repeat_turn _ _ _ _ _ _ el.loop-e-test.true (rw (c.add_loss-sums.ensures, surface.h_ci-at_surface.ensures, el.element_of-el.ensures) refl) el.loop-e.invariant
 
 returns : tie.Need-returns invariant_loop decreases_loop
-returns c = let s = c in
+returns c =
     repeat_end _ _ _ _ _ c.loop-e-test.false c.loop-e.invariant
-    ∙ ap (repeat 0 s.args.n (add_loss_at s.args.c (elements_in s.args.codes.now s.args.values.now) s.args.temp_prev.now s.args.vector_x.now)) c.no_convection-sums.ensures
+    ∙ ap (repeat 0 c.args.n (add_loss_at c.args.c (elements_in c.args.codes.now c.args.values.now) c.args.temp_prev.now c.args.vector_x.now)) c.no_convection-sums.ensures
 
 pub convective_sums_spec : {M : Type 1} → statement M
 convective_sums_spec =

@@ -20,9 +20,9 @@ loop_again c = let hour = c.before.before.before in
     repeat_turn _ _ _ _ _ _ el.loop-e-test.true (rw (c.add_element-sums.ensures, c.outer_surface-t.ensures, c.is_two_nodes.ensures, el.element_of-el.ensures, hour.element_hour_of-hour.ensures) refl) el.loop-e.invariant
 
 returns : tie.Need-returns invariant_loop decreases_loop
-returns c = let s = c in
+returns c =
     repeat_end _ _ _ _ _ c.loop-e-test.false c.loop-e.invariant
-    ∙ ap (repeat 0 s.args.n (add_element_at (elements_in s.args.codes.now s.args.values.now) (element_hours_in s.args.parts.now s.args.opens.now) s.args.vector_x.now)) c.no_fabric-sums.ensures
+    ∙ ap (repeat 0 c.args.n (add_element_at (elements_in c.args.codes.now c.args.values.now) (element_hours_in c.args.parts.now c.args.opens.now) c.args.vector_x.now)) c.no_fabric-sums.ensures
 
 pub fabric_sums_spec : {M : Type 1} → statement M
 fabric_sums_spec =

@@ -22,25 +22,23 @@ loop_holds c = (c.at_most_24-n.ensures.1, refl, omega arith, omega arith, refl)
 
 loop_again : tie.Need-loop-e-preserved invariant_loop decreases_loop
 loop_again c = let l = c.loop-e in
-    let s = c in
     let n = c.at_most_24-n.result in
     let k = c.nodes_of-k.ensures in
-    let nodes_is = k.0 ∙ sym (nodes_are s.args.two_nodes.now l.e) in (
+    let nodes_is = k.0 ∙ sym (nodes_are c.args.two_nodes.now l.e) in (
       l.invariant.0,
-      rw (first_next s.args.two_nodes.now l.e, ← l.invariant.1, ← nodes_is) refl,
+      rw (first_next c.args.two_nodes.now l.e, ← l.invariant.1, ← nodes_is) refl,
       omega (arith, k.1),
       omega (arith, c.loop-e-test.true),
-      rw (c.copy_nodes.ensures, slot_is s.args.two_nodes.now l.e _ nodes_is, nodes_is, l.invariant.1) (sym (repeat_next (to_nodes_at s.args.two_nodes.now s.args.slots.now) l.e n l.temps c.loop-e-test.true) ∙ l.invariant.4),
+      rw (c.copy_nodes.ensures, slot_is c.args.two_nodes.now l.e _ nodes_is, nodes_is, l.invariant.1) (sym (repeat_next (to_nodes_at c.args.two_nodes.now c.args.slots.now) l.e n l.temps c.loop-e-test.true) ∙ l.invariant.4),
     )
 
 returns : tie.Need-returns invariant_loop decreases_loop
 unfolding to_nodes
 returns c = let l = c.loop-e in
-    let s = c in
     let n = c.at_most_24-n.result in
     let done : l.e ≡ n = omega (arith, c.loop-e-test.false, l.invariant.3) in
-    let node_is : l.node ≡ first_node s.args.two_nodes.now n = l.invariant.1 ∙ ap (first_node s.args.two_nodes.now) done in
-    let all = sym (repeat_done (to_nodes_at s.args.two_nodes.now s.args.slots.now) l.e n l.temps c.loop-e-test.false) ∙ l.invariant.4 in
+    let node_is : l.node ≡ first_node c.args.two_nodes.now n = l.invariant.1 ∙ ap (first_node c.args.two_nodes.now) done in
+    let all = sym (repeat_done (to_nodes_at c.args.two_nodes.now c.args.slots.now) l.e n l.temps c.loop-e-test.false) ∙ l.invariant.4 in
     rw (node_is, all, c.at_most_24-n.ensures.0) refl
 
 pub to_nodes_spec : {M : Type 1} → statement M

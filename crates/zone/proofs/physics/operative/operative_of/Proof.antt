@@ -5,10 +5,8 @@ use borrow.Author.Rules.{rules}
 use Rattle.zone.proofs.physics.operative.operative_of.Statement.{statement}
 use Rattle.zone.proofs.physics.operative.operative_of.Tie as tie
 
--- r: where the radiant sum is found
 returns : tie.Need-returns
 returns c =
-    let r = c in
     let a = c.args in
     c.mean_of.ensures
     ∙ operative_of_nodes (zone_in a.z a.codes.now a.values.now) a.temps.now
@@ -16,7 +14,7 @@ returns c =
     _ c.areas_of-area.ensures
     _ c.at_most_24-n.ensures.0
     _ c.area_total-area_el_total.ensures
-    _ r.radiant_sum_of_nodes-radiant.ensures.0 _ r.radiant_sum_of_nodes-radiant.ensures.1
+    _ c.radiant_sum_of_nodes-radiant.ensures.0 _ c.radiant_sum_of_nodes-radiant.ensures.1
 
 pub operative_of_spec : {M : Type 1} → statement M
 operative_of_spec =

@@ -8,9 +8,9 @@ use Rattle.zone.proofs.record.arrays.element_hour_of.Tie as tie
 
 returns : tie.Need-returns
 unfolding element_hour_in
-returns c = let s = c in let a = s.args in
+returns c = let a = c.args in
     rw (c.part_of-4.ensures, c.part_of-3.ensures, c.part_of-2.ensures, c.part_of.ensures)
-    (sym (counted_at (element_hour_in a.parts.now a.opens.now) 24 a.e no_element_hour s.requires))
+    (sym (counted_at (element_hour_in a.parts.now a.opens.now) 24 a.e no_element_hour c.requires))
 
 pub element_hour_of_spec : {M : Type 1} → statement M
 element_hour_of_spec =

@@ -30,9 +30,8 @@ turn total m k rest e = omega arith
 loop_again : tie.Need-loop-i-preserved invariant_loop decreases_loop
 loop_again c = let l = c.loop-i in
     let n = c.at_most-n in
-    let s = c in
-    let es = elements_in s.args.codes.now s.args.values.now in
-    let size = elements_length s.args.codes.now s.args.values.now in
+    let es = elements_in c.args.codes.now c.args.values.now in
+    let size = elements_length c.args.codes.now c.args.values.now in
     let few = nodes_few _ c.number_of_nodes-total.result c.number_of_nodes-total.ensures in
     (l.invariant.0, omega arith, omega (arith, few, l.invariant.2), rw (c.number_of_nodes-total.ensures, c.element_of-e.ensures) (turn l.total _ _ _ (nodes_next es n.result l.i no_element (omega (arith, l.invariant.0, size)) c.loop-i-test.true) ∙ l.invariant.3))
 
@@ -40,9 +39,8 @@ returns : tie.Need-returns invariant_loop decreases_loop
 unfolding node_count
 returns c = let l = c.loop-i in
     let n = c.at_most-n in
-    let s = c in
-    let es = elements_in s.args.codes.now s.args.values.now in
-    rw (← take_at_most s.args.z.count 24 es (elements_length s.args.codes.now s.args.values.now), ← n.ensures.0) (omega (arith, l.invariant.3, nodes_end es n.result l.i c.loop-i-test.false))
+    let es = elements_in c.args.codes.now c.args.values.now in
+    rw (← take_at_most c.args.z.count 24 es (elements_length c.args.codes.now c.args.values.now), ← n.ensures.0) (omega (arith, l.invariant.3, nodes_end es n.result l.i c.loop-i-test.false))
 
 pub node_count_spec : {M : Type 1} → statement M
 node_count_spec =

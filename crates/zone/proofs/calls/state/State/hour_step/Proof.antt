@@ -9,9 +9,7 @@ returns c = hour_refused _ _ _ _ _ _ _ c.tested_step-read.ensures _ _ _ c.in-Ref
 
 returns_2 : tie.Need-returns
 returns_2 c =
-    let h = c in
-    let t = h in
-    hour_replied _ _ _ _ _ _ _ t.tested_step-read.ensures t.in-Accepted.is _ _ _ _ t.slots_of-t.ensures h.hour_in-demand.ensures c.hour_step_reply.ensures
+    hour_replied _ _ _ _ _ _ _ c.tested_step-read.ensures c.in-Accepted.is _ _ _ _ c.slots_of-t.ensures c.hour_in-demand.ensures c.hour_step_reply.ensures
 
 pub hour_step_spec : {M : Type 1} → statement M
 hour_step_spec =

@@ -11,11 +11,10 @@ returns c = let read = c.tested_hour_and_limits-read.ensures in let e = c.in-Ref
 returns_2 : tie.Need-returns
 returns_2 c =
     let f = c.hour_kept-demand.ensures in
-    let t = c in
-    let read = t.tested_hour_and_limits-read.ensures in
-    let e = t.in-Accepted.is in (
-      held_accepted _ _ _ _ _ _ _ _ _ _ read e _ t.slots_of-t.ensures _ _ f.0,
-      from_accepted _ _ _ _ _ _ _ _ _ _ read e _ t.slots_of-t.ensures _ _ f.1 _ c.hour_reply.ensures,
+    let read = c.tested_hour_and_limits-read.ensures in
+    let e = c.in-Accepted.is in (
+      held_accepted _ _ _ _ _ _ _ _ _ _ read e _ c.slots_of-t.ensures _ _ f.0,
+      from_accepted _ _ _ _ _ _ _ _ _ _ read e _ c.slots_of-t.ensures _ _ f.1 _ c.hour_reply.ensures,
     )
 
 pub next_hour_kept_spec : {M : Type 1} → statement M

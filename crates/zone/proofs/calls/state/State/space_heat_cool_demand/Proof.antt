@@ -8,8 +8,8 @@ returns : tie.Need-returns-in-Refused
 returns c = asked_refused _ _ _ _ _ c.tested-read.ensures _ _ _ c.in-Refused.is c.refuse_demand.ensures
 
 returns_2 : tie.Need-returns
-returns_2 c = let t = c in
-    asked_accepted _ _ _ _ _ t.tested-read.ensures t.in-Accepted.is _ _ _ _ t.slots_of-t.ensures c.hour_in-demand.ensures
+returns_2 c =
+    asked_accepted _ _ _ _ _ c.tested-read.ensures c.in-Accepted.is _ _ _ _ c.slots_of-t.ensures c.hour_in-demand.ensures
 
 pub space_heat_cool_demand_spec : {M : Type 1} → statement M
 space_heat_cool_demand_spec =

@@ -10,11 +10,10 @@ returns c = step_refused _ _ _ _ _ _ _ _ [] _ c.slots_of-before.ensures _ c.hour
 -- back from the state: the heat balance, its numbers, the hour, the slots
 returns_2 : tie.Need-returns
 returns_2 c =
-    let b = c in
-    let n = b.before.before.before in
+    let n = c.before.before.before in
     let h = n in
     step_ok _ _ _ _ _ _ _ _ [] _ h.slots_of-before.ensures _ h.hour_in-solved.ensures _ n.in-Accepted.is
-    _ _ _ _ n.standard_coefficients-c.ensures n.delta_t_of-delta_t.ensures b.heat_balance-balance.ensures c.state_of-state.ensures
+    _ _ _ _ n.standard_coefficients-c.ensures n.delta_t_of-delta_t.ensures c.heat_balance-balance.ensures c.state_of-state.ensures
 
 pub step_spec : {M : Type 1} → statement M
 step_spec =

@@ -10,13 +10,11 @@ returns c = update_refused _ _ _ _ _ c.tested-read.ensures _ _ _ _ _ _ c.in-Refu
 -- back from either end: the test of the load, the tests of the rest
 returns_2 : tie.Need-returns-then-load_in_range
 returns_2 c =
-    let l = c in
-    update_in_lem _ _ _ _ _ l.tested-read.ensures _ _ _ l.in-Accepted.is _ l.load_in_range.ensures _ c.if-load_in_range.true c.step.ensures
+    update_in_lem _ _ _ _ _ c.tested-read.ensures _ _ _ c.in-Accepted.is _ c.load_in_range.ensures _ c.if-load_in_range.true c.step.ensures
 
 returns_3 : tie.Need-returns
 returns_3 c =
-    let l = c in
-    update_out_lem _ _ _ _ _ l.tested-read.ensures _ _ _ l.in-Accepted.is _ l.load_in_range.ensures _ c.if-load_in_range.false c.refuse-2.ensures
+    update_out_lem _ _ _ _ _ c.tested-read.ensures _ _ _ c.in-Accepted.is _ c.load_in_range.ensures _ c.if-load_in_range.false c.refuse-2.ensures
 
 pub update_temperatures_spec : {M : Type 1} → statement M
 update_temperatures_spec =
