@@ -157,14 +157,14 @@ module _ (z : Zone) (s : State) (v : Verdict) (zone : v ≡ verdict_of (zone_tes
     step_refused version l bytes = let w : zone_test z ≡ refused n i = verdict_refused (zone_test z) n i (sym zone ∙ e) in rw w refl
 
   module _ (good : v ≡ Verdict.Accepted) where
-    module _ (version : ℕ) (l : Limits) (known : Bool) (Known-is : known ≡ hour_version version) (bytes : List ℕ) where
+    module _ (version : ℕ) (l : Limits) (known : Bool) (known_is : known ≡ hour_version version) (bytes : List ℕ) where
       pub step_on : known ≡ true → tested_step z version l s bytes ≡ tested_hour_and_limits z version l s bytes
       unfolding tested_step
-      step_on k = let w : hour_version version ≡ true = sym Known-is ∙ k in rw (verdict_accepted (zone_test z) (sym zone ∙ good), w) refl
+      step_on k = let w : hour_version version ≡ true = sym known_is ∙ k in rw (verdict_accepted (zone_test z) (sym zone ∙ good), w) refl
 
       pub step_unknown : known ≡ false → tested_step z version l s bytes ≡ refused false_entry 0
       unfolding tested_step
-      step_unknown k = let w : hour_version version ≡ false = sym Known-is ∙ k in rw (verdict_accepted (zone_test z) (sym zone ∙ good), w) refl
+      step_unknown k = let w : hour_version version ≡ false = sym known_is ∙ k in rw (verdict_accepted (zone_test z) (sym zone ∙ good), w) refl
 
     pub tested_on : (bytes : List ℕ) → tested z s bytes ≡ tested_hour z s bytes
     unfolding tested
