@@ -1,11 +1,12 @@
 #!/usr/bin/env python3
 """Brings the repository's own definitions, lemmas, fields, constructors and variables to snake case, and a fact that is spelled as a value to upper camel case.
 
-usage: tools/snake_case.py [--dry]     at the top of the repository
+usage: tools/snake_case.py [--dry | --anyway]     at the top of the repository
 
 A name of specs/ and proofs/ such as `outerSlot` or `and-assoc` becomes `outer_slot`, `and_assoc`. What is imported from another library than those of
 this repository keeps its name, and so does what the toolchain makes (after `tie.`). In a comment, only names that are declared are turned: those with a
-capital inside anywhere, those with a dash between backticks. Names that would fall together are printed, and nothing is written.
+capital inside anywhere, those with a dash between backticks. Names that would fall together in a file are printed, and nothing is written but with --anyway:
+what is printed now is a field in a record's literal, or a variable where the definition is not used.
 """
 
 import os
