@@ -1,4 +1,4 @@
--- `solve` in two parts, of a matrix alone and of a right side, with a number beside the temperatures as `fast_solver` gives it: fast-solver-is
+-- `solve` in two parts, of a matrix alone and of a right side, with a number beside the temperatures as `fast_solver` gives it: fast_solver_is
 -- (proofs/Laws/Solver.antt) ties `fast_solver` to `solve`, which alone the zone's promise cites.
 use Rattle.std.specs.Prelude.{ℕ, zero, suc, ◌+◌, List, Bool, cond, ◌&&◌, replicate, Float}
 use Rattle.solver.specs.declared.system.Matrix.{Matrix}

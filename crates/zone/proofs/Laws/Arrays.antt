@@ -31,6 +31,9 @@ use Rattle.zone.proofs.Laws.Replaced.{replaced_length, drop_replaced, part_front
 pub elements_length : (codes : List ℕ) (values : List Float) → length (elements_in codes values) ≡ 24
 elements_length codes values = counted_length (element_in codes values) 0 24
 
+pub elements_enough : (codes : List ℕ) (values : List Float) (n : ℕ) → n ≤ 24 → n ≤ length (elements_in codes values)
+elements_enough codes values n h = omega (arith, elements_length codes values, h)
+
 -- an element from its kind's number, its treatments, its first hour's open byte and its 25 values
 abbrev pub element_from : (kind treatments opens : ℕ) (own : List Float) → Element
 element_from k t o own = element_as (kind_of k) t (k ∷ t ∷ o ∷ []) own 0

@@ -1,5 +1,5 @@
 -- `calc_cooling_potential_from_ventilation` and `space_heat_cool_demand` in the parts that the code has, of an hour that is prepared: each is given the last
--- column of the rate before it, and hands on that of the rate that it leaves. prepared-demand (proofs/Laws/PreparedDemand.antt) ties them to the definitions.
+-- column of the rate before it, and hands on that of the rate that it leaves. prepared_demand (proofs/Laws/PreparedDemand.antt) ties them to the definitions.
 use Rattle.std.specs.Prelude.{Bool, cond, not, ◌&&◌, List, Float}
 use Rattle.std.specs.Float.Ieee.{lt, ne}
 use Rattle.solver.specs.Result.{Result, ok, bind}

@@ -1,4 +1,4 @@
--- What `read_head` answers: a head by its structure, before any value is judged. head-as-tested (proofs/Laws/StructuredHead.antt) ties it to `head_of`.
+-- What `read_head` answers: a head by its structure, before any value is judged. head_as_tested (proofs/Laws/StructuredHead.antt) ties it to `head_of`.
 use Rattle.std.specs.Prelude.{ℕ, ◌≡◌, List, Float}
 use Rattle.solver.specs.Result.{Result, ok, bind}
 use Rattle.zone.specs.Format.Decode.{zone_at}

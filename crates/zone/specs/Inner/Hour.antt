@@ -1,4 +1,4 @@
--- An hour's calculations, as the code has them: a given load, or the demand and the last calculation where it is met. answer-solved (proofs/Laws/PreparedDemand.antt)
+-- An hour's calculations, as the code has them: a given load, or the demand and the last calculation where it is met. answer_solved (proofs/Laws/PreparedDemand.antt)
 -- ties `answer_in` to `hour_solved`, and Laws/Hour.antt and StartUp.antt tie that to the calls.
 use Rattle.std.specs.Prelude.{ℕ, Bool, true, List, Float}
 use Rattle.solver.specs.F64.{◌+ᶠ◌, zero64}

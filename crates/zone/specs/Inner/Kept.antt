@@ -1,5 +1,5 @@
 -- A factored matrix that is kept from hour to hour. It depends on the zone, the directions of heat flow, the open treatments and the timestep, and where
--- these are the same it is the next hour's. next-kept (proofs/Laws/NextKept.antt) says where an hour from what is held is the hour of the definitions.
+-- these are the same it is the next hour's. next_kept (proofs/Laws/NextKept.antt) says where an hour from what is held is the hour of the definitions.
 use Rattle.std.specs.Prelude.{◌≡◌, Bool, true, false, cond, ◌&&◌, List, [], ◌∷◌, ℕ, suc, zero, ◌+◌, ◌-◌, eqb, ltb, get_or, drop, replicate, Float}
 use Rattle.std.specs.Float.{nan, binary64}
 use Rattle.std.specs.Float.Ieee.{of_bits, to_bits}

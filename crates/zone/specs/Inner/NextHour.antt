@@ -1,4 +1,4 @@
--- What the book asks of the zone. next-then (proofs/Laws/NextHour.antt) ties it to `hour_step`, next-kept (NextKept.antt) an hour with a matrix that is held to it.
+-- What the book asks of the zone. next_then (proofs/Laws/NextHour.antt) ties it to `hour_step`, next_kept (NextKept.antt) an hour with a matrix that is held to it.
 use Rattle.std.specs.Prelude.{ℕ, List, replicate, Float}
 use Rattle.solver.specs.F64.{◌+ᶠ◌, zero64}
 use Rattle.solver.specs.Result.{Result, ok, refused, bind}

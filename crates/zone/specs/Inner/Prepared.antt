@@ -1,5 +1,5 @@
 -- A time step's systems, prepared for several rates and loads: all of the matrix but its last column factored, the right side without gains reduced.
--- prepared-is (proofs/Laws/Prepared.antt) ties them to `calc_temperatures`.
+-- prepared_is (proofs/Laws/Prepared.antt) ties them to `calc_temperatures`.
 use Rattle.std.specs.Prelude.{ℕ, zero, suc, Bool, ◌&&◌, List, get_or, set, replicate, Float}
 use Rattle.std.specs.Float.{nan}
 use Rattle.solver.specs.F64.{zero64}

@@ -1,4 +1,4 @@
--- `reason_for` in the parts that the code has: of each calculation the control temperature and the air's. reason-in (proofs/Laws/Why.antt) ties them to the definition.
+-- `reason_for` in the parts that the code has: of each calculation the control temperature and the air's. reason_in_lem (proofs/Laws/Why.antt) ties them to the definition.
 use Rattle.std.specs.Prelude.{cond, not, ◌&&◌, List, Float}
 use Rattle.std.specs.Float.Ieee.{lt, eq}
 use Rattle.solver.specs.Result.{Result, ok, refused, bind}

@@ -40,7 +40,7 @@ fn hour_reply(
 
 impl State {
     // One hour after another: the lent arrays keep the factored matrix from each to the next. They hold none where the first flag is false and all else is
-    // zero. Where they hold this zone's or none, the reply is `next_hour` (next-kept, proofs/Laws/NextKept.antt).
+    // zero. Where they hold this zone's or none, the reply is `next_hour` (next_kept, proofs/Laws/NextKept.antt).
     pub fn next_hour_kept(
         self,
         z: ZoneFront,

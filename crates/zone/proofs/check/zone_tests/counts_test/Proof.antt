@@ -1,11 +1,9 @@
-use Prim.Native.Nat.{ℕ, ◌+◌, ◌-◌, ◌≤◌}
+use Prim.Native.Nat.{◌+◌, ◌-◌, ◌≤◌}
 use mathlib.Core.Path.{◌≡◌, refl, sym, ap, ◌∙◌}
 use mathlib.Core.Bool.{true, false}
-use mathlib.Core.List.{List}
 use native.Mathlib.Omega.{arith}
 use lib.Dec.{leb}
-use lib.Ieee.{Float}
-use lib.ListN.{length, take, drop}
+use lib.ListN.{take, drop}
 use borrow.Author.Tests.{le-leb, lt-leb}
 use Rattle.zone.specs.Record.Numbers.{structure}
 use Rattle.zone.specs.Inner.Lent.{elements_in}
@@ -14,7 +12,7 @@ use Rattle.zone.specs.Format.Decode.{no_element}
 use Rattle.zone.specs.Check.ZoneTest.{count_valid, element_treatments_valid, all_required, counts_test, verdict_of}
 use Rattle.zone.proofs.Laws.Ranges.{count_few}
 use Rattle.zone.proofs.Laws.Required.{required_out, required_in, required_done}
-use Rattle.zone.proofs.Laws.Arrays.{elements_length}
+use Rattle.zone.proofs.Laws.Arrays.{elements_enough}
 use borrow.Author.Rules.{rules}
 use Rattle.zone.proofs.check.zone_tests.counts_test.Statement.{statement}
 use Rattle.zone.proofs.check.zone_tests.counts_test.Tie as tie
@@ -29,10 +27,6 @@ invariant_loop codes values n i₀ i =
 abbrev decreases_loop : tie.decreases-loop-i
 decreases_loop codes values n i₀ i = n - i
 
--- the elements, of which there are 24
-few : (codes : List ℕ) (values : List Float) (n : ℕ) → n ≤ 24 → n ≤ length (elements_in codes values)
-few codes values n h = omega (arith, elements_length codes values, h)
-
 returns : tie.Need-returns-then-not-count_valid invariant_loop decreases_loop
 unfolding counts_test
 returns c = rw (sym c.count_valid.ensures ∙ c.if-not-count_valid.true)
@@ -46,12 +40,12 @@ returns_2 : tie.Need-returns-then-most-e invariant_loop decreases_loop
 unfolding counts_test
 returns_2 c = let l = c.loop-i in
     let out : element_treatments_valid (element (elements_in c.args.codes.now c.args.values.now) l.i) ≡ false = rw (← c.element_of-e.ensures) (lt-leb _ _ (rw c.max_treatments-most.ensures at c.if-most-e.true)) in
-    rw l.invariant.2 (sym (ap verdict_of (l.invariant.3 ∙ required_out element_treatments_valid structure (elements_in c.args.codes.now c.args.values.now) l.i c.args.z.count no_element (omega arith) (few c.args.codes.now c.args.values.now c.args.z.count l.invariant.1) out)))
+    rw l.invariant.2 (sym (ap verdict_of (l.invariant.3 ∙ required_out element_treatments_valid structure (elements_in c.args.codes.now c.args.values.now) l.i c.args.z.count no_element (omega arith) (elements_enough c.args.codes.now c.args.values.now c.args.z.count l.invariant.1) out)))
 
 loop_again : tie.Need-loop-i-preserved invariant_loop decreases_loop
 loop_again c = let l = c.loop-i in
     let in' : element_treatments_valid (element (elements_in c.args.codes.now c.args.values.now) l.i) ≡ true = rw (← c.element_of-e.ensures) (le-leb _ _ (rw c.max_treatments-most.ensures at c.if-most-e.false)) in
-    (omega arith, l.invariant.1, l.invariant.2, l.invariant.3 ∙ required_in element_treatments_valid structure (elements_in c.args.codes.now c.args.values.now) l.i c.args.z.count no_element (omega arith) (few c.args.codes.now c.args.values.now c.args.z.count l.invariant.1) in')
+    (omega arith, l.invariant.1, l.invariant.2, l.invariant.3 ∙ required_in element_treatments_valid structure (elements_in c.args.codes.now c.args.values.now) l.i c.args.z.count no_element (omega arith) (elements_enough c.args.codes.now c.args.values.now c.args.z.count l.invariant.1) in')
 
 returns_3 : tie.Need-returns invariant_loop decreases_loop
 unfolding counts_test

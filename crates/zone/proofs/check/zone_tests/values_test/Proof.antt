@@ -1,16 +1,14 @@
-use Prim.Native.Nat.{ℕ, ◌+◌, ◌-◌, ◌≤◌}
+use Prim.Native.Nat.{◌+◌, ◌-◌, ◌≤◌}
 use mathlib.Core.Path.{◌≡◌, refl, sym, ap, ◌∙◌}
-use mathlib.Core.List.{List}
 use native.Mathlib.Omega.{arith}
-use lib.Ieee.{Float}
-use lib.ListN.{length, take, drop}
+use lib.ListN.{take, drop}
 use Rattle.zone.specs.Record.Numbers.{zone_value}
 use Rattle.zone.specs.Inner.Lent.{elements_in}
 use Rattle.zone.specs.Physics.Slots.{element}
 use Rattle.zone.specs.Format.Decode.{no_element}
 use Rattle.zone.specs.Check.ZoneTest.{element_in_range, all_required, values_test, verdict_of}
 use Rattle.zone.proofs.Laws.Required.{required_out, required_in, required_done}
-use Rattle.zone.proofs.Laws.Arrays.{elements_length, front_same}
+use Rattle.zone.proofs.Laws.Arrays.{elements_enough, front_same}
 use Rattle.zone.proofs.check.zone_tests.values_test.Statement.{statement}
 use Rattle.zone.proofs.check.zone_tests.values_test.Tie as tie
 
@@ -21,23 +19,19 @@ invariant_loop codes values n i₀ i =
 abbrev decreases_loop : tie.decreases-loop-i
 decreases_loop codes values n i₀ i = n - i
 
--- the elements, of which there are 24
-few : (codes : List ℕ) (values : List Float) (n : ℕ) → n ≤ 24 → n ≤ length (elements_in codes values)
-few codes values n h = omega (arith, elements_length codes values, h)
-
 -- what was tested is the element in its place
 tested : (c : tie.After-element_in_range invariant_loop decreases_loop) → element_in_range (element (elements_in c.args.codes.now c.args.values.now) c.loop-i.i) ≡ c.element_in_range.result
 tested c = rw (← c.element_of-e.ensures) (sym c.element_in_range.ensures)
 
 loop_again : tie.Need-loop-i-preserved invariant_loop decreases_loop
 loop_again c = let l = c.loop-i in
-    (omega arith, l.invariant.1 ∙ required_in element_in_range zone_value (elements_in c.args.codes.now c.args.values.now) l.i c.args.z.count no_element (omega arith) (few c.args.codes.now c.args.values.now c.args.z.count c.requires) (tested c.before ∙ c.if-element_in_range.true))
+    (omega arith, l.invariant.1 ∙ required_in element_in_range zone_value (elements_in c.args.codes.now c.args.values.now) l.i c.args.z.count no_element (omega arith) (elements_enough c.args.codes.now c.args.values.now c.args.z.count c.requires) (tested c.before ∙ c.if-element_in_range.true))
 
 returns : tie.Need-returns-else-element_in_range invariant_loop decreases_loop
 unfolding values_test
 returns c = let l = c.loop-i in
     rw (front_same c.args.z (elements_in c.args.codes.now c.args.values.now) ∙ sym c.front_in_range.ensures ∙ c.if-front_in_range.true)
-    (sym (ap verdict_of (l.invariant.1 ∙ required_out element_in_range zone_value (elements_in c.args.codes.now c.args.values.now) l.i c.args.z.count no_element (omega arith) (few c.args.codes.now c.args.values.now c.args.z.count c.requires) (tested c.before ∙ c.if-element_in_range.false))))
+    (sym (ap verdict_of (l.invariant.1 ∙ required_out element_in_range zone_value (elements_in c.args.codes.now c.args.values.now) l.i c.args.z.count no_element (omega arith) (elements_enough c.args.codes.now c.args.values.now c.args.z.count c.requires) (tested c.before ∙ c.if-element_in_range.false))))
 
 returns_2 : tie.Need-returns-then-front_in_range invariant_loop decreases_loop
 unfolding values_test

@@ -45,15 +45,18 @@ module _ {k : Kind} {kc hc t : ℕ} (s : List ℕ) (p : ℕ) (right : kind_valid
         rw of_x (sized_stored codes values e (get_or s p 0) (get_or s (p + 1) 0) o own h z long),
       )
 
+fit : (c : tie.After-h_count-hc) →
+    (c.args.p + (element_arrays + 8 * c.number_of_nodes-kc.result + 8 * c.h_count-hc.result + 8 * c.count_of-t.result + element_hour_size) ≤ length c.args.s.now)
+    × (c.number_of_nodes-kc.result ≤ 5) × (c.h_count-hc.result ≤ 4) × (c.count_of-t.result ≤ 4)
+fit c = counted c.args.s.now c.args.p c.requires.2 c.kind_of-kind.ensures c.count_of-t.ensures.0 c.number_of_nodes-kc.ensures c.h_count-hc.ensures c.requires.3
+
 values_to_requires : tie.Need-values_to-requires
-values_to_requires c κs = let pre = c.requires in
-    let f = counted c.args.s.now c.args.p pre.2 c.kind_of-kind.ensures c.count_of-t.ensures.0 c.number_of_nodes-kc.ensures c.h_count-hc.ensures pre.3 in
+values_to_requires c κs = let f = fit c.before.before.before in let pre = c.requires in
     (pre.0, f.0, f.1, f.2, f.3, pre.4)
 
 returns : tie.Need-returns
-returns c = let t = c.before.before in let start = t in
-    let a = start.args in let pre = start.requires in
-    put a.s.now a.p pre.2 t.kind_of-kind.ensures t.count_of-t.ensures.0 c.number_of_nodes-kc.ensures c.h_count-hc.ensures
+returns c = let a = c.args in let pre = c.requires in
+    put a.s.now a.p pre.2 c.kind_of-kind.ensures c.count_of-t.ensures.0 c.number_of_nodes-kc.ensures c.h_count-hc.ensures
     a.codes.now a.values.now a.e pre.0 pre.5 pre.4 pre.3 c.values_to.ensures
 
 pub element_to_spec : {M : Type 1} → statement M
@@ -61,12 +64,12 @@ element_to_spec =
     tie.close
     (tie.spec (λ c. search rules) (λ c. search rules) (λ c. search rules) (λ c κs. tt)
     (λ c κs. tt) (λ c κs. tt) (λ c κs. tt) (λ c. search rules)
-    (λ c. let f = counted c.args.s.now c.args.p c.requires.2 c.kind_of-kind.ensures c.count_of-t.ensures.0 c.number_of_nodes-kc.ensures c.h_count-hc.ensures c.requires.3 in omega (arith, f.0, f.1, f.2, f.3))
-    (λ c. let f = counted c.args.s.now c.args.p c.requires.2 c.kind_of-kind.ensures c.count_of-t.ensures.0 c.number_of_nodes-kc.ensures c.h_count-hc.ensures c.requires.3 in omega (arith, f.0, f.1, f.2, f.3))
-    (λ c. let f = counted c.args.s.now c.args.p c.requires.2 c.kind_of-kind.ensures c.count_of-t.ensures.0 c.number_of_nodes-kc.ensures c.h_count-hc.ensures c.requires.3 in omega (arith, f.0, f.1, f.2, f.3))
-    (λ c. let f = counted c.args.s.now c.args.p c.requires.2 c.kind_of-kind.ensures c.count_of-t.ensures.0 c.number_of_nodes-kc.ensures c.h_count-hc.ensures c.requires.3 in omega (arith, f.0, f.1, f.2, f.3)) (λ c. search rules)
-    (λ c. let f = counted c.args.s.now c.args.p c.requires.2 c.kind_of-kind.ensures c.count_of-t.ensures.0 c.number_of_nodes-kc.ensures c.h_count-hc.ensures c.requires.3 in omega (arith, f.0, f.1, f.2, f.3)) (λ c. search rules) (λ c. search rules)
+    (λ c. let f = fit c in omega (arith, f.0, f.1, f.2, f.3))
+    (λ c. let f = fit c in omega (arith, f.0, f.1, f.2, f.3))
+    (λ c. let f = fit c in omega (arith, f.0, f.1, f.2, f.3))
+    (λ c. let f = fit c in omega (arith, f.0, f.1, f.2, f.3)) (λ c. search rules)
+    (λ c. let f = fit c in omega (arith, f.0, f.1, f.2, f.3)) (λ c. search rules) (λ c. search rules)
     (λ c. search rules) (λ c. search rules) (λ c. search rules)
-    (λ c. let f = counted c.args.s.now c.args.p c.requires.2 c.kind_of-kind.ensures c.count_of-t.ensures.0 c.number_of_nodes-kc.ensures c.h_count-hc.ensures c.requires.3 in omega (arith, f.0, f.1, f.2, f.3))
-    (λ c. let f = counted c.args.s.now c.args.p c.requires.2 c.kind_of-kind.ensures c.count_of-t.ensures.0 c.number_of_nodes-kc.ensures c.h_count-hc.ensures c.requires.3 in omega (arith, f.0, f.1, f.2, f.3)) (λ c. search rules)
+    (λ c. let f = fit c.before in omega (arith, f.0, f.1, f.2, f.3))
+    (λ c. let f = fit c.before.before in omega (arith, f.0, f.1, f.2, f.3)) (λ c. search rules)
     (λ c. search rules) (λ c. search rules) values_to_requires returns)
