@@ -57,7 +57,7 @@ extern "C" {
 #define HEM_LIMITS_ENTRY_VERSION 3
 #define HEM_LIMIT_MOST 1e7
 
-/* The stack, in bytes, that suffices for every call (42 KB were measured, by hem_take_up and the
+/* The stack, in bytes, that suffices for every call (43 KB were measured, by hem_take_up and the
    questions; bench/stack). */
 #define HEM_STACK 49152
 

@@ -1,4 +1,6 @@
 -- What begin, append and take-up answer at each return, from the tests and the callees' answers on the way.
+use Rattle.std.specs.Prelude.{Ok, Err}
+use Rattle.std.specs.Prelude as Rust
 use mathlib.Core.Path.{◌≡◌, refl, sym, ap, ◌∙◌}
 use mathlib.Core.Bool.{Bool, true, false}
 use mathlib.Core.List.{List, ◌++◌}
@@ -8,29 +10,24 @@ use native.Mathlib.Omega.{arith}
 use lib.ListN.{length, take, drop, length-append}
 use lib.Seq.{length-take-le}
 use lib.Dec.{T, leb, ltb}
-use lib.Ieee.{Float, binary64, fits}
+use lib.Ieee.{binary64, fits}
 use borrow.Author.Tests.{leb-true, leb-false, le-leb, lt-ltb, lt-leb, le-ltb}
 use Rattle.zone.specs.Promise.{Result, ok, refused, bind, require}
-use Rattle.zone.specs.Inner.Lent.{zone_in}
 use Rattle.zone.specs.Record.BuildingElement.{standard_coefficients}
 use Rattle.zone.specs.Format.Head.{ReadHead}
-use Rattle.zone.specs.Inner.Head.{structured_head, head_in}
-use Rattle.zone.specs.Check.ZoneTest.{zone_test, verdict_of}
+use Rattle.zone.specs.Inner.Head.{structured_head, head_read}
+use Rattle.zone.specs.Check.ZoneTest.{zone_test}
 use Rattle.zone.specs.declared.record.zone_record.Zone.{Zone}
-use Rattle.zone.specs.declared.record.zone_record.ZoneFront.{ZoneFront}
-use Rattle.zone.specs.declared.record.zone_record.Verdict.{Verdict}
-use Rattle.zone.specs.declared.record.zone_record.Verdict.TheVariants.{Accepted, Refused}
-use Rattle.zone.specs.declared.format.head.Head.{Head}
-use Rattle.zone.proofs.Promise.{verdict_accepted, verdict_refused}
+use Rattle.zone.proofs.Promise.{answered_no, answered_yes}
 use Rattle.zone.specs.Inner.NextHour.{next_hour}
 use Rattle.zone.specs.Calls.StartUp.{init_node_temps}
-use Rattle.zone.specs.Calls.Answers.{start_up_reply}
 use Rattle.zone.specs.Inner.NextHour.{next_hour_reply}
 use Rattle.zone.specs.declared.calls.state.State.{State}
 use Rattle.zone.specs.declared.calls.state.Demand.{Demand}
-use Rattle.zone.specs.declared.calls.state.DemandAnswer.TheVariants as DemandAnswer
-use Rattle.zone.specs.declared.calls.state.DemandReply.{DemandReply}
-use Rattle.zone.specs.declared.calls.state.StartUp.{StartUp}
+use Rattle.zone.specs.declared.calls.state.Reply.{Reply as HourReply}
+use Rattle.zone.specs.declared.record.refusal.Refusal.{Refusal}
+use Rattle.zone.specs.Answers.{number_of, index_of, answered}
+use Rattle.zone.specs.Calls.Answers.{reply_in as stepped_in}
 use Rattle.book.specs.Numbers.{buffer_short, book_full, false_entry}
 use Rattle.book.specs.Model.Interface.{Written}
 use Rattle.book.specs.Model.Calls as Book
@@ -64,40 +61,35 @@ room_left u l r h = go (leb l (r - u)) refl
     go true t = let e = leb-true l (r - u) t in t ∙ sym (le-leb (u + l) r (omega arith))
     go false t = let e = leb-false l (r - u) t in t ∙ sym (lt-leb (u + l) r (omega arith))
 
-pub ruleset room_cases = (room_none, room_left)
-
 -- ---- the callees' answers, read back
 
-module _ (z : ZoneFront) (codes : List ℕ) (values : List Float) where
-  -- the zone that stands in the arrays
-  abbrev zone : Zone
-  zone = zone_in z codes values
-
+module _ (z : Zone) where
   -- the conditions i of an hour that is accepted, before the bytes j of its limits
-  pub step_size : (k : ℕ) (s : Carried) (version : ℕ) (i j : List ℕ) → length j ≡ limits_length version → (e : Written Carried) → hour_entry zone k s (hour version (i ++ j)) ≡ ok e
+  pub step_size : (k : ℕ) (s : Carried) (version : ℕ) (i j : List ℕ) → length j ≡ limits_length version → (e : Written Carried) → hour_entry z k s (hour version (i ++ j)) ≡ ok e
       → length i ≡ conditions_length z.count
   step_size k s version i j l e p =
-      let a = step_hour zone k s version (i ++ j) e p in
-      omega (arith, l, length-append i j, hour_body zone version s.state (i ++ j) a.result a.stepped)
+      let a = step_hour z k s version (i ++ j) e p in
+      omega (arith, l, length-append i j, hour_body z version s.state (i ++ j) a.result a.stepped)
 
-  module _ (tested : zone_test zone ≡ ok tt) (s : Carried) (version : ℕ) (follows : may_follow s.last_version version ≡ true)
-      (i j : List ℕ) (long : length j ≡ limits_length version) (l : Limits) (holds : has_limits version ≡ true → limits_in j ≡ l) (x : DemandReply)
-      (e : x ≡ next_hour_reply s.state (next_hour standard_coefficients zone version l s.state i)) (d : Demand) (f : x.answer ≡ DemandAnswer.Accepted d) where
+  module _ (tested : zone_test z ≡ ok tt) (s : Carried) (version : ℕ) (follows : may_follow s.last_version version ≡ true)
+      (i j : List ℕ) (long : length j ≡ limits_length version) (l : Limits) (holds : has_limits version ≡ true → limits_in j ≡ l) (x : HourReply Demand)
+      (e : stepped_in x ≡ next_hour_reply s.state (next_hour standard_coefficients z version l s.state i)) (d : Demand) (f : x.answer ≡ Ok d) where
     pub hour_size : length i ≡ conditions_length z.count
-    hour_size = step_size 0 s version i j long _ (step_given zone tested s version follows i j long l holds x e d f 0)
+    hour_size = step_size 0 s version i j long _ (step_given z tested s version follows i j long l holds x e d f 0)
 
-    pub hour_written : length (entry_of zone version (i ++ j) d x.state) ≡ whole_length zone version
-    hour_written = step_length zone 0 s version (i ++ j) _ (step_given zone tested s version follows i j long l holds x e d f 0)
+    pub hour_written : length (entry_of z version (i ++ j) d x.state) ≡ whole_length z version
+    hour_written = step_length z 0 s version (i ++ j) _ (step_given z tested s version follows i j long l holds x e d f 0)
 
-  pub append_room : (version used m room : ℕ) (t : Bool) → m ≡ whole_length zone version → t ≡ leb (used + m) room → t ≡ true → used + whole_length zone version ≤ room
+  pub append_room : (version used m room : ℕ) (t : Bool) → m ≡ whole_length z version → t ≡ leb (used + m) room → t ≡ true → used + whole_length z version ≤ room
   append_room version used m room t l e f = let w = leb-true (used + m) room (sym e ∙ f) in omega arith
 
-pub zone_passed : (z : Zone) (v : Verdict) → v ≡ verdict_of (zone_test z) → v ≡ Accepted → zone_test z ≡ ok tt
-zone_passed z v e f = verdict_accepted (zone_test z) (sym e ∙ f)
+module _ (z : Zone) (x : Rust.Result (Unit {0}) Refusal) (e : answered x ≡ zone_test z) where
+  pub zone_passed : (u : Unit {0}) → x ≡ Ok u → zone_test z ≡ ok tt
+  zone_passed u f = answered_yes (zone_test z) x e u f
 
 -- ---- begin
 
-module _ (head : List ℕ) (h : Head) (codes : List ℕ) (values : List Float) (e : head_in h codes values ≡ structured_head head) (g : BookState) (buf : List ℕ) where
+module _ (head : List ℕ) (x : Rust.Result ℕ Refusal) (z : Zone) (e : head_read x z ≡ structured_head head) (g : BookState) (buf : List ℕ) where
   abbrev BeginCallSpec : Reply → List ℕ → Type 0
   BeginCallSpec r out = CallSpec year_interface rust_types r out (Book.begin year_interface head (given_of g) buf)
 
@@ -110,45 +102,43 @@ module _ (head : List ℕ) (h : Head) (codes : List ℕ) (values : List Float) (
 
   -- what follows the start-up
   abbrev begun : ReadHead Zone → Carried → Result (Book.BookState Carried × List ℕ)
-  begun x s =
-      bind (require (leb x.length (length buf)) buffer_short) λ _.
-      ok (record { state = s; count = 0; used = x.length }, take x.length head ++ drop x.length buf)
+  begun h s =
+      bind (require (leb h.length (length buf)) buffer_short) λ _.
+      ok (record { state = s; count = 0; used = h.length }, take h.length head ++ drop h.length buf)
 
-  pub begin_head_lem : (r : Reply) (n j : ℕ) → Refuses r n j → h.verdict ≡ Refused n j → BeginCallSpec r buf
+  pub begin_head_lem : (r : Reply) (i : Refusal) → Refuses r (number_of i) (index_of i) → x ≡ Err i → BeginCallSpec r buf
   unfolding Book.begin_res
-  begin_head_lem r n j q f = begin_refused r n j q (head_stops head h codes values e begun n j f)
+  begin_head_lem r i q f = begin_refused r (number_of i) (index_of i) q (head_stops head x z e begun i f)
 
-  module _ (f : h.verdict ≡ Accepted) (s : StartUp) (i : s ≡ start_up_reply (init_node_temps standard_coefficients (zone_in h.zone codes values))) where
-    pub begin_start : (r : Reply) (n j : ℕ) → Refuses r n j → s.verdict ≡ Refused n j → BeginCallSpec r buf
+  module _ (n : ℕ) (f : x ≡ Ok n) (y : Rust.Result State Refusal) (a : answered y ≡ init_node_temps standard_coefficients z) where
+    pub begin_start : (r : Reply) (i : Refusal) → Refuses r (number_of i) (index_of i) → y ≡ Err i → BeginCallSpec r buf
     unfolding Book.begin_res
-    begin_start r n j q k =
-        begin_refused r n j q (head_goes_on head h codes values e begun f ∙ rw (starts_not (zone_in h.zone codes values) s i n j k))
+    begin_start r i q k =
+        begin_refused r (number_of i) (index_of i) q (head_goes_on head x z e begun n f ∙ rw (starts_not z y a i k))
 
-    module _ (k : s.verdict ≡ Accepted) where
+    module _ (s : State) (k : y ≡ Ok s) where
       -- what is carried from it
       abbrev first : Carried
-      first = carried s.state no_entry_version
+      first = carried s no_entry_version
 
-      started : start_up (zone_in h.zone codes values) ≡ ok first
-      started = starts (zone_in h.zone codes values) s i k
+      started : start_up z ≡ ok first
+      started = starts z y a s k
 
-      pub begin_short : (r : Reply) → Refuses r buffer_short 0 → length buf < h.length → BeginCallSpec r buf
+      pub begin_short : (r : Reply) → Refuses r buffer_short 0 → length buf < n → BeginCallSpec r buf
       unfolding Book.begin_res
-      begin_short r q l = begin_refused r buffer_short 0 q (head_goes_on head h codes values e begun f ∙ rw (started, lt-leb h.length (length buf) l))
+      begin_short r q l = begin_refused r buffer_short 0 q (head_goes_on head x z e begun n f ∙ rw (started, lt-leb n (length buf) l))
 
-      begin_is : h.length ≤ length buf
-          → Book.begin_res year_interface head buf ≡ ok (record { state = first; count = 0; used = h.length }, take h.length head ++ drop h.length buf)
+      begin_is : n ≤ length buf
+          → Book.begin_res year_interface head buf ≡ ok (record { state = first; count = 0; used = n }, take n head ++ drop n buf)
       unfolding Book.begin_res
-      begin_is l = head_goes_on head h codes values e begun f ∙ rw (started, le-leb h.length (length buf) l)
+      begin_is l = head_goes_on head x z e begun n f ∙ rw (started, le-leb n (length buf) l)
 
-      pub begin_good : (r : Reply) → r ≡ reply_in (Book.accepted (record { state = first; count = 0; used = h.length }))
-          → h.length ≤ length buf → (out : List ℕ) → out ≡ replace_at 0 (take h.length head) buf → BeginCallSpec r out
+      pub begin_good : (r : Reply) → r ≡ reply_in (Book.accepted (record { state = first; count = 0; used = n }))
+          → n ≤ length buf → (out : List ℕ) → out ≡ replace_at 0 (take n head) buf → BeginCallSpec r out
       unfolding Book.begin replace_at
       begin_good r q l out o =
-          let n : 0 + length (take h.length head) ≡ h.length = zero-add _ ∙ length-take-le h.length head (head_inside head h codes values e f) in
-          record { reply = rw (begin_is l) q; bytes = rw (begin_is l) (o ∙ ap (λ (x : ℕ). take h.length head ++ drop x buf) n) }
-
-pub ruleset begin_cases = (begin_head_lem, begin_start, begin_short, begin_good)
+          let m : 0 + length (take n head) ≡ n = zero-add _ ∙ length-take-le n head (head_inside head x z e n f) in
+          record { reply = rw (begin_is l) q; bytes = rw (begin_is l) (o ∙ ap (λ (i : ℕ). take n head ++ drop i buf) m) }
 
 -- ---- append
 
@@ -164,9 +154,9 @@ module _ (z : Zone) (g : BookState) (version : ℕ) (i : List ℕ) (l : Limits) 
   unfolding Book.append
   append_refused r n j q w = record { reply = rw w q; bytes = rw w }
 
-  pub append_zone_lem : (r : Reply) (n j : ℕ) → r ≡ reply_in (Book.refused_with n j (given_of g)) → (v : Verdict) → v ≡ verdict_of (zone_test z) → v ≡ Refused n j → AppendCallSpec r buf
+  pub append_zone_lem : (r : Reply) (e : Refusal) → r ≡ reply_in (Book.refused_with (number_of e) (index_of e) (given_of g)) → (x : Rust.Result (Unit {0}) Refusal) → answered x ≡ zone_test z → x ≡ Err e → AppendCallSpec r buf
   unfolding Book.append_res
-  append_zone_lem r n j q v e f = append_refused r n j q (rw (verdict_refused (zone_test z) n j (sym e ∙ f)))
+  append_zone_lem r e q x a f = append_refused r (number_of e) (index_of e) q (rw (answered_no (zone_test z) x a e f))
 
   module _ (tested : zone_test z ≡ ok tt) where
     pub append_full : (r : Reply) → r ≡ reply_in (Book.refused_with book_full 0 (given_of g)) → year_interface.limit ≤ g.count → AppendCallSpec r buf
@@ -183,14 +173,14 @@ module _ (z : Zone) (g : BookState) (version : ℕ) (i : List ℕ) (l : Limits) 
 
       -- the limits are read back from the bytes that they have
       module _ (follows : may_follow g.last_version version ≡ true) (heating : T (fits binary64 l.heating)) (cooling : T (fits binary64 l.cooling))
-          (x : DemandReply) (e : x ≡ next_hour_reply g.state (next_hour standard_coefficients z version l g.state i)) where
-        pub append_hour_lem : (r : Reply) (n j : ℕ) → r ≡ reply_in (Book.refused_with n j (given_of g)) → x.answer ≡ DemandAnswer.Refused n j → AppendCallSpec r buf
+          (x : HourReply Demand) (e : stepped_in x ≡ next_hour_reply g.state (next_hour standard_coefficients z version l g.state i)) where
+        pub append_hour_lem : (r : Reply) (y : Refusal) → r ≡ reply_in (Book.refused_with (number_of y) (index_of y) (given_of g)) → x.answer ≡ Err y → AppendCallSpec r buf
         unfolding Book.append_res
-        append_hour_lem r n j q f =
-            append_refused r n j q
-            (rw (tested, room, step_refused z tested (given_of g).state version follows i (limits_part version l) (part_length version l) l (part_back version l heating cooling) x e n j f g.count))
+        append_hour_lem r y q f =
+            append_refused r (number_of y) (index_of y) q
+            (rw (tested, room, step_refused z tested (given_of g).state version follows i (limits_part version l) (part_length version l) l (part_back version l heating cooling) x e y f g.count))
 
-        pub append_given : (d : Demand) → x.answer ≡ DemandAnswer.Accepted d
+        pub append_given : (d : Demand) → x.answer ≡ Ok d
             → hour_entry z g.count (given_of g).state (hour_item version i l) ≡ ok (record { bytes = entry_of z version body d x.state; after = carried x.state version })
         append_given d f = step_given z tested (given_of g).state version follows i (limits_part version l) (part_length version l) l (part_back version l heating cooling) x e d f g.count
 
@@ -223,4 +213,4 @@ module _ (z : Zone) (g : BookState) (version : ℕ) (i : List ℕ) (l : Limits) 
 pub append_sum : (used m room top : ℕ) (t : Bool) → t ≡ leb (used + m) room → t ≡ true → room < top → used + m < top
 append_sum used m room top t e f h = let w = leb-true (used + m) room (sym e ∙ f) in omega arith
 
-pub ruleset append_cases = (append_full, append_version, append_short, append_good)
+pub ruleset append_cases = (append_full, append_version)

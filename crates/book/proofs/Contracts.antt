@@ -5,9 +5,8 @@ use contract.Lifetimes.{Lfts}
 use denote.Triple.Clauses.{AtExit}
 use borrow.Fn.Kinds.{Dens, ended_of}
 use borrow.Author.Rules.{rules}
-use Rattle.zone.specs.Inner.Lent.{zone_in}
-use Rattle.zone.specs.declared.record.zone_record.Verdict.{Verdict}
-use Rattle.zone.specs.declared.record.zone_record.Verdict.TheVariants.{Accepted, Refused}
+use Rattle.book.specs.declared.verdict.Verdict.{Verdict}
+use Rattle.book.specs.declared.verdict.Verdict.TheVariants.{Accepted, Refused}
 use Rattle.book.specs.Model.Calls as Book
 use Rattle.book.specs.Model.Session.{CallSpec}
 use Rattle.book.specs.Model.Claims.{HandedOn}
@@ -30,14 +29,14 @@ begin_ensures κs a r e p = p
 pub begin_asks : (κs : Lfts 2) (a : Dens κs begin_kinds.ps) → begin_reads.Pre κs a
 begin_asks κs a = search rules
 
--- fn append(z, codes, values, given, conditions, version, limits, buf)
-pub append_ensures : (κs : Lfts 4) (a : Dens κs append_kinds.ps) (r : Reply) (e : AtExit (ended_of 4 append_kinds.ps append_kinds.r) κs)
+-- fn append(z, given, conditions, version, limits, buf)
+pub append_ensures : (κs : Lfts 3) (a : Dens κs append_kinds.ps) (r : Reply) (e : AtExit (ended_of 3 append_kinds.ps append_kinds.r) κs)
     → append_reads.Post κs a r e
-    → CallSpec year_interface rust_types r e.1.1.1.1.1.1.1.0.now
-    (Book.append year_interface (zone_in a.0 a.1.0.now a.1.1.0.now) (given_of a.1.1.1.0) (hour_item a.1.1.1.1.1.0 a.1.1.1.1.0.now a.1.1.1.1.1.1.0) a.1.1.1.1.1.1.1.0.now)
+    → CallSpec year_interface rust_types r e.1.1.1.1.1.0.now
+    (Book.append year_interface a.0.now (given_of a.1.0) (hour_item a.1.1.1.0 a.1.1.0.now a.1.1.1.1.0) a.1.1.1.1.1.0.now)
 append_ensures κs a r e p = p
 
-pub append_asks : (κs : Lfts 4) (a : Dens κs append_kinds.ps) → append_reads.Pre κs a
+pub append_asks : (κs : Lfts 3) (a : Dens κs append_kinds.ps) → append_reads.Pre κs a
 append_asks κs a = search rules
 
 -- fn take_up(given, bytes)

@@ -9,6 +9,7 @@ pub mod Writing
 pub mod Accepted
 pub mod Interface
 pub mod Heads
+pub mod Verdicts
 pub mod NextHour
 pub mod Reader
 pub mod ReadBook

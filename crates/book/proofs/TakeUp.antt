@@ -1,4 +1,6 @@
 -- What take-up's functions answer at each return: one entry, the loop over the whole entries, and the call.
+use Rattle.std.specs.Prelude.{None, Some, Ok, Err}
+use Rattle.std.specs.Prelude as Rust
 use mathlib.Core.Path.{◌≡◌, sym, ap, ◌∙◌}
 use mathlib.Core.Bool.{Bool, true, false}
 use mathlib.Core.List.{List, ◌∷◌, ◌++◌}
@@ -8,29 +10,27 @@ use native.Mathlib.Nat.{add-sub_cancel_left}
 use native.Mathlib.Omega.{arith}
 use lib.ListN.{length, take, drop, length-drop}
 use lib.Seq.{length-take-le, take-length, take-add, drop-drop}
-use lib.Ieee.{Float}
 use borrow.Author.Tests.{lt-ltb, le-ltb}
 use Rattle.zone.specs.Promise.{Result, ok, refused}
-use Rattle.zone.specs.Inner.Lent.{zone_in}
 use Rattle.zone.specs.Record.BuildingElement.{standard_coefficients}
 use Rattle.zone.specs.Format.Head.{ReadHead}
-use Rattle.zone.specs.Inner.Head.{structured_head, head_in}
+use Rattle.zone.specs.Inner.Head.{structured_head, head_read}
 use Rattle.zone.specs.Check.ZoneTest.{zone_test}
 use Rattle.zone.specs.declared.record.zone_record.Zone.{Zone}
-use Rattle.zone.specs.declared.record.zone_record.Verdict.TheVariants.{Accepted, Refused}
-use Rattle.zone.specs.declared.format.head.Head.{Head}
-use Rattle.zone.proofs.Promise.{and_true, apart, same_refusal}
+use Rattle.book.specs.declared.verdict.Verdict.TheVariants.{Accepted, Refused}
+use Rattle.zone.proofs.Promise.{and_true}
+use Rattle.book.proofs.Laws.Verdicts.{apart, same_refusal}
 use Rattle.zone.specs.Calls.Hour.{hour_version}
 use lib.Dec.{leb}
 use Rattle.zone.specs.Inner.NextHour.{next_hour}
 use Rattle.zone.specs.Calls.StartUp.{init_node_temps}
-use Rattle.zone.specs.Calls.Answers.{start_up_reply}
 use Rattle.zone.specs.Inner.NextHour.{next_hour_reply}
 use Rattle.zone.specs.declared.calls.state.State.{State}
 use Rattle.zone.specs.declared.calls.state.Demand.{Demand}
-use Rattle.zone.specs.declared.calls.state.DemandAnswer.TheVariants as DemandAnswer
-use Rattle.zone.specs.declared.calls.state.DemandReply.{DemandReply}
-use Rattle.zone.specs.declared.calls.state.StartUp.{StartUp}
+use Rattle.zone.specs.declared.calls.state.Reply.{Reply as HourReply}
+use Rattle.zone.specs.declared.record.refusal.Refusal.{Refusal}
+use Rattle.zone.specs.Answers.{number_of, index_of, answered}
+use Rattle.zone.specs.Calls.Answers.{reply_in as stepped_in}
 use Rattle.book.specs.Numbers.{book_full, false_entry}
 use Rattle.book.specs.Model.Bytes.{equal_bytes}
 use Rattle.book.specs.Model.Calls as Book
@@ -44,8 +44,6 @@ use Rattle.book.specs.Year.{hour, Carried, carried, no_entry_version, may_follow
 use Rattle.book.specs.Answers.{given_of, reply_in}
 use Rattle.book.specs.Inner.Checked.{checked_entry}
 use Rattle.book.specs.Inner.Record.{record_length}
-use Rattle.book.specs.declared.record.Record.{Record}
-use Rattle.book.specs.declared.record.Record.TheVariants.{Dropped, Whole}
 use Rattle.book.specs.declared.book.BookState.{BookState}
 use Rattle.book.specs.declared.book.Reply.{Reply}
 use Rattle.book.specs.declared.checked_entry.CheckedEntry.{CheckedEntry}
@@ -109,7 +107,7 @@ module _ (z : Zone) (tested : zone_test z ≡ ok tt) (k : ℕ) (s : State) (last
   Checked y = y ≡ checked_entry (carried s last) (Book.check_entry year_interface k c (hour_entry z k (carried s last) (hour version (body_in z version c))))
 
   module _ (whole : length c ≡ whole_length z version) (m : ℕ) (m_is : m ≡ conditions_length z.count) (n : ℕ) (n_is : n ≡ limits_length version)
-      (l : Limits) (l_is : l ≡ limits_in (limits_cut c m n)) (x : DemandReply) (r : x ≡ next_hour_reply s (next_hour standard_coefficients z version l s (conditions_cut c m))) where
+      (l : Limits) (l_is : l ≡ limits_in (limits_cut c m n)) (x : HourReply Demand) (r : stepped_in x ≡ next_hour_reply s (next_hour standard_coefficients z version l s (conditions_cut c m))) where
     abbrev i : List ℕ
     i = conditions_cut c m
 
@@ -122,12 +120,12 @@ module _ (z : Zone) (tested : zone_test z ≡ ok tt) (k : ℕ) (s : State) (last
     by_part : hour_entry z k (carried s last) (hour version (body_in z version c)) ≡ hour_entry z k (carried s last) (hour version (i ++ j))
     by_part = ap (λ y. hour_entry z k (carried s last) (hour version y)) (cuts_are z version c m m_is n n_is)
 
-    pub entry_refused : (a b : ℕ) → x.answer ≡ DemandAnswer.Refused a b → (y : CheckedEntry) → False z k s last c y → Checked y
-    entry_refused a b f y q =
-        let w : hour_entry z k (carried s last) (hour version (body_in z version c)) ≡ refused a b = by_part ∙ step_refused z tested (carried s last) version follows i j long l (λ _. sym l_is) x r a b f k in
+    pub entry_refused : (a : Refusal) → x.answer ≡ Err a → (y : CheckedEntry) → False z k s last c y → Checked y
+    entry_refused a f y q =
+        let w : hour_entry z k (carried s last) (hour version (body_in z version c)) ≡ refused (number_of a) (index_of a) = by_part ∙ step_refused z tested (carried s last) version follows i j long l (λ _. sym l_is) x r a f k in
         rw w q
 
-    module _ (d : Demand) (f : x.answer ≡ DemandAnswer.Accepted d) (t : Bool) (g : t ≡ equal_bytes (entry_of z version (i ++ j) d x.state) c) where
+    module _ (d : Demand) (f : x.answer ≡ Ok d) (t : Bool) (g : t ≡ equal_bytes (entry_of z version (i ++ j) d x.state) c) where
       gives : hour_entry z k (carried s last) (hour version (body_in z version c)) ≡ ok (record { bytes = entry_of z version (i ++ j) d x.state; after = carried x.state version })
       gives = by_part ∙ step_given z tested (carried s last) version follows i j long l (λ _. sym l_is) x r d f k
 
@@ -136,8 +134,6 @@ module _ (z : Zone) (tested : zone_test z ≡ ok tt) (k : ℕ) (s : State) (last
 
       pub entry_other : t ≡ false → (y : CheckedEntry) → False z k s last c y → Checked y
       entry_other q y h = rw (gives, sym g ∙ q) h
-
-pub ruleset entry_cases = (entry_refused, entry_right, entry_other)
 
 -- ---- the loop over the whole entries
 
@@ -150,15 +146,15 @@ check_yes s (ok a) x e f = λ i. ok (carried (sym e i).state (sym e i).last_vers
 check_yes s (refused m k) x e f = apart m k (sym f ∙ ap (λ y. y.verdict) e)
 
 -- what the rest begins with
-module _ (z : Zone) (at : ℕ) (b : List ℕ) (found : Record) (read : record_length found ≡ entry_length z (take (length b - at) (drop at b))) where
+module _ (z : Zone) (at : ℕ) (b : List ℕ) (found : Rust.Option ℕ) (read : record_length found ≡ entry_length z (take (length b - at) (drop at b))) where
   -- the rest, as the code cuts it out
   rest_is : take (length b - at) (drop at b) ≡ drop at b
   rest_is = ap (λ (y : ℕ). take y (drop at b)) (sym (length-drop at b)) ∙ take-length (drop at b)
 
-  rest_dropped : found ≡ Dropped → entry_length z (drop at b) ≡ none
+  rest_dropped : found ≡ None → entry_length z (drop at b) ≡ none
   rest_dropped h = ap (entry_length z) (sym rest_is) ∙ sym read ∙ ap record_length h
 
-  module _ (m : ℕ) (more : found ≡ Whole m) where
+  module _ (m : ℕ) (more : found ≡ Some m) where
     rest_begins : entry_length z (drop at b) ≡ some m
     rest_begins = ap (entry_length z) (sym rest_is) ∙ sym read ∙ ap record_length more
 
@@ -171,7 +167,7 @@ module _ (z : Zone) (at : ℕ) (b : List ℕ) (found : Record) (read : record_le
 
 module _ (z : Zone) (k : ℕ) (t : State) (last : ℕ) (at : ℕ) (b : List ℕ) (g : BookState) (J : Result (Book.BookState Carried))
     (inv : J ≡ Book.check_entries year_interface z k (carried t last) at (Book.whole_entries year_interface z (drop at b)))
-    (found : Record) (read : record_length found ≡ entry_length z (take (length b - at) (drop at b))) where
+    (found : Rust.Option ℕ) (read : record_length found ≡ entry_length z (take (length b - at) (drop at b))) where
   abbrev Told : Reply → Type 0
   Told r = r ≡ reply_in (Book.answer_from (given_of g) J)
 
@@ -179,11 +175,11 @@ module _ (z : Zone) (k : ℕ) (t : State) (last : ℕ) (at : ℕ) (b : List ℕ)
   TurnsDown r n j = r ≡ reply_in (Book.refused_with n j (given_of g))
 
   -- no whole entry is left
-  pub check_end : found ≡ Dropped → (r : Reply) → r ≡ reply_in (Book.accepted (record { state = carried t last; count = k; used = at })) → Told r
+  pub check_end : found ≡ None → (r : Reply) → r ≡ reply_in (Book.accepted (record { state = carried t last; count = k; used = at })) → Told r
   unfolding Book.check_entries
   check_end h r q = rw (inv, whole_none year_interface year_laws z (drop at b) (rest_dropped z at b found read h)) q
 
-  module _ (m : ℕ) (more : found ≡ Whole m) where
+  module _ (m : ℕ) (more : found ≡ Some m) where
     whole : entry_length z (drop at b) ≡ some m
     whole = rest_begins z at b found read m more
 
@@ -219,31 +215,27 @@ module _ (z : Zone) (k : ℕ) (t : State) (last : ℕ) (at : ℕ) (b : List ℕ)
           let w : Entry ≡ ok (carried x.state x.last_version) = check_yes (carried t last) Entry x r' e in
           rw (inv, opened, lt-ltb k year_interface.limit few, w, n)
 
-pub ruleset loop_cases = (check_end, check_many, check_false)
-
 -- ---- the call
 
-module _ (bytes : List ℕ) (h : Head) (codes : List ℕ) (values : List Float) (e : head_in h codes values ≡ structured_head bytes) (g : BookState) where
+module _ (bytes : List ℕ) (x : Rust.Result ℕ Refusal) (z : Zone) (e : head_read x z ≡ structured_head bytes) (g : BookState) where
   abbrev TakenUp : Reply → Type 0
   TakenUp r = r ≡ reply_in (Book.take_up year_interface (given_of g) bytes)
 
   -- what follows the start-up
   abbrev entries : ReadHead Zone → Carried → Result (Book.BookState Carried)
-  entries x s = Book.check_entries year_interface x.zone 0 s x.length (Book.whole_entries year_interface x.zone (drop x.length bytes))
+  entries h s = Book.check_entries year_interface h.zone 0 s h.length (Book.whole_entries year_interface h.zone (drop h.length bytes))
 
-  pub take_up_head_lem : (r : Reply) (n j : ℕ) → r ≡ reply_in (Book.refused_with n j (given_of g)) → h.verdict ≡ Refused n j → TakenUp r
+  pub take_up_head_lem : (r : Reply) (i : Refusal) → r ≡ reply_in (Book.refused_with (number_of i) (index_of i) (given_of g)) → x ≡ Err i → TakenUp r
   unfolding Book.take_up Book.take_up_res
-  take_up_head_lem r n j q f = rw (head_stops bytes h codes values e entries n j f) q
+  take_up_head_lem r i q f = rw (head_stops bytes x z e entries i f) q
 
-  module _ (f : h.verdict ≡ Accepted) (s : StartUp) (i : s ≡ start_up_reply (init_node_temps standard_coefficients (zone_in h.zone codes values))) where
-    pub take_up_start : (r : Reply) (n j : ℕ) → r ≡ reply_in (Book.refused_with n j (given_of g)) → s.verdict ≡ Refused n j → TakenUp r
+  module _ (n : ℕ) (f : x ≡ Ok n) (y : Rust.Result State Refusal) (a : answered y ≡ init_node_temps standard_coefficients z) where
+    pub take_up_start : (r : Reply) (i : Refusal) → r ≡ reply_in (Book.refused_with (number_of i) (index_of i) (given_of g)) → y ≡ Err i → TakenUp r
     unfolding Book.take_up Book.take_up_res
-    take_up_start r n j q k = rw (head_goes_on bytes h codes values e entries f, starts_not (zone_in h.zone codes values) s i n j k) q
+    take_up_start r i q k = rw (head_goes_on bytes x z e entries n f, starts_not z y a i k) q
 
-    pub take_up_entries : s.verdict ≡ Accepted → (r : Reply)
-        → r ≡ reply_in (Book.answer_from (given_of g) (entries (record { zone = zone_in h.zone codes values; length = h.length }) (carried s.state no_entry_version)))
+    pub take_up_entries : (s : State) → y ≡ Ok s → (r : Reply)
+        → r ≡ reply_in (Book.answer_from (given_of g) (entries (record { zone = z; length = n }) (carried s no_entry_version)))
         → TakenUp r
     unfolding Book.take_up Book.take_up_res
-    take_up_entries k r q = rw (head_goes_on bytes h codes values e entries f, starts (zone_in h.zone codes values) s i k) q
-
-pub ruleset take_up_cases = (take_up_head_lem, take_up_start, take_up_entries)
+    take_up_entries s k r q = rw (head_goes_on bytes x z e entries n f, starts z y a s k) q

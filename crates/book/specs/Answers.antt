@@ -1,6 +1,6 @@
 -- What the functions answer, for what the definitions say: the papers' number and index of a refusal, and the values handed back.
-use Rattle.zone.specs.declared.record.zone_record.Verdict.{Verdict}
-use Rattle.zone.specs.declared.record.zone_record.Verdict.TheVariants.{Accepted, Refused}
+use Rattle.book.specs.declared.verdict.Verdict.{Verdict}
+use Rattle.book.specs.declared.verdict.Verdict.TheVariants.{Accepted, Refused}
 use Rattle.book.specs.Model.Calls as Book
 use Rattle.book.specs.Model.Session.{CodeTypes}
 use Rattle.book.specs.Year.{Carried, carried, year_interface}

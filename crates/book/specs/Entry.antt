@@ -1,4 +1,5 @@
 -- The bytes of an entry (document 01, "Bytes of head and entry", and document 02 (b)).
+use Rattle.std.specs.Prelude.{None, Option, Some, Float}
 use Rattle.std.specs.Prelude.{ℕ, List, [], ◌∷◌, ◌++◌, take}
 use Rattle.zone.specs.Format.Bytes.{bytes_of, float_size}
 use Rattle.zone.specs.Format.Encode.{float_bytes, row_bytes}
@@ -6,8 +7,6 @@ use Rattle.zone.specs.Record.BuildingElement.{node_count}
 use Rattle.zone.specs.declared.record.zone_record.Zone.{Zone}
 use Rattle.zone.specs.declared.calls.state.State.{State}
 use Rattle.zone.specs.declared.calls.state.Demand.{Demand}
-use Rattle.zone.specs.declared.calls.state.AchToTriggerHeating.{AchToTriggerHeating}
-use Rattle.zone.specs.declared.calls.state.AchToTriggerHeating.TheVariants.{Absent, At}
 use Rattle.zone.specs.Format.Layout.{length_size}
 use Rattle.book.specs.Layout.{version_size, following_length}
 
@@ -16,9 +15,9 @@ abbrev pub front_bytes : Zone → (version : ℕ) → List ℕ
 front_bytes z version = bytes_of length_size (following_length z version) ++ bytes_of version_size version
 
 -- "trigger byte 0 or 1, trigger rate (zero bits if 0)"
-abbrev pub trigger_bytes : AchToTriggerHeating → List ℕ
-trigger_bytes Absent = bytes_of 1 0 ++ bytes_of float_size 0
-trigger_bytes (At rate) = bytes_of 1 1 ++ float_bytes rate
+abbrev pub trigger_bytes : Option Float → List ℕ
+trigger_bytes None = bytes_of 1 0 ++ bytes_of float_size 0
+trigger_bytes (Some rate) = bytes_of 1 1 ++ float_bytes rate
 
 -- "heating, cooling, rate", then the trigger
 abbrev pub demand_bytes : Demand → List ℕ

@@ -16,18 +16,17 @@ const NAN_BITS: u64 = 9221120237041090560;
 fn bits_of(x: f64) -> u64
     ensures { result ≡ to_bits binary64 x }
 {
-    if x != x { NAN_BITS } else { f64::to_bits(x) }
+    if x.is_nan() { NAN_BITS } else { x.to_bits() }
 }
 
 // A number into the `count` bytes from `at` on, the highest byte first.
+#[tactic(auto, using(crate::proofs::Laws::Loops::num_more, crate::proofs::Laws::Loops::num_done))]
 pub fn write_be(b: &mut [u8], at: usize, count: usize, n: u64)
     requires { at + count ≤ length b.old }
     ensures { b.new ≡ replace_at at (bytes_of count n) b.old }
 {
     let mut rest = n;
-    let mut k = count;
-    while 0 < k {
-        k -= 1;
+    for k in (0..count).rev() {
         b[at + k] = (rest % 256) as u8;
         rest = rest / 256;
     }
@@ -40,30 +39,23 @@ pub fn write_f64_be(b: &mut [u8], at: usize, x: f64)
     write_be(b, at, FLOAT_SIZE, bits_of(x));
 }
 
-// The first `count` floats of `xs`, one behind the other from `at` on.
-pub fn write_f64s_be(b: &mut [u8], at: usize, xs: &[f64], count: usize)
-    requires { (count ≤ length xs.now) × (at + float_size * count ≤ length b.old) }
-    ensures { b.new ≡ replace_at at (row_bytes (take count xs.now)) b.old }
+// Floats, one behind the other from `at` on.
+#[tactic(auto, using(crate::proofs::Laws::Loops::floats_more, crate::proofs::Laws::Loops::floats_done))]
+pub fn write_f64s_be(b: &mut [u8], at: usize, xs: &[f64])
+    requires { at + float_size * length xs.now ≤ length b.old }
+    ensures { b.new ≡ replace_at at (row_bytes xs.now) b.old }
 {
-    let mut i = 0;
-    let mut p = at;
-    while i < count {
-        write_f64_be(b, p, xs[i]);
-        p += FLOAT_SIZE;
-        i += 1;
+    for (i, x) in xs.iter().enumerate() {
+        write_f64_be(b, at + FLOAT_SIZE * i, *x);
     }
 }
 
-// The first `count` bytes of `src` from `at` on.
-pub fn copy(src: &[u8], count: usize, b: &mut [u8], at: usize)
-    requires { (count ≤ length src.now) × (at + count ≤ length b.old) }
-    ensures { b.new ≡ replace_at at (take count src.now) b.old }
+// Bytes from `at` on.
+pub fn put(src: &[u8], b: &mut [u8], at: usize)
+    requires { at + length src.now ≤ length b.old }
+    ensures { b.new ≡ replace_at at src.now b.old }
 {
-    let mut i = 0;
-    while i < count {
-        b[at + i] = src[i];
-        i += 1;
-    }
+    b[at..at + src.len()].copy_from_slice(src);
 }
 
 // Do bytes begin with others.
@@ -71,12 +63,5 @@ pub fn begins_with(a: &[u8], b: &[u8]) -> bool
     requires { length b.now ≤ length a.now }
     ensures { result ≡ equal_bytes (take (length b.now) a.now) b.now }
 {
-    let mut i = 0;
-    while i < b.len() {
-        if a[i] != b[i] {
-            return false;
-        }
-        i += 1;
-    }
-    true
+    &a[..b.len()] == b
 }

@@ -10,9 +10,10 @@ mod layout;
 mod numbers;
 mod reader;
 mod record;
+mod verdict;
 mod versions;
 
 pub use book::{BookState, Reply, append, begin};
 pub use entries::{ReadBook, read_book, take_up};
 pub use reader::read_entry;
-pub use record::Record;
+pub use verdict::Verdict;

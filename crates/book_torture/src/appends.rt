@@ -1,197 +1,110 @@
 // Appends behind hours of the small book: of versions that no hour has, with limits out of their range, and into little room.
-use crate::bytes::{float_of, part, same_bytes};
-use crate::cuts::{HOURS, ROOM, small_plan};
-use crate::house::{conditions, limits_at};
-use crate::plan::{last_version_of, place_of};
-use crate::stored_limits::{OUTSIDE, value};
-use crate::tally::{Tally, none};
-use crate::year::{is_accepted, nothing, refused_with, same_book_states};
+use crate::hours::limits_at;
+use crate::replies::{Refusal, accepted, is_refused, same_book_states};
+use crate::small_book::{Book, HOURS, PLAN, ROOM};
+use crate::stored_limits::OUTSIDE;
+use crate::tally::Tally;
+use crate::version::Version;
 use book::{BookState, Reply};
-use zone::{Limits, ZoneFront};
+use std::num::f64_from_bits_with_nan;
+use zone::Limits;
+
+// Versions that no hour has; the lowest byte of the last is one.
+const UNKNOWN: [u64; 4] = [0, 4, 255, 259];
 
 // Appends that were refused in one way, or accepted in another.
-#[derive(Clone, Copy)]
+#[derive(Clone, Copy, Default)]
 pub struct Appends {
     pub unknown: Tally,
     pub out_of_range: Tally,
     pub not_looked_at: Tally,
 }
 
-// So many hours of the small book, taken up.
-pub fn taken(whole: &[u8; ROOM], count: usize) -> BookState {
-    let r = book::take_up(nothing(), part(whole, 0, place_of(small_plan(), count)));
-    r.values
-}
-
-// The next hour appended with these limits.
-pub fn append_next(
-    z: ZoneFront,
-    codes: &[u8; 72],
-    values: &[f64; 600],
+// A book of which so many hours are taken up.
+#[derive(Clone, Copy)]
+struct Taken<'a, 'b> {
+    whole: &'a Book<'b>,
     given: BookState,
-    version: u64,
-    limits: Limits,
-    b: &mut [u8; ROOM],
-) -> Reply {
-    let c = conditions(given.count);
-    book::append(z, codes, values, given, &c, version, limits, b)
 }
 
-pub fn same_books(a: &[u8; ROOM], b: &[u8; ROOM]) -> bool {
-    same_bytes(a, b)
-}
+impl Taken<'_, '_> {
+    // The version may be one that no hour has.
+    fn append(&self, version: u64, limits: Limits) -> (Reply, [u8; ROOM]) {
+        self.whole.appended(self.given, version, limits)
+    }
 
-// To a copy it is refused so, and nothing is changed.
-fn is_refused(
-    z: ZoneFront,
-    codes: &[u8; 72],
-    values: &[f64; 600],
-    whole: &[u8; ROOM],
-    given: BookState,
-    version: u64,
-    limits: Limits,
-    number: u64,
-    index: usize,
-) -> bool {
-    let mut b = *whole;
-    let r = append_next(z, codes, values, given, version, limits, &mut b);
-    same_books(&b, whole) && refused_with(r, given, number, index)
-}
+    // It is refused so, and nothing is changed.
+    fn refuses(&self, version: u64, limits: Limits, refusal: Refusal) -> bool {
+        let (reply, b) = self.append(version, limits);
+        b == self.whole.bytes && is_refused(reply, &self.given, refusal)
+    }
 
-// Of a version that no hour has: 18 and the count, before the limits are looked at.
-fn with_unknown(
-    t: Tally,
-    z: ZoneFront,
-    codes: &[u8; 72],
-    values: &[f64; 600],
-    whole: &[u8; ROOM],
-    given: BookState,
-    version: u64,
-) -> Tally {
-    let count = given.count;
-    let limits = Limits {
-        heating: -1.0,
-        cooling: -1.0,
-    };
-    t.counted(is_refused(z, codes, values, whole, given, version, limits, 18, count))
-}
+    // The entry is the one with the usual limits.
+    fn does_not_look_at(&self, limits: Limits, version: Version) -> bool {
+        let (reply, b) = self.append(u64::from(version), limits);
+        let (usual, usual_b) = self.append(u64::from(version), limits_at(self.given.count));
+        let both = accepted(reply).zip(accepted(usual));
+        b == usual_b && both.is_some_and(|(x, y)| same_book_states(&x, &y))
+    }
 
-fn with_unknowns(
-    t: Tally,
-    z: ZoneFront,
-    codes: &[u8; 72],
-    values: &[f64; 600],
-    whole: &[u8; ROOM],
-    given: BookState,
-) -> Tally {
-    let zero = with_unknown(t, z, codes, values, whole, given, 0);
-    let four = with_unknown(zero, z, codes, values, whole, given, 4);
-    let byte = with_unknown(four, z, codes, values, whole, given, 255);
-    // Its lowest byte is a version that hours have.
-    with_unknown(byte, z, codes, values, whole, given, 259)
-}
-
-// Usual limits but for one that lies outside the range.
-fn bad_heating(i: usize, hour: usize) -> Limits {
-    let usual = limits_at(hour);
-    Limits {
-        heating: float_of(value(i)),
-        cooling: usual.cooling,
+    // The usual limits but for one that lies outside the range.
+    fn bad_limits(&self, bits: u64) -> [Limits; 2] {
+        let value = f64_from_bits_with_nan(bits);
+        let usual = limits_at(self.given.count);
+        [
+            Limits {
+                heating: value,
+                ..usual
+            },
+            Limits {
+                cooling: value,
+                ..usual
+            },
+        ]
     }
 }
 
-fn bad_cooling(i: usize, hour: usize) -> Limits {
-    let usual = limits_at(hour);
-    Limits {
-        heating: usual.heating,
-        cooling: float_of(value(i)),
+impl Appends {
+    // Of a version that no hour has: refused before the limits are looked at.
+    fn count_unknown(&mut self, taken: Taken) {
+        let limits = Limits {
+            heating: -1.0,
+            cooling: -1.0,
+        };
+        let refusal = Refusal::FalseEntry(taken.given.count);
+        for version in UNKNOWN {
+            self.unknown.count(taken.refuses(version, limits, refusal));
+        }
     }
-}
 
-// In version 3: refused with 19.
-fn with_bad_limits(
-    t: Tally,
-    z: ZoneFront,
-    codes: &[u8; 72],
-    values: &[f64; 600],
-    whole: &[u8; ROOM],
-    given: BookState,
-) -> Tally {
-    let mut out = t;
-    let hour = given.count;
-    for i in 0..OUTSIDE {
-        let a = bad_heating(i, hour);
-        let heating = is_refused(z, codes, values, whole, given, 3, a, 19, 0);
-        let b = bad_cooling(i, hour);
-        let cooling = is_refused(z, codes, values, whole, given, 3, b, 19, 0);
-        out = out.counted(heating).counted(cooling);
+    // A bad limit is refused in version 3, and in an older one, where that may follow, not looked at.
+    fn count_limits(&mut self, taken: Taken, limits: Limits, last: Version) {
+        self.out_of_range
+            .count(taken.refuses(3, limits, Refusal::LimitOutOfRange));
+        for version in [Version::One, Version::Two] {
+            if last <= version {
+                self.not_looked_at
+                    .count(taken.does_not_look_at(limits, version));
+            }
+        }
     }
-    out
-}
-
-// In an older version, where it may follow: the entry is the one with the usual limits.
-fn not_looked_at(
-    z: ZoneFront,
-    codes: &[u8; 72],
-    values: &[f64; 600],
-    whole: &[u8; ROOM],
-    given: BookState,
-    version: u64,
-    limits: Limits,
-) -> bool {
-    let mut a = *whole;
-    let mut b = *whole;
-    let usual = limits_at(given.count);
-    let r = append_next(z, codes, values, given, version, limits, &mut a);
-    let s = append_next(z, codes, values, given, version, usual, &mut b);
-    let same = same_book_states(r.values, s.values);
-    is_accepted(r) && is_accepted(s) && same && same_books(&a, &b)
-}
-
-fn with_older(
-    t: Tally,
-    z: ZoneFront,
-    codes: &[u8; 72],
-    values: &[f64; 600],
-    whole: &[u8; ROOM],
-    given: BookState,
-    version: u64,
-) -> Tally {
-    let hour = given.count;
-    if version < last_version_of(small_plan(), hour) {
-        return t;
-    }
-    let mut out = t;
-    for i in 0..OUTSIDE {
-        let a = bad_heating(i, hour);
-        let heating = not_looked_at(z, codes, values, whole, given, version, a);
-        let b = bad_cooling(i, hour);
-        let cooling = not_looked_at(z, codes, values, whole, given, version, b);
-        out = out.counted(heating).counted(cooling);
-    }
-    out
 }
 
 // Behind each number of hours of the small book.
-pub fn check_appends(
-    z: ZoneFront,
-    codes: &[u8; 72],
-    values: &[f64; 600],
-    whole: &[u8; ROOM],
-) -> Appends {
-    let mut unknown = none();
-    let mut bad = none();
-    let mut older = none();
-    for count in 0..HOURS + 1 {
-        let given = taken(whole, count);
-        unknown = with_unknowns(unknown, z, codes, values, whole, given);
-        bad = with_bad_limits(bad, z, codes, values, whole, given);
-        older = with_older(older, z, codes, values, whole, given, 1);
-        older = with_older(older, z, codes, values, whole, given, 2);
+pub fn check_appends(whole: &Book) -> Appends {
+    let mut appends = Appends::default();
+    for count in 0..=HOURS {
+        let taken = Taken {
+            whole,
+            given: whole.taken(count),
+        };
+        let last = PLAN.entries(count).last_version;
+        appends.count_unknown(taken);
+        for bits in OUTSIDE {
+            for limits in taken.bad_limits(bits) {
+                appends.count_limits(taken, limits, last);
+            }
+        }
     }
-    Appends {
-        unknown,
-        out_of_range: bad,
-        not_looked_at: older,
-    }
+    appends
 }

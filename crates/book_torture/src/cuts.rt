@@ -1,177 +1,81 @@
 // A small book cut at a byte, taken up and continued, against a book that was never cut.
-use crate::bytes::{copy, part, same_bytes};
-use crate::house::{conditions, limits_at};
-use crate::layout::{ENTRY, HEAD, LIMITS, LONG_ENTRY};
-use crate::plan::{Plan, entries_of, last_version_of, place_of, version_at};
+ghost use Rattle.std.specs.Prelude.{◌^◌, ◌<◌, ◌≤◌};
+ghost use Rattle.std.specs.Iterator.{IsFinite};
+
+use crate::fill::append_hours;
+use crate::layout::HEAD;
+use crate::replies::{
+    Refusal, has_entries, is_refused, is_take_up_refused, same_book_states, taken_up,
+};
+use crate::small_book::{Book, CUT_OFF, HOURS, ROOM};
 use crate::tally::Tally;
-use crate::year::{append_hours, is_accepted, nothing, refused_with, same_book_states};
-use book::{BookState, Reply};
-use std::num::{wrapping_add_u64, wrapping_add_usize};
-use zone::ZoneFront;
+use crate::version::Version;
+use big_endian::{part, put_bytes};
+use book::BookState;
+use std::iter::StepBy;
+use std::ops::Range;
 
-// Hours of the small book, and the first of version 2 and of version 3.
-pub const HOURS: usize = 40;
-
-pub const TWO: usize = 14;
-
-pub const THREE: usize = 27;
-
-// The small book's bytes, and room for as many hours that all have version 3.
-pub const SMALL: usize = HEAD + ENTRY * HOURS + LIMITS * (HOURS - THREE);
-
-pub const ROOM: usize = HEAD + LONG_ENTRY * HOURS;
-
-pub fn small_plan() -> Plan {
-    Plan {
-        two: TWO,
-        three: THREE,
-    }
-}
-
-// What stands behind a cut, and behind a book.
-pub const CUT_OFF: u8 = 170;
-
-// `count` places, `step` bytes apart.
-#[derive(Clone, Copy)]
-pub struct Places {
-    pub from: usize,
-    pub step: usize,
-    pub count: usize,
-}
-
-// Tally that are spread over a book.
+// Cuts that are spread over a book.
 const SPREAD: usize = 2000;
 
-// At every byte of a part.
-pub fn each_byte(from: usize, count: usize) -> Places {
-    Places {
-        from,
-        step: 1,
-        count,
-    }
-}
-
 // Over so many bytes behind the head.
-pub fn spread(bytes: usize) -> Places {
-    Places {
-        from: HEAD,
-        step: bytes / SPREAD,
-        count: SPREAD,
+pub fn spread(bytes: usize) -> StepBy<Range<usize>>
+    requires reaches { SPREAD ≤ bytes }
+    requires fits { bytes < 2 ^ 63 }
+{
+    let step = bytes / SPREAD;
+    (HEAD..HEAD + SPREAD * step).step_by(step)
+}
+
+// The small book `whole` is cut and continued in the versions of `wanted`, which it becomes; but an hour that would pass back to an
+// older version is refused.
+#[derive(Clone, Copy)]
+pub struct Continuation<'a> {
+    pub whole: &'a Book<'a>,
+    pub wanted: &'a Book<'a>,
+}
+
+impl Continuation<'_> {
+    pub fn tally_at<I: Iterator<Item = usize> + Drop>(&self, cuts: I) -> Tally
+        requires can { I.can_next cuts }
+        requires ends { IsFinite (I.remaining cuts) }
+    {
+        Tally::of(cuts, |cut| self.is_right_at(cut))
     }
-}
 
-// Within the head nothing is taken up: the bytes end early.
-fn cut_in_head(whole: &[u8; ROOM], cut: usize) -> bool {
-    let r = book::take_up(nothing(), part(whole, 0, cut));
-    refused_with(r, nothing(), 1, 0)
-}
-
-// Taken up from the small book with so many entries.
-fn taken_right(r: Reply, count: usize) -> bool {
-    let taken = r.values;
-    let plan = small_plan();
-    let counted = taken.count == count && taken.used == place_of(plan, count);
-    is_accepted(r) && counted && taken.last_version == last_version_of(plan, count)
-}
-
-// An entry of a newer version is left: this one is refused with 18 and the count, and nothing is changed.
-fn refused_behind(
-    z: ZoneFront,
-    codes: &[u8; 72],
-    values: &[f64; 600],
-    taken: BookState,
-    version: u64,
-    b: &mut [u8; ROOM],
-) -> bool {
-    let count = taken.count;
-    let c = conditions(count);
-    let limits = limits_at(count);
-    let before = *b;
-    let r = book::append(z, codes, values, taken, &c, version, limits, b);
-    same_bytes(b, &before) && refused_with(r, taken, 18, count)
-}
-
-// Filled to the end by a plan: the wanted book, which ends so, and nothing behind it.
-fn filled_to_end(
-    z: ZoneFront,
-    codes: &[u8; 72],
-    values: &[f64; 600],
-    wanted: &[u8; ROOM],
-    end: BookState,
-    plan: Plan,
-    taken: BookState,
-    b: &mut [u8; ROOM],
-) -> bool {
-    let filled = append_hours(z, codes, values, taken, taken.count, HOURS, plan, b);
-    let same = same_bytes(b, wanted);
-    let ended = same_book_states(filled.values, end);
-    filled.wrong == 0 && same && ended
-}
-
-fn continued(
-    z: ZoneFront,
-    codes: &[u8; 72],
-    values: &[f64; 600],
-    wanted: &[u8; ROOM],
-    end: BookState,
-    plan: Plan,
-    cut: usize,
-    b: &mut [u8; ROOM],
-) -> bool {
-    let r = book::take_up(nothing(), part(b, 0, cut));
-    let count = entries_of(small_plan(), cut);
-    if !taken_right(r, count) {
-        return false;
-    }
-    let taken = r.values;
-    let version = version_at(plan, count);
-    if version < taken.last_version {
-        return refused_behind(z, codes, values, taken, version, b);
-    }
-    filled_to_end(z, codes, values, wanted, end, plan, taken, b)
-}
-
-fn cut_at(
-    z: ZoneFront,
-    codes: &[u8; 72],
-    values: &[f64; 600],
-    whole: &[u8; ROOM],
-    wanted: &[u8; ROOM],
-    end: BookState,
-    plan: Plan,
-    cut: usize,
-) -> bool {
-    if cut < HEAD {
-        return cut_in_head(whole, cut);
-    }
-    let mut b = [CUT_OFF; ROOM];
-    copy(whole, &mut b, cut);
-    continued(z, codes, values, wanted, end, plan, cut, &mut b)
-}
-
-// The small book `whole`, cut at each of the places and continued by a plan. It becomes `wanted`, whose last append handed back
-// `end`; but an hour that would pass back to an older version is refused.
-pub fn check_cuts(
-    places: Places,
-    z: ZoneFront,
-    codes: &[u8; 72],
-    values: &[f64; 600],
-    whole: &[u8; ROOM],
-    wanted: &[u8; ROOM],
-    end: BookState,
-    plan: Plan,
-) -> Tally {
-    let count = places.count;
-    let mut right: u64 = 0;
-    let mut cut = places.from;
-    for _ in 0..count {
-        if cut_at(z, codes, values, whole, wanted, end, plan, cut) {
-            right = wrapping_add_u64(right, 1);
+    fn is_right_at(&self, cut: usize) -> bool {
+        // Within the head nothing is taken up.
+        if cut < HEAD {
+            return is_take_up_refused(part(&self.whole.bytes, 0, cut), Refusal::EndsEarly);
         }
-        cut = wrapping_add_usize(cut, places.step);
+        let mut b = [CUT_OFF; ROOM];
+        put_bytes(&mut b, 0, part(&self.whole.bytes, 0, cut));
+        let entries = self.whole.plan.entries(self.whole.plan.whole_before(cut));
+        taken_up(part(&b, 0, cut))
+            .filter(|taken| has_entries(taken, entries))
+            .is_some_and(|taken| self.is_continued(taken, &mut b))
     }
-    Tally {
-        all: count as u64,
-        right,
+
+    fn is_continued(&self, taken: BookState, b: &mut [u8; ROOM]) -> bool {
+        let version = self.wanted.plan.version_at(taken.count);
+        if u64::from(version) < taken.last_version {
+            self.is_refused_behind(taken, version, b)
+        } else {
+            self.is_filled_to_end(taken, b)
+        }
+    }
+
+    // An entry of a newer version is left: this one is refused, and nothing is changed.
+    fn is_refused_behind(&self, taken: BookState, version: Version, b: &mut [u8; ROOM]) -> bool {
+        let before = *b;
+        let reply = self.whole.house.append(taken, u64::from(version), b);
+        *b == before && is_refused(reply, &taken, Refusal::FalseEntry(taken.count))
+    }
+
+    // The wanted book, which ends so, and nothing behind it.
+    fn is_filled_to_end(&self, taken: BookState, b: &mut [u8; ROOM]) -> bool {
+        let end = append_hours(self.whole.house, taken, HOURS, self.wanted.plan, b);
+        let same = *b == self.wanted.bytes;
+        same && end.is_some_and(|end| same_book_states(&end, &self.wanted.end))
     }
 }

@@ -1,214 +1,104 @@
 // The power that the hours of a book deliver: how many of them a limit holds, and whether the update of the temperatures with that
 // power gives those that stand in the entry.
-use crate::bytes::{part, read_f64_be};
-use crate::layout::{
-    CONDITIONS, CONDITIONS_PLACE, COOLING, HEAD, RATE, entry_length, results_place,
-};
-use crate::plan::{Plan, version_at};
-use crate::walk::{limits_in, state_at};
-use crate::year::same_states;
-use std::num::{wrapping_add_u64, wrapping_add_usize};
-use zone::{Limits, State, UpdateAnswer, ZoneFront};
+use crate::entry::{Entry, Holding};
+use crate::house::House;
+use crate::plan::Plan;
+use crate::replies::same_states;
+use crate::tally::{Tally, count_one};
+use crate::version::Version;
+use crate::walk::state_after;
+use std::fmt;
+use zone::State;
 
-// Where some of the conditions stand.
-const HOUR_LENGTH: usize = CONDITIONS_PLACE;
+// Hours whose power one of the limits holds, and the first of them with a limit above 0.
+#[derive(Clone, Copy, Default)]
+pub struct HeldHours {
+    count: u64,
+    pub first: Option<usize>,
+}
 
-const HEATING_FRACTION: usize = CONDITIONS_PLACE + 4 * 8;
-
-const COOLING_FRACTION: usize = CONDITIONS_PLACE + 5 * 8;
-
-const CONVECTIVE: usize = CONDITIONS_PLACE + 10 * 8;
-
-const RADIATIVE: usize = CONDITIONS_PLACE + 11 * 8;
-
-// Hours whose power a limit holds, those of version 3 that none holds, and the first of each with a limit above 0. Hours that an
-// update can be asked for, and those where it gives the entry's temperatures.
-#[derive(Clone, Copy)]
+// Of each limit, and how many hours of version 3 there are that none holds. Hours that an update can be asked for, and those where
+// it gives the entry's temperatures.
+#[derive(Clone, Copy, Default)]
 pub struct Held {
-    pub heating: u64,
-    pub cooling: u64,
-    pub neither: u64,
-    pub first_heating: usize,
-    pub first_cooling: usize,
-    pub updates: u64,
-    pub right: u64,
+    pub heating: HeldHours,
+    pub cooling: HeldHours,
+    neither: u64,
+    updates: Tally,
 }
 
-// No hour yet.
-pub const NONE: usize = 10000;
-
-// W, as the demand asks for it.
-fn power_asked(entry: &[u8], version: u64) -> f64 {
-    let at = results_place(version);
-    let heating = read_f64_be(entry, at);
-    let cooling = read_f64_be(entry, wrapping_add_usize(at, COOLING));
-    (heating + cooling) * 1000.0 / read_f64_be(entry, HOUR_LENGTH)
-}
-
-fn heating_held(limits: Limits, power: f64) -> bool {
-    power > limits.heating
-}
-
-fn cooling_held(limits: Limits, power: f64) -> bool {
-    power < -limits.cooling
-}
-
-// W, as the plant delivers it.
-fn power_delivered(entry: &[u8], version: u64) -> f64 {
-    let asked = power_asked(entry, version);
-    let limits = limits_in(entry);
-    if version != 3 {
-        asked
-    } else if heating_held(limits, asked) {
-        limits.heating
-    } else if cooling_held(limits, asked) {
-        -limits.cooling
-    } else {
-        asked
-    }
-}
-
-fn fraction_of(entry: &[u8], version: u64, power: f64) -> f64 {
-    if version != 1 && power < 0.0 {
-        read_f64_be(entry, COOLING_FRACTION)
-    } else {
-        read_f64_be(entry, HEATING_FRACTION)
-    }
-}
-
-// Of a state, with gains of which a share is convective, and a rate of ventilation: the temperatures.
-fn update_gives(
-    z: ZoneFront,
-    codes: &[u8; 72],
-    values: &[f64; 600],
-    before: State,
-    entry: &[u8],
-    gains: f64,
-    share: f64,
-    rate: f64,
-    after: State,
-) -> bool {
-    let conditions = part(entry, CONDITIONS_PLACE, CONDITIONS);
-    let x = before.update_temperatures(z, codes, values, conditions, gains, share, rate);
-    let answer = x.answer;
-    match answer {
-        UpdateAnswer::Refused {
-            number: _,
-            index: _,
-        } => false,
-        UpdateAnswer::Accepted(_) => same_states(x.state, after),
+impl HeldHours {
+    fn add(&mut self, hour: usize, limit: f64) {
+        count_one(&mut self.count);
+        if self.first.is_none() && 0.0 < limit {
+            self.first = Some(hour);
+        }
     }
 }
 
 impl Held {
-    fn first_of_heating(mut self, hour: usize, limit: f64) -> Held {
-        if self.first_heating == NONE && 0.0 < limit {
-            self.first_heating = hour;
+    fn count_limits(&mut self, entry: Entry, hour: usize) {
+        match entry.holding() {
+            Some(Holding::Heating(limit)) => self.heating.add(hour, limit),
+            Some(Holding::Cooling(limit)) => self.cooling.add(hour, limit),
+            None if entry.version == Version::Three => count_one(&mut self.neither),
+            None => {}
         }
-        self
     }
 
-    fn first_of_cooling(mut self, hour: usize, limit: f64) -> Held {
-        if self.first_cooling == NONE && 0.0 < limit {
-            self.first_cooling = hour;
+    // An update takes a share from 0 to 1, and little cooling beside other gains has a higher one.
+    fn count_update(&mut self, house: &House, before: &State, entry: Entry, after: &State) {
+        let power = entry.power_delivered();
+        let gains = entry.convective() + entry.radiative() + power;
+        let share = (entry.convective() + power * entry.fraction_of(power)) / gains;
+        if 0.0 <= share && share <= 1.0 {
+            let updated = house.update_temperatures(before, entry, gains, share);
+            self.updates
+                .count(updated.is_some_and(|state| same_states(&state, after)));
         }
-        self
     }
 
-    fn with_limits(mut self, hour: usize, limits: Limits, power: f64) -> Held {
-        if heating_held(limits, power) {
-            self.heating = wrapping_add_u64(self.heating, 1);
-            return self.first_of_heating(hour, limits.heating);
-        }
-        if cooling_held(limits, power) {
-            self.cooling = wrapping_add_u64(self.cooling, 1);
-            return self.first_of_cooling(hour, limits.cooling);
-        }
-        self.neither = wrapping_add_u64(self.neither, 1);
-        self
+    fn count_hour(&mut self, house: &House, b: &[u8], plan: Plan, hour: usize) {
+        let Some(entry) = Entry::of_hour(b, plan, hour) else {
+            return self.updates.count(false);
+        };
+        let before = plan.entries(hour);
+        let after = state_after(house, b, before.followed_by(entry.version));
+        self.count_update(house, &state_after(house, b, before), entry, &after);
+        self.count_limits(entry, hour);
     }
-
-    fn with_update(mut self, right: bool) -> Held {
-        self.updates = wrapping_add_u64(self.updates, 1);
-        if right {
-            self.right = wrapping_add_u64(self.right, 1);
-        }
-        self
-    }
-}
-
-// An update takes a share from 0 to 1, and little cooling beside other gains has a higher one.
-fn with_share(
-    t: Held,
-    z: ZoneFront,
-    codes: &[u8; 72],
-    values: &[f64; 600],
-    before: State,
-    entry: &[u8],
-    version: u64,
-    after: State,
-) -> Held {
-    let power = power_delivered(entry, version);
-    let convective = read_f64_be(entry, CONVECTIVE);
-    let gains = convective + read_f64_be(entry, RADIATIVE) + power;
-    let share = (convective + power * fraction_of(entry, version, power)) / gains;
-    let rate = read_f64_be(entry, wrapping_add_usize(results_place(version), RATE));
-    if 0.0 <= share && share <= 1.0 {
-        let right = update_gives(z, codes, values, before, entry, gains, share, rate, after);
-        return t.with_update(right);
-    }
-    t
-}
-
-// The hour whose entry begins here.
-fn with_hour(
-    t: Held,
-    z: ZoneFront,
-    codes: &[u8; 72],
-    values: &[f64; 600],
-    start: State,
-    b: &[u8],
-    at: usize,
-    hour: usize,
-    version: u64,
-) -> Held {
-    let length = entry_length(version);
-    let entry = part(b, at, length);
-    let before = state_at(start, b, at, hour);
-    let end = wrapping_add_usize(at, length);
-    let after = state_at(start, b, end, wrapping_add_usize(hour, 1));
-    let out = with_share(t, z, codes, values, before, entry, version, after);
-    if version != 3 {
-        return out;
-    }
-    out.with_limits(hour, limits_in(entry), power_asked(entry, version))
 }
 
 // So many hours of a book, in the versions of a plan.
-pub fn check_held(
-    z: ZoneFront,
-    codes: &[u8; 72],
-    values: &[f64; 600],
-    b: &[u8],
-    plan: Plan,
-    hours: usize,
-) -> Held {
-    let mut t = Held {
-        heating: 0,
-        cooling: 0,
-        neither: 0,
-        first_heating: NONE,
-        first_cooling: NONE,
-        updates: 0,
-        right: 0,
-    };
-    let s = zone::init_node_temps(z, codes, values);
-    let start = s.state;
-    let mut at = HEAD;
+pub fn check_held(house: &House, b: &[u8], plan: Plan, hours: usize) -> Held {
+    let mut held = Held::default();
     for hour in 0..hours {
-        let version = version_at(plan, hour);
-        t = with_hour(t, z, codes, values, start, b, at, hour, version);
-        at = wrapping_add_usize(at, entry_length(version));
+        held.count_hour(house, b, plan, hour);
     }
-    t
+    held
+}
+
+impl fmt::Display for Held {
+    fn fmt<W: fmt::Write>(&self, f: &mut fmt::Formatter<W>) -> fmt::Result {
+        writeln!(
+            f,
+            "  hours in which the heating limit holds: {}",
+            self.heating.count
+        )?;
+        writeln!(
+            f,
+            "  hours in which the cooling limit holds: {}",
+            self.cooling.count
+        )?;
+        writeln!(
+            f,
+            "  hours of version 3 in which neither does: {}",
+            self.neither
+        )?;
+        write!(
+            f,
+            "temperatures by an update with the delivered power, where it takes their share: {}",
+            self.updates
+        )
+    }
 }

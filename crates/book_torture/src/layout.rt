@@ -45,21 +45,3 @@ pub const LONG_ENTRY: usize = ENTRY + LIMITS;
 
 // The entries that a book may have.
 pub const YEAR: usize = 8784;
-
-// All bytes of an entry of this version; 0 where no hour has it.
-pub fn entry_length(version: u64) -> usize {
-    match version {
-        1 | 2 => ENTRY,
-        3 => LONG_ENTRY,
-        _ => 0,
-    }
-}
-
-// Where the results of an entry of this version begin.
-pub fn results_place(version: u64) -> usize {
-    if version == 3 {
-        LIMITS_PLACE + LIMITS
-    } else {
-        LIMITS_PLACE
-    }
-}

@@ -5,36 +5,45 @@
 #![tactic(auto)]
 
 mod appends;
-mod bytes;
 mod cuts;
 mod damage;
+mod entry;
 mod expected;
+mod fill;
 mod follows;
 mod full;
 mod full_changes;
 mod full_hours;
 mod full_questions;
 mod held;
+mod hours;
 mod house;
 mod layout;
 mod passes;
 mod plan;
-mod print;
 mod questions;
+mod replies;
 mod rests;
 mod rooms;
 mod small;
+mod small_book;
 mod small_changes;
 mod small_questions;
 mod stored_limits;
 mod tally;
+mod version;
 mod versions;
 mod walk;
 mod year;
 
+use house::House;
 use std::io;
+use tally::Mark;
 
 fn main(rt: HostRuntime) -> io::Result<()> {
-    small::print_small(&rt)?;
-    full::print_year(&rt)
+    let Ok(house) = House::read(&house::head()) else {
+        return println!(rt; "the head of the house: {}", Mark(false));
+    };
+    small::print_small(&rt, &house)?;
+    full::print_year(&rt, rt.alloc(), &house)
 }

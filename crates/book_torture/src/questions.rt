@@ -1,161 +1,109 @@
 // The three questions over a book (document 02 (c)) against a plain walk over its hours: their temperatures are read from the
 // bytes that end each entry, and made operative by the call on a state.
-use crate::bytes::float_in;
-use crate::plan::{Plan, place_of};
-use crate::walk::state_at;
-use std::num::{wrapping_add_u64, wrapping_add_usize};
+use crate::house::House;
+use crate::plan::Plan;
+use crate::replies::Refusal;
+use crate::walk::state_after;
+use std::cmp::OrderedFloat;
 use tools::{HourReply, HoursReply};
-use zone::{OperativeReply, State, ZoneFront};
-
-// What stands for no hour, more than any hour.
-const NONE: u64 = 4294967295;
-
-// A temperature that no hour has and no question asks for.
-const NOWHERE: f64 = 1e9;
 
 // The value that is to be exceeded, or come near to, and the ends of a band.
 #[derive(Clone, Copy)]
 pub struct Question {
-    pub value: f64,
-    pub lower: f64,
-    pub upper: f64,
+    value: f64,
+    lower: f64,
+    upper: f64,
 }
 
-// What the hours so far give, and the least distance from the value.
-#[derive(Clone, Copy)]
-struct Found {
-    above: u64,
-    within: u64,
-    nearest: u64,
-    least: f64,
+// The first hour above the value, if any, the number of hours within the band, and the hour nearest to the value.
+#[derive(Clone, Copy, PartialEq, Eq)]
+struct Answers {
+    above: Result<Option<usize>, Refusal>,
+    within: Result<usize, Refusal>,
+    nearest: Result<Option<usize>, Refusal>,
 }
 
-fn operative(z: ZoneFront, codes: &[u8; 72], values: &[f64; 600], s: State) -> f64 {
-    let answer = s.temp_operative(z, codes, values);
-    match answer {
-        OperativeReply::Refused {
-            number: _,
-            index: _,
-        } => NOWHERE,
-        OperativeReply::Accepted(t) => t,
+// The operative temperatures of a book: first start-up's, then the one after each hour.
+pub fn temperatures<const N: usize>(house: &House, b: &[u8], plan: Plan) -> Option<[f64; N]> {
+    let mut temperatures = [0.0; N];
+    for (count, temperature) in temperatures.iter_mut().enumerate() {
+        *temperature = house.temp_operative(&state_after(house, b, plan.entries(count)))?;
+    }
+    Some(temperatures)
+}
+
+fn hour_of(reply: HourReply) -> Result<Option<usize>, Refusal> {
+    match reply {
+        HourReply::Hour(hour) => Ok(Some(hour)),
+        HourReply::NoHour => Ok(None),
+        HourReply::Refused { number, index } => Err(Refusal::new(number, index)),
     }
 }
 
-fn put_float(xs: &mut [f64], at: usize, x: f64) {
-    if at < xs.len() {
-        xs[at] = x;
+fn hours_of(reply: HoursReply) -> Result<usize, Refusal> {
+    match reply {
+        HoursReply::Hours(hours) => Ok(hours),
+        HoursReply::Refused { number, index } => Err(Refusal::new(number, index)),
     }
 }
 
-// So many operative temperatures of a book: first start-up's, then the one after each hour.
-pub fn put_temperatures(
-    z: ZoneFront,
-    codes: &[u8; 72],
-    values: &[f64; 600],
-    b: &[u8],
-    plan: Plan,
-    count: usize,
-    out: &mut [f64],
-) {
-    let s = zone::init_node_temps(z, codes, values);
-    let start = s.state;
-    for i in 0..count {
-        let state = state_at(start, b, place_of(plan, i), i);
-        put_float(out, i, operative(z, codes, values, state));
-    }
-}
-
-fn distance(a: f64, b: f64) -> f64 {
-    if a < b { b - a } else { a - b }
-}
-
-impl Found {
-    fn past(mut self, hour: usize, before: f64, after: f64, q: Question) -> Found {
-        let far = distance(after, q.value);
-        if self.above == NONE && before <= q.value && q.value < after {
-            self.above = hour as u64;
+impl Question {
+    // By two temperatures of a book: the value is one of them, or lies halfway between them.
+    pub fn by(a: f64, b: f64, between: bool) -> Question {
+        Question {
+            value: if between { (a + b) / 2.0 } else { a },
+            lower: a.min(b),
+            upper: a.max(b),
         }
-        if q.lower <= after && after <= q.upper {
-            self.within = wrapping_add_u64(self.within, 1);
+    }
+
+    fn answers(self, bytes: &[u8]) -> Answers {
+        Answers {
+            above: hour_of(tools::first_above(bytes, self.value)),
+            within: hours_of(tools::hours_within(bytes, self.lower, self.upper)),
+            nearest: hour_of(tools::nearest_hour(bytes, self.value)),
         }
-        if self.nearest == NONE || far < self.least {
-            self.nearest = hour as u64;
-            self.least = far;
-        }
-        self
     }
-}
 
-// So many hours of a book with these temperatures.
-fn walked(temperatures: &[f64], hours: usize, q: Question) -> Found {
-    let mut found = Found {
-        above: NONE,
-        within: 0,
-        nearest: NONE,
-        least: 0.0,
-    };
-    for hour in 0..hours {
-        let before = float_in(temperatures, hour);
-        let after = float_in(temperatures, wrapping_add_usize(hour, 1));
-        found = found.past(hour, before, after, q);
-    }
-    found
-}
-
-// A refusal in one number, beside which no hour stands.
-fn refused(number: u64, index: u64) -> u64 {
-    number << 32 | index
-}
-
-fn of_hour(r: HourReply) -> u64 {
-    match r {
-        HourReply::Hour(hour) => hour as u64,
-        HourReply::NoHour => NONE,
-        HourReply::Refused { number, index } => refused(number as u64, index as u64),
-    }
-}
-
-fn of_hours(r: HoursReply) -> u64 {
-    match r {
-        HoursReply::Hours(hours) => hours as u64,
-        HoursReply::Refused { number, index } => refused(number as u64, index as u64),
-    }
-}
-
-fn are_answers(bytes: &[u8], q: Question, above: u64, within: u64, nearest: u64) -> bool {
-    let first = of_hour(tools::first_above(bytes, q.value));
-    let count = of_hours(tools::hours_within(bytes, q.lower, q.upper));
-    let near = of_hour(tools::nearest_hour(bytes, q.value));
-    first == above && count == within && near == nearest
-}
-
-// Bytes of which so many hours are taken up.
-pub fn answered_as_walked(bytes: &[u8], temperatures: &[f64], hours: usize, q: Question) -> bool {
-    let found = walked(temperatures, hours, q);
-    are_answers(bytes, q, found.above, found.within, found.nearest)
-}
-
-// Bytes that end within the head.
-pub fn refused_as_short(bytes: &[u8], q: Question) -> bool {
-    let short = refused(1, 0);
-    are_answers(bytes, q, short, short, short)
-}
-
-// A question by two temperatures of a book: the value is one of them, or lies halfway between them.
-pub fn question_by(temperatures: &[f64], i: usize, j: usize, between: bool) -> Question {
-    let a = float_in(temperatures, i);
-    let b = float_in(temperatures, j);
-    let value = if between { (a + b) / 2.0 } else { a };
-    if a < b {
-        return Question {
+    // Of the hours behind start-up's temperature.
+    fn walked(self, temperatures: &[f64]) -> Answers {
+        let Question {
             value,
-            lower: a,
-            upper: b,
-        };
+            lower,
+            upper,
+        } = self;
+        let hours = temperatures.get(1..).unwrap_or(&[]);
+        let above = temperatures
+            .iter()
+            .zip(hours)
+            .position(|(before, after)| *before <= value && value < *after);
+        let within = hours
+            .iter()
+            .filter(|t| lower <= **t && **t <= upper)
+            .count();
+        let nearest = hours
+            .iter()
+            .enumerate()
+            .min_by_key(|(_, t)| OrderedFloat((**t - value).abs()));
+        Answers {
+            above: Ok(above),
+            within: Ok(within),
+            nearest: Ok(nearest.map(|(hour, _)| hour)),
+        }
     }
-    Question {
-        value,
-        lower: b,
-        upper: a,
+
+    // Of bytes whose hours have these temperatures, behind start-up's.
+    pub fn is_answered_as_walked(self, bytes: &[u8], temperatures: &[f64]) -> bool {
+        self.answers(bytes) == self.walked(temperatures)
+    }
+
+    // Of bytes that end within the head.
+    pub fn is_refused_as_short(self, bytes: &[u8]) -> bool {
+        let short = Answers {
+            above: Err(Refusal::EndsEarly),
+            within: Err(Refusal::EndsEarly),
+            nearest: Err(Refusal::EndsEarly),
+        };
+        self.answers(bytes) == short
     }
 }

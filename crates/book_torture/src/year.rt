@@ -1,158 +1,117 @@
-// A book begun and filled hour by hour.
-use crate::bytes::bits_of;
-use crate::house::{conditions, limits_at};
-use crate::plan::{Plan, version_at};
+// The book of a whole year: checked as it is, cut, damaged, and with bytes behind it.
+use crate::fill::{append_hours, begin_and_append};
+use crate::house::House;
+use crate::layout::{ENTRY, HEAD, LIMITS, LONG_ENTRY, VERSION_PLACE, YEAR};
+use crate::plan::Plan;
+use crate::replies::{
+    Refusal, accepted, has_entries, is_refused, is_take_up_refused, made_up, same_book_states,
+    taken_up,
+};
+use crate::small_book::CUT_OFF;
+use big_endian::{byte_at, part, put_byte};
 use book::{BookState, Reply};
-use std::num::wrapping_add_u64;
-use zone::{State, Verdict, ZoneFront};
+use std::alloc::{AllocError, Global};
 
-// What no call on these books hands back, so that what was given can be told from what was found.
-const MADE_UP_VERSION: u64 = 77;
+// The first hours of version 2 and of version 3: a third of the year each.
+pub const TWO: usize = 2928;
 
-const MADE_UP_COUNT: usize = 9999;
+pub const THREE: usize = 5856;
 
-const MADE_UP_USED: usize = 79;
+pub const PLAN: Plan = Plan {
+    two: TWO,
+    three: THREE,
+};
 
-// The values after some appends, and how many of them were refused or handed back another version than the one named.
-#[derive(Clone, Copy)]
-pub struct Filled {
-    pub values: BookState,
-    pub wrong: u64,
+// Head and 8,784 entries, and with as many bytes behind them as no entry has.
+pub const USED: usize = HEAD + ENTRY * YEAR + LIMITS * (YEAR - THREE);
+
+pub const MOST: usize = LONG_ENTRY + 1;
+
+const WIDE: usize = USED + MOST;
+
+// The bytes, which each check leaves as it found them, a copy of them, and what the last append handed back.
+#[derive(Drop)]
+pub struct Year<'a> {
+    pub house: &'a House,
+    pub bytes: Vec<u8>,
+    whole: Vec<u8>,
+    pub end: BookState,
 }
 
-pub fn nothing() -> BookState {
-    let state = State {
-        nodes: 0,
-        temps: [0.0; 121],
-    };
-    BookState {
-        state,
-        count: MADE_UP_COUNT,
-        used: MADE_UP_USED,
-        last_version: MADE_UP_VERSION,
+fn fill_from(b: &mut [u8], at: usize, x: u8) {
+    if let Some(rest) = b.get_mut(at..) {
+        rest.fill(x);
     }
 }
 
-pub fn number_of(v: Verdict) -> u64 {
-    match v {
-        Verdict::Refused { number, index: _ } => number as u64,
-        Verdict::Accepted => 0,
+impl<'a> Year<'a> {
+    // None where an hour is refused.
+    pub fn new(alloc: Global, house: &'a House) -> Result<Option<Year<'a>>, AllocError> {
+        let mut bytes = vec![in alloc; 0; WIDE]?;
+        let Some(end) = begin_and_append(house, YEAR, PLAN, &mut bytes) else {
+            return Ok(None);
+        };
+        let whole = bytes.clone()?;
+        Ok(Some(Year {
+            house,
+            bytes,
+            whole,
+            end,
+        }))
     }
-}
 
-pub fn index_of(v: Verdict) -> usize {
-    match v {
-        Verdict::Refused { number: _, index } => index,
-        Verdict::Accepted => 0,
+    pub fn is_whole(&self) -> bool {
+        self.end.count == YEAR && self.end.used == USED
     }
-}
 
-pub fn is_accepted(r: Reply) -> bool {
-    let verdict = r.verdict;
-    number_of(verdict) == 0
-}
-
-fn append_hour(
-    z: ZoneFront,
-    codes: &[u8; 72],
-    values: &[f64; 600],
-    filled: Filled,
-    hour: usize,
-    version: u64,
-    buf: &mut [u8],
-) -> Filled {
-    let c = conditions(hour);
-    let limits = limits_at(hour);
-    let r = book::append(z, codes, values, filled.values, &c, version, limits, buf);
-    let after = r.values;
-    if is_accepted(r) && after.last_version == version {
-        Filled {
-            values: after,
-            wrong: filled.wrong,
-        }
-    } else {
-        Filled {
-            values: after,
-            wrong: wrapping_add_u64(filled.wrong, 1),
-        }
+    fn is_unchanged(&self) -> bool {
+        self.bytes.as_slice() == self.whole.as_slice()
     }
-}
 
-// The hours `from` to `to` - 1, in the versions of a plan.
-pub fn append_hours(
-    z: ZoneFront,
-    codes: &[u8; 72],
-    values: &[f64; 600],
-    given: BookState,
-    from: usize,
-    to: usize,
-    plan: Plan,
-    buf: &mut [u8],
-) -> Filled {
-    let mut filled = Filled {
-        values: given,
-        wrong: 0,
-    };
-    for hour in from..to {
-        let version = version_at(plan, hour);
-        filled = append_hour(z, codes, values, filled, hour, version, buf);
+    // One hour more is refused in a version, which may be one that no hour has, and changes nothing.
+    pub fn refuses_more(&mut self, version: u64) -> bool {
+        let reply = self.house.append(self.end, version, &mut self.bytes);
+        is_refused(reply, &self.end, Refusal::Full) && self.is_unchanged()
     }
-    filled
-}
 
-// A book begun, which must hand back version 1, and filled with so many hours, in the versions of a plan.
-pub fn begin_and_append(
-    z: ZoneFront,
-    codes: &[u8; 72],
-    values: &[f64; 600],
-    h: &[u8],
-    hours: usize,
-    plan: Plan,
-    buf: &mut [u8],
-) -> Filled {
-    let r = book::begin(nothing(), h, buf);
-    let begun = r.values;
-    let filled = append_hours(z, codes, values, begun, 0, hours, plan, buf);
-    if is_accepted(r) && begun.last_version == 1 {
-        return filled;
+    // Taken up with so many bytes behind it, which have this version byte.
+    fn take_up_with(&mut self, rest: usize, byte: u8) -> Reply {
+        let place = USED + VERSION_PLACE;
+        put_byte(&mut self.bytes, place, byte);
+        let reply = book::take_up(made_up(), part(&self.bytes, 0, USED.saturating_add(rest)));
+        put_byte(&mut self.bytes, place, 0);
+        reply
     }
-    let end = filled.values;
-    Filled {
-        values: end,
-        wrong: wrapping_add_u64(filled.wrong, 1),
+
+    // It is the year.
+    pub fn drops(&mut self, rest: usize, byte: u8) -> bool {
+        let taken = accepted(self.take_up_with(rest, byte));
+        taken.is_some_and(|values| same_book_states(&values, &self.end))
     }
-}
 
-fn float_in(xs: &[f64; 121], at: usize) -> f64 {
-    if at < 121 { xs[at] } else { 0.0 }
-}
-
-fn same_temps(a: &[f64; 121], b: &[f64; 121]) -> bool {
-    let mut same = true;
-    for i in 0..121 {
-        if bits_of(float_in(a, i)) != bits_of(float_in(b, i)) {
-            same = false;
-        }
+    // It is one entry too long.
+    pub fn is_too_long(&mut self, rest: usize, byte: u8) -> bool {
+        is_refused(self.take_up_with(rest, byte), &made_up(), Refusal::Full)
     }
-    same
-}
 
-pub fn same_states(a: State, b: State) -> bool {
-    let x = a.temps;
-    let y = b.temps;
-    let same = same_temps(&x, &y);
-    same && a.nodes == b.nodes
-}
+    // Cut, taken up, and filled again to the end it is the year that was never cut.
+    pub fn is_continued(&mut self, cut: usize) -> bool {
+        let entries = PLAN.entries(PLAN.whole_before(cut));
+        fill_from(&mut self.bytes, cut, CUT_OFF);
+        let end = taken_up(part(&self.bytes, 0, cut))
+            .filter(|taken| has_entries(taken, entries))
+            .and_then(|taken| append_hours(self.house, taken, YEAR, PLAN, &mut self.bytes));
+        fill_from(&mut self.bytes, USED, 0);
+        end.is_some_and(|end| same_book_states(&end, &self.end)) && self.is_unchanged()
+    }
 
-pub fn same_book_states(a: BookState, b: BookState) -> bool {
-    let same = same_states(a.state, b.state);
-    let counted = a.count == b.count && a.used == b.used;
-    same && counted && a.last_version == b.last_version
-}
-
-// Refused so, with the values that were given.
-pub fn refused_with(r: Reply, given: BookState, number: u64, index: usize) -> bool {
-    let verdict = r.verdict;
-    let kept = same_book_states(r.values, given);
-    kept && number_of(verdict) == number && index_of(verdict) == index
+    // Bits of a byte of an entry changed, and back: the entry is false.
+    pub fn is_false_with(&mut self, entry: usize, within: usize, change: u8) -> bool {
+        let place = PLAN.place_of(entry).saturating_add(within);
+        let byte = byte_at(&self.bytes, place);
+        put_byte(&mut self.bytes, place, byte ^ change);
+        let refused = is_take_up_refused(part(&self.bytes, 0, USED), Refusal::FalseEntry(entry));
+        put_byte(&mut self.bytes, place, byte);
+        refused
+    }
 }

@@ -1,4 +1,5 @@
 -- States, limits, demands and heat balances as C has them.
+use Rattle.std.specs.Prelude.{None, Option, Some}
 use Rattle.std.specs.Prelude.{ℕ, List, [], ◌∷◌, ◌++◌, Float}
 use Rattle.zone.specs.Promise.{zero64, one64}
 use Rattle.zone.specs.declared.physics.balance.HeatBalance.{HeatBalance}
@@ -8,8 +9,6 @@ use Rattle.zone.specs.declared.physics.balance.HeatBalanceExternalBoundary.{Heat
 use Rattle.zone.specs.declared.format.limits.Limits.{Limits}
 use Rattle.zone.specs.declared.calls.state.State.{State}
 use Rattle.zone.specs.declared.calls.state.Demand.{Demand}
-use Rattle.zone.specs.declared.calls.state.AchToTriggerHeating.{AchToTriggerHeating}
-use Rattle.zone.specs.declared.calls.state.AchToTriggerHeating.TheVariants.{Absent, At}
 
 -- `temps[121]`, of which `nodes` count
 abbrev pub state_in : (temps : List Float) → (nodes : ℕ) → State
@@ -20,9 +19,9 @@ abbrev pub limits_of : (heating_limit cooling_limit : Float) → Limits
 limits_of heating_limit cooling_limit = record { heating = heating_limit; cooling = cooling_limit }
 
 -- trigger 0.0 or 1.0, trigger rate (0.0 if none)
-abbrev pub trigger_out : AchToTriggerHeating → List Float
-trigger_out Absent = zero64 ∷ zero64 ∷ []
-trigger_out (At ach) = one64 ∷ ach ∷ []
+abbrev pub trigger_out : Option Float → List Float
+trigger_out None = zero64 ∷ zero64 ∷ []
+trigger_out (Some ach) = one64 ∷ ach ∷ []
 
 -- `out[5]`: heating, cooling, chosen rate, then the trigger
 abbrev pub demand_out : Demand → List Float

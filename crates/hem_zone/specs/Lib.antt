@@ -1,5 +1,5 @@
 -- In this order: what a call returns and what it leaves in what it was lent, the C arrays of states, demands and heat balances, the calls on
--- a zone, why an hour has its rate and load, the calls on a book, the questions over one, the types of lists of these calls, what a caller learns from what a call returned, what is shown of a contract, and the three demands.
+-- a zone, why an hour has its rate and load, the calls on a book, the questions over one, the types of lists of these calls, what a caller learns from what a call returned, what is shown of a contract, and the three demands. Inner has words of private contracts.
 pub mod Code
 pub mod Arrays
 pub mod Zone
@@ -10,3 +10,4 @@ pub mod BookTypes
 pub mod Claims
 pub mod Ties
 pub mod Demands
+pub mod Inner

@@ -2,30 +2,29 @@
 ghost use Rattle.std.specs.Prelude.{◌≡◌};
 ghost use Rattle.hem_zone.specs.Arrays.{state_in, demand_out, balance_out};
 
-use zone::{AchToTriggerHeating, Demand, HeatBalance, State};
+use zone::{Demand, HeatBalance, State};
 
 // The state of which the first `nodes` temperatures count.
 pub fn state_in(temps: &[f64; 121], nodes: u64) -> State
     ensures { result ≡ state_in temps.now nodes }
 {
-    let t = *temps;
     State {
         nodes: nodes as usize,
-        temps: t,
+        temps: *temps,
     }
 }
 
 // Heating, cooling, chosen rate, trigger 0.0 or 1.0, trigger rate (0.0 if none).
+#[tactic(auto, using(crate::proofs::Cases::out_absent, crate::proofs::Cases::out_at))]
 pub fn demand_out(d: Demand) -> [f64; 5]
     ensures { result ≡ demand_out d }
 {
     let heating = d.space_heat_demand;
     let cooling = d.space_cool_demand;
     let ach = d.ach_cooling;
-    let trigger = d.ach_to_trigger_heating;
-    match trigger {
-        AchToTriggerHeating::Absent => [heating, cooling, ach, 0.0, 0.0],
-        AchToTriggerHeating::At(rate) => [heating, cooling, ach, 1.0, rate],
+    match d.ach_to_trigger_heating {
+        None => [heating, cooling, ach, 0.0, 0.0],
+        Some(rate) => [heating, cooling, ach, 1.0, rate],
     }
 }
 

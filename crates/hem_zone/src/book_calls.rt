@@ -1,16 +1,13 @@
 // The calls on a book. What a caller holds of a book is `temps`, `nodes`, `count`, `used` and `last_version`.
 ghost use Rattle.std.specs.Prelude.{◌≡◌};
-ghost use Rattle.zone.specs.Inner.Lent.{zone_in};
-ghost use Rattle.book.specs.Model.Calls as Book;
-ghost use Rattle.book.specs.Year.{hour_item, year_interface};
 ghost use Rattle.book.specs.Answers.{given_of};
-ghost use Rattle.hem_zone.specs.Code.{answered};
-ghost use Rattle.hem_zone.specs.Book.{c_book_state, book_state_of, c_book_state_of, book_out, hem_begin_outcome, hem_append_outcome, hem_take_up_outcome};
+ghost use Rattle.hem_zone.specs.Inner.Answers.{book_replied};
+ghost use Rattle.hem_zone.specs.Book.{c_book_state, book_state_of, c_book_state_of, hem_begin_outcome, hem_append_outcome, hem_take_up_outcome};
 
 use crate::arrays::state_in;
 use crate::code::refusal_code;
-use book::{BookState, append, begin, take_up};
-use zone::{Limits, Verdict, ZoneFront, read_head};
+use book::{BookState, Reply, Verdict, append, begin, take_up};
+use zone::{Limits, Zone, read_head};
 
 // The values of a book that stand in the arrays of C.
 fn book_state_in(
@@ -51,6 +48,27 @@ fn write_book_state(
     *last_version = v.last_version;
 }
 
+// What a call returns; where the book accepts it, the values that it hands back are written.
+fn reply_out(
+    reply: Reply,
+    temps: &mut [f64; 121],
+    nodes: &mut u64,
+    count: &mut u64,
+    used: &mut u64,
+    last_version: &mut u64,
+) -> u32
+    ensures written { (result, c_book_state temps.new nodes.new count.new used.new last_version.new)
+        ≡ book_replied reply (c_book_state temps.old nodes.old count.old used.old last_version.old) }
+{
+    match reply.verdict {
+        Verdict::Refused { number, index } => refusal_code(number, index),
+        Verdict::Accepted => {
+            write_book_state(reply.values, temps, nodes, count, used, last_version);
+            0
+        }
+    }
+}
+
 // Begins a book: the head into the buffer, the values of a book with no entries.
 #[unsafe(no_mangle)]
 pub extern "C" fn hem_begin(
@@ -67,46 +85,7 @@ pub extern "C" fn hem_begin(
 {
     let given = book_state_in(temps, *nodes, *count, *used, *last_version);
     let x = begin(given, head, buf);
-    let v = x.verdict;
-    match v {
-        Verdict::Refused { number, index } => refusal_code(number, index),
-        Verdict::Accepted => {
-            let after = x.values;
-            write_book_state(after, temps, nodes, count, used, last_version);
-            0
-        }
-    }
-}
-
-fn append_to(
-    z: ZoneFront,
-    codes: &[u8; 72],
-    values: &[f64; 600],
-    buf: &mut [u8],
-    temps: &mut [f64; 121],
-    nodes: &mut u64,
-    count: &mut u64,
-    used: &mut u64,
-    last_version: &mut u64,
-    conditions: &[u8],
-    version: u64,
-    limits: Limits,
-) -> u32
-    ensures { (result, (buf.new, c_book_state temps.new nodes.new count.new used.new last_version.new))
-        ≡ answered book_out (buf.old, (c_book_state temps.old nodes.old count.old used.old last_version.old))
-        (Book.append_res year_interface (zone_in z codes.now values.now) (book_state_of (c_book_state temps.old nodes.old count.old used.old last_version.old)) (hour_item version conditions.now limits) buf.old) }
-{
-    let given = book_state_in(temps, *nodes, *count, *used, *last_version);
-    let x = append(z, codes, values, given, conditions, version, limits, buf);
-    let v = x.verdict;
-    match v {
-        Verdict::Refused { number, index } => refusal_code(number, index),
-        Verdict::Accepted => {
-            let after = x.values;
-            write_book_state(after, temps, nodes, count, used, last_version);
-            0
-        }
-    }
+    reply_out(x, temps, nodes, count, used, last_version)
 }
 
 // Appends the entry of one hour, of the version that is named, behind the used bytes. The zone is that of the given head; the limits count from version 3
@@ -128,31 +107,17 @@ pub extern "C" fn hem_append(
     ensures { (result, (buf.new, c_book_state temps.new nodes.new count.new used.new last_version.new))
         ≡ hem_append_outcome head.now buf.old (c_book_state temps.old nodes.old count.old used.old last_version.old) conditions.now version heating_limit cooling_limit }
 {
-    let mut codes = [0; 72];
-    let mut values = [0.0; 600];
-    let h = read_head(head, &mut codes, &mut values);
-    let v = h.verdict;
-    match v {
-        Verdict::Refused { number, index } => refusal_code(number, index),
-        Verdict::Accepted => {
+    let mut zone = Zone::none();
+    match read_head(head, &mut zone) {
+        Err(e) => refusal_code(e.number(), e.index()),
+        Ok(_) => {
             let limits = Limits {
                 heating: heating_limit,
                 cooling: cooling_limit,
             };
-            append_to(
-                h.zone,
-                &codes,
-                &values,
-                buf,
-                temps,
-                nodes,
-                count,
-                used,
-                last_version,
-                conditions,
-                version,
-                limits,
-            )
+            let given = book_state_in(temps, *nodes, *count, *used, *last_version);
+            let x = append(&zone, given, conditions, version, limits, buf);
+            reply_out(x, temps, nodes, count, used, last_version)
         }
     }
 }
@@ -172,13 +137,5 @@ pub extern "C" fn hem_take_up(
 {
     let given = book_state_in(temps, *nodes, *count, *used, *last_version);
     let x = take_up(given, bytes);
-    let v = x.verdict;
-    match v {
-        Verdict::Refused { number, index } => refusal_code(number, index),
-        Verdict::Accepted => {
-            let after = x.values;
-            write_book_state(after, temps, nodes, count, used, last_version);
-            0
-        }
-    }
+    reply_out(x, temps, nodes, count, used, last_version)
 }

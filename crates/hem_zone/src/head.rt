@@ -1,27 +1,24 @@
 // A head by itself.
 ghost use Rattle.std.specs.Prelude.{◌≡◌};
+ghost use Rattle.hem_zone.specs.Inner.Answers.{code_of};
 ghost use Rattle.hem_zone.specs.Zone.{hem_head_outcome};
 
-use crate::code::refusal_code;
-use zone::{Verdict, read_head, zone_test};
+use crate::code::code_of;
+use zone::{Refusal, Zone, read_head, zone_test};
+
+#[tactic(auto, using(crate::proofs::Cases::head_refused, crate::proofs::Cases::head_tested))]
+fn head_test(head: &[u8]) -> Result<(), Refusal>
+    ensures { code_of result ≡ hem_head_outcome head.now }
+{
+    let mut zone = Zone::none();
+    read_head(head, &mut zone)?;
+    zone_test(&zone)
+}
 
 // Tests a head.
 #[unsafe(no_mangle)]
 pub extern "C" fn hem_head(head: &[u8]) -> u32
     ensures { result ≡ hem_head_outcome head.now }
 {
-    let mut codes = [0; 72];
-    let mut values = [0.0; 600];
-    let h = read_head(head, &mut codes, &mut values);
-    let v = h.verdict;
-    match v {
-        Verdict::Refused { number, index } => refusal_code(number, index),
-        Verdict::Accepted => {
-            let w = zone_test(h.zone, &codes, &values);
-            match w {
-                Verdict::Refused { number, index } => refusal_code(number, index),
-                Verdict::Accepted => 0,
-            }
-        }
-    }
+    code_of(head_test(head))
 }

@@ -4,37 +4,40 @@
 // number and index or its answer. How the data were made: make_data.py.
 #![tactic(auto)]
 
-mod answer;
+mod bad_record;
 mod book_calls;
-mod bytes;
-mod calls;
+mod case;
 mod cases;
-mod print;
-mod question_calls;
+mod comparison;
+mod counts;
+mod failure;
+mod hour;
+mod outcome;
+mod record;
 mod records;
 mod refusals;
 mod report;
 mod row;
-mod tally;
-mod why_calls;
+mod same;
+mod zone_calls;
 
-use std::fs::File;
-use std::io;
+use anyhow::Result;
+use std::fs;
 use std::rt::Files;
 
-fn replay_cases(rt: &(impl Files + Print)) -> io::Result<()> {
-    let mut file = File::open(rt, "cases")?;
-    let t = cases::check_cases(&mut file)?;
-    report::print_cases(rt, t)
+fn replay_cases(rt: &(impl Files + Alloc + Print)) -> Result<()> {
+    let bytes = fs::read(rt, "cases")?;
+    let tally = cases::check_cases(&bytes)?;
+    Ok(report::print_cases(rt, &tally)?)
 }
 
-fn replay_refusals(rt: &(impl Files + Print)) -> io::Result<()> {
-    let mut file = File::open(rt, "refusals")?;
-    let t = refusals::check_rows(&mut file)?;
-    report::print_rows(rt, t)
+fn replay_refusals(rt: &(impl Files + Alloc + Print)) -> Result<()> {
+    let bytes = fs::read(rt, "refusals")?;
+    let tally = refusals::check_rows(&bytes)?;
+    Ok(report::print_rows(rt, &tally)?)
 }
 
-fn main(rt: HostRuntime) -> io::Result<()> {
+fn main(rt: HostRuntime) -> Result<()> {
     replay_cases(&rt)?;
     replay_refusals(&rt)
 }

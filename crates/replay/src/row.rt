@@ -1,74 +1,195 @@
-// A row of the refusals: where its parts lie. make_data.py has the layout in words.
-use crate::bytes::{one_at, read_u16_be, read_u32_be, read_u64_be};
-use std::num::wrapping_add_usize;
+// A row of the refusals: a call, and the answer that the papers' order of tests gives it. make_data.py has the layout in words.
+use crate::bad_record::BadRecord;
+use crate::failure::Refusal;
+use crate::hour::Hour;
+use crate::record::Record;
+use crate::zone_calls;
+use book::BookState;
+use std::fmt;
+use zone::Zone;
 
-pub const HEAD: usize = 8;
-// From the count of entries on.
-const USED: usize = 4;
-
-const ROOM: usize = 8;
-
-const VERSION: usize = 12;
-
-const LAST_VERSION: usize = 20;
-
-const VALUE_COUNT: usize = 28;
-
-const VALUES: usize = 30;
-
-#[derive(Clone, Copy)]
-pub struct Row {
-    pub call: usize,
-    pub number: usize,
-    pub index: usize,
-    pub head_length: usize,
-    pub change: usize,
-    pub changed: usize,
-    pub nodes: usize,
-    pub temps: usize,
-    pub temp_count: usize,
-    pub conditions: usize,
-    pub conditions_length: usize,
-    pub own: usize,
-    pub count: usize,
-    pub used: usize,
-    pub room: usize,
-    pub version: u64,
-    pub last_version: u64,
-    pub value_count: usize,
-    pub values: usize,
+#[derive(Clone, Copy, Debug, PartialEq, Eq)]
+pub enum Call {
+    Demand,
+    Update,
+    StartUp,
+    HourStep,
+    Begin,
+    Append,
+    TakeUp,
+    ReadHead,
+    ZoneTest,
+    FirstAbove,
+    HoursWithin,
+    NearestHour,
 }
 
-pub fn row_at(b: &[u8]) -> Row {
-    let head_length = read_u32_be(b, 4);
-    let after_head = wrapping_add_usize(HEAD, head_length);
-    let state = wrapping_add_usize(after_head, 3);
-    let temp_count = read_u16_be(b, wrapping_add_usize(state, 2));
-    let temps = wrapping_add_usize(state, 4);
-    let after_temps = wrapping_add_usize(temps, temp_count << 3);
-    let conditions_length = read_u16_be(b, after_temps);
-    let conditions = wrapping_add_usize(after_temps, 2);
-    let own = wrapping_add_usize(conditions, conditions_length);
-    let given = wrapping_add_usize(own, 24);
-    Row {
-        call: one_at(b, 0),
-        number: one_at(b, 1),
-        index: read_u16_be(b, 2),
-        head_length,
-        change: one_at(b, after_head),
-        changed: read_u16_be(b, wrapping_add_usize(after_head, 1)),
-        nodes: read_u16_be(b, state),
-        temps,
-        temp_count,
-        conditions,
-        conditions_length,
-        own,
-        count: read_u32_be(b, given),
-        used: read_u32_be(b, wrapping_add_usize(given, USED)),
-        room: read_u32_be(b, wrapping_add_usize(given, ROOM)),
-        version: read_u64_be(b, wrapping_add_usize(given, VERSION)),
-        last_version: read_u64_be(b, wrapping_add_usize(given, LAST_VERSION)),
-        value_count: read_u16_be(b, wrapping_add_usize(given, VALUE_COUNT)),
-        values: wrapping_add_usize(given, VALUES),
+impl Call {
+    pub const ALL: [Call; 12] = [
+        Call::Demand,
+        Call::Update,
+        Call::StartUp,
+        Call::HourStep,
+        Call::Begin,
+        Call::Append,
+        Call::TakeUp,
+        Call::ReadHead,
+        Call::ZoneTest,
+        Call::FirstAbove,
+        Call::HoursWithin,
+        Call::NearestHour,
+    ];
+}
+
+impl TryFrom<u8> for Call {
+    type Error = BadRecord;
+
+    fn try_from(number: u8) -> Result<Self, BadRecord> {
+        match number {
+            1 => Ok(Call::Demand),
+            2 => Ok(Call::Update),
+            3 => Ok(Call::StartUp),
+            4 => Ok(Call::HourStep),
+            5 => Ok(Call::Begin),
+            6 => Ok(Call::Append),
+            7 => Ok(Call::TakeUp),
+            8 => Ok(Call::ReadHead),
+            9 => Ok(Call::ZoneTest),
+            10 => Ok(Call::FirstAbove),
+            11 => Ok(Call::HoursWithin),
+            12 => Ok(Call::NearestHour),
+            _ => Err(BadRecord::Call(number)),
+        }
+    }
+}
+
+impl fmt::Display for Call {
+    fn fmt<W: fmt::Write>(&self, f: &mut fmt::Formatter<W>) -> fmt::Result {
+        f.pad(match self {
+            Call::Demand => "demand",
+            Call::Update => "update",
+            Call::StartUp => "start-up",
+            Call::HourStep => "hour step",
+            Call::Begin => "begin",
+            Call::Append => "append",
+            Call::TakeUp => "take-up",
+            Call::ReadHead => "read_head",
+            Call::ZoneTest => "zone_test",
+            Call::FirstAbove => "first_above",
+            Call::HoursWithin => "hours_within",
+            Call::NearestHour => "nearest_hour",
+        })
+    }
+}
+
+// The change that a row makes of a zone once its head is read.
+#[derive(Clone, Copy, Debug, PartialEq, Eq)]
+pub enum Change {
+    None,
+    Count(u16),
+    FirstTreatments(u16),
+    NoUsefulArea,
+    NoSecondArea,
+}
+
+impl TryFrom<(u8, u16)> for Change {
+    type Error = BadRecord;
+
+    fn try_from((number, value): (u8, u16)) -> Result<Self, BadRecord> {
+        match number {
+            0 => Ok(Change::None),
+            1 => Ok(Change::Count(value)),
+            2 => Ok(Change::FirstTreatments(value)),
+            3 => Ok(Change::NoUsefulArea),
+            4 => Ok(Change::NoSecondArea),
+            _ => Err(BadRecord::Change(number)),
+        }
+    }
+}
+
+impl Change {
+    fn make(self, zone: &mut Zone) {
+        match self {
+            Change::None => {}
+            Change::Count(count) => zone.count = usize::from(count),
+            Change::FirstTreatments(treatments) => zone.building_elements[0].treatments =
+                usize::from(treatments),
+            Change::NoUsefulArea => zone.useful_area = 0.0,
+            Change::NoSecondArea => zone.building_elements[1].area = 0.0,
+        }
+    }
+}
+
+#[derive(Drop)]
+pub struct Row<'a> {
+    pub call: Call,
+    // Of a take-up and of a question the whole book.
+    pub head: &'a [u8],
+    change: Change,
+    pub hour: Hour<'a>,
+    count: usize,
+    used: usize,
+    // The length of the buffer.
+    pub room: usize,
+    pub version: u64,
+    last_version: u64,
+    // The values of an accepted call.
+    pub answer: Result<&'a [u8], Refusal>,
+}
+
+impl<'a> Row<'a> {
+    pub fn read(bytes: &'a [u8]) -> Result<Self, BadRecord> {
+        let mut record = Record::new(bytes);
+        let call = Call::try_from(record.take_u8()?)?;
+        let number = u32::from(record.take_u8()?);
+        let index = usize::from(record.take_u16()?);
+        let head_length = record.take_u32()? as usize;
+        let head = record.take(head_length)?;
+        let change = Change::try_from((record.take_u8()?, record.take_u16()?))?;
+        let nodes = usize::from(record.take_u16()?);
+        let hour = Hour {
+            nodes,
+            ..Hour::read(&mut record)?
+        };
+        let count = record.take_u32()? as usize;
+        let used = record.take_u32()? as usize;
+        let room = record.take_u32()? as usize;
+        let version = record.take_u64()?;
+        let last_version = record.take_u64()?;
+        let values = record.take_values()?;
+        // The data store acceptance as the number 0.
+        let answer = if number == 0 {
+            Ok(values)
+        } else {
+            Err(Refusal { number, index })
+        };
+        Ok(Row {
+            call,
+            head,
+            change,
+            hour,
+            count,
+            used,
+            room,
+            version,
+            last_version,
+            answer,
+        })
+    }
+
+    // What a call on a book is given.
+    pub fn book_state(&self) -> BookState {
+        BookState {
+            state: self.hour.state(),
+            count: self.count,
+            used: self.used,
+            last_version: self.last_version,
+        }
+    }
+
+    pub fn zone(&self) -> Result<Zone, zone::Refusal> {
+        let mut zone = zone_calls::read(self.head)?;
+        self.change.make(&mut zone);
+        Ok(zone)
     }
 }

@@ -7,7 +7,8 @@ use Rattle.solver.specs.Repeat.{repeat}
 use Rattle.solver.specs.Numbers.{divisor, temperature}
 use Rattle.solver.specs.Result.{Result, ok, bind, require}
 use Rattle.solver.specs.Rows.{set_entry}
-use Rattle.solver.specs.Lu.{Lu, lu_factor, pivots_valid, lu_solve}
+use Rattle.solver.specs.declared.lu.Lu.{Lu}
+use Rattle.solver.specs.Lu.{lu_factor, pivots_valid, lu_solve}
 use Rattle.solver.specs.Chain.{eliminate_chains, divisors_valid, reduce_right_sides, back_substitute_chains, nodes_within}
 
 -- elements past the 24th are left out

@@ -2,6 +2,7 @@ pub mod F64
 pub mod Repeat
 pub mod Numbers
 pub mod Result
+pub mod Answers
 pub mod Closeness
 pub mod Sums
 pub mod Rows

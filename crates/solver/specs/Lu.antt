@@ -2,15 +2,12 @@
 use Rattle.std.specs.Prelude.{ℕ, ◌+◌, ◌-◌, ◌*◌, List, Bool, cond, get_or, set, drop, ltb, eqb, Float}
 use Rattle.std.specs.Float.{nan}
 use Rattle.solver.specs.F64.{◌-ᶠ◌, ◌*ᶠ◌, ◌/ᶠ◌, one64}
+use Rattle.solver.specs.declared.lu.Lu.{Lu}
 use Rattle.solver.specs.Closeness.{valid_divisor}
 use Rattle.solver.specs.Repeat.{repeat, repeat_down, all}
 use Rattle.solver.specs.Rows.{entry, row, set_row, pivot_row, eliminate_row}
 
 -- A matrix, factored or on the way there, with the row exchanges: at k the row with which row k changed places when column k was eliminated.
-pub record Lu : Type 0 where
-  pub matrix : List Float
-  pub interchanges : List ℕ
-
 abbrev pub lu_with : (matrix : List Float) (interchanges : List ℕ) → Lu
 lu_with matrix interchanges = record { matrix = matrix; interchanges = interchanges }
 

@@ -1,25 +1,13 @@
 // Magnitudes, closeness, and the tests of divisors and of temperatures.
 ghost use Rattle.std.specs.Prelude.{◌≡◌};
-ghost use Rattle.solver.specs.Closeness.{abs, is_finite, max, relative_eq, close_in_demand, isclose, close_in_windows_test, valid_divisor, within_state_bound};
+ghost use Rattle.solver.specs.Closeness.{abs, max, relative_eq, close_in_demand, isclose, close_in_windows_test, valid_divisor, within_state_bound};
 
 // |x|; of either zero it is +0.0.
+#[tactic(auto, using(crate::proofs::Laws::Signs::without_sign))]
 pub fn abs(x: f64) -> f64
     ensures { result ≡ abs x }
 {
-    if x < 0.0 {
-        return -x;
-    }
-    if x == 0.0 {
-        return 0.0;
-    }
-    x
-}
-
-// The constant is infinity: a nan is below nothing.
-fn is_finite(x: f64) -> bool
-    ensures { result ≡ is_finite x }
-{
-    abs(x) < f64::from_bits(0x7ff0_0000_0000_0000)
+    x.abs()
 }
 
 fn max(x: f64, y: f64) -> f64
@@ -29,16 +17,14 @@ fn max(x: f64, y: f64) -> f64
 }
 
 // The Rust's `relative_eq!`: equal, or both finite and no further apart than `epsilon`, or than `max_relative` times the larger magnitude.
+#[tactic(auto, using(crate::proofs::Laws::Signs::finite_same), unfolding(crate::specs::Closeness::relative_eq))]
 fn relative_eq(a: f64, b: f64, epsilon: f64, max_relative: f64) -> bool
     ensures { result ≡ relative_eq a b epsilon max_relative }
 {
     if a == b {
         return true;
     }
-    if !is_finite(a) {
-        return false;
-    }
-    if !is_finite(b) {
+    if !a.is_finite() | !b.is_finite() {
         return false;
     }
     let difference = abs(a - b);
@@ -70,12 +56,11 @@ pub fn close_in_windows_test(a: f64, b: f64) -> bool
 }
 
 // What a chain or an elimination may divide by: not zero, and finite.
+#[tactic(auto, using(crate::proofs::Laws::Signs::divisor_test))]
 pub fn valid_divisor(x: f64) -> bool
     ensures { result ≡ valid_divisor x }
 {
-    let finite = is_finite(x);
-    let zero = x == 0.0;
-    !zero & finite
+    (x != 0.0) & x.is_finite()
 }
 
 // Not beyond a million either way, which neither an infinity nor a nan is.

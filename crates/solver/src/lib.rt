@@ -4,16 +4,16 @@
 mod chain;
 mod closeness;
 mod dense_part;
+mod error;
 mod lu;
-mod numbers;
 mod rows;
 mod sums;
 mod system;
 
+pub use chain::Chains;
 pub use closeness::{abs, close_in_demand, close_in_windows_test, isclose, within_state_bound};
-pub use numbers::{DIVISOR, TEMPERATURE};
+pub use dense_part::RightSide;
+pub use error::SolveError;
+pub use lu::Lu;
 pub use sums::Sum2;
-pub use system::{
-    Matrix, Solved, factor_columns, factor_last, fast_solver, last_column, reduce_base,
-    substitute_load,
-};
+pub use system::{Factors, Matrix, fast_solver};

@@ -1,23 +1,22 @@
 // The dense solve of w unknowns: elimination with partial pivoting, and substitution.
-ghost use Rattle.std.specs.Prelude.{◌≡◌, ◌+◌, ◌-◌, ◌*◌, ◌<◌, ◌≤◌, length, drop};
+ghost use Rattle.std.specs.Prelude.{◌≡◌, ◌+◌, ◌-◌, ◌*◌, ◌<◌, ◌≤◌, drop};
 ghost use Rattle.solver.specs.Repeat.{repeat};
 ghost use Rattle.solver.specs.Rows.{pivot_row};
 ghost use Rattle.solver.specs.Inner.Columns.{factor_column, factor_columns, factor_last, subtract_last_multiple, back_last, lu_solve_apart};
-ghost use Rattle.solver.specs.Lu.{lu_with, interchange_rows, pivots_valid, apply_interchanges, subtract_multiple, forward_substitution, back_substitution};
+ghost use Rattle.solver.specs.Lu.{interchange_rows, pivots_valid, apply_interchanges, subtract_multiple, forward_substitution, back_substitution};
 
 use crate::closeness::valid_divisor;
 use crate::rows::{eliminate_rows, entry, pivot_row, row, set_row};
 
-// The pivot row of column k: the rows from row k on, one part of the flat matrix, are handed to the pivot search.
-fn pivot_row_from(m: &[f64], w: usize, k: usize) -> usize
-    requires { (length m.now ≡ 625) × (w ≤ 25) × (k < w) }
-    ensures { (result ≡ k + pivot_row k (w - k) (drop (25 * k) m.now)) × (result < w) }
-{
-    let start = 25 * k;
-    k + pivot_row(&m[start..], k, w - k)
+// A dense matrix, factored or on the way there, with the row exchanges: at k the row with which row k changed places when column k was eliminated.
+#[derive(Clone, Copy)]
+pub struct Lu {
+    pub matrix: [f64; 625],
+    pub interchanges: [usize; 25],
 }
 
 // Row k and row q, of which `pivots` is a copy, change places.
+#[tactic(auto, unfolding(crate::specs::Lu::interchange_rows))]
 fn interchange_rows(m: &mut [f64; 625], k: usize, q: usize, pivots: &[f64; 25])
     requires { (k < 25) × (q < 25) }
     ensures { m.new ≡ interchange_rows k q pivots.now m.old }
@@ -30,120 +29,19 @@ fn interchange_rows(m: &mut [f64; 625], k: usize, q: usize, pivots: &[f64; 25])
     set_row(m, k, pivots);
 }
 
-// Column k of n + 1 rows, where column n, which is kept apart, is left out of the elimination.
-pub fn lu_factor_column(m: &mut [f64; 625], interchanges: &mut [usize; 25], n: usize, k: usize)
-    requires { (n ≤ 24) × (k < n) }
-    ensures { lu_with m.new interchanges.new ≡ factor_column n k (lu_with m.old interchanges.old) }
-{
-    let q = pivot_row_from(m, n + 1, k);
-    let pivot = entry(m, q, k);
-    let pivots = row(m, q);
-    interchange_rows(m, k, q, &pivots);
-    interchanges[k] = q;
-    eliminate_rows(m, n + 1, n, k, &pivots, 1.0 / pivot);
-}
-
-// Each column before column n, in turn.
-pub fn lu_factor_columns(m: &mut [f64; 625], interchanges: &mut [usize; 25], n: usize)
-    requires { n ≤ 24 }
-    ensures { lu_with m.new interchanges.new ≡ factor_columns n m.old interchanges.old }
-{
-    let mut k = 0;
-    while k < n {
-        lu_factor_column(m, interchanges, n, k);
-        k += 1;
-    }
-}
-
-pub fn pivots_valid(m: &[f64; 625], w: usize) -> bool
-    requires { w ≤ 25 }
-    ensures { result ≡ pivots_valid w m.now }
-{
-    let mut valid = true;
-    let mut k = 0;
-    while k < w {
-        valid = valid & valid_divisor(entry(m, k, k));
-        k += 1;
-    }
-    valid
-}
-
-// The row exchanges of the factorisation, made on a right side.
-fn apply_interchanges(b: &mut [f64; 25], interchanges: &[usize; 25], w: usize)
-    requires { w ≤ 25 }
-    ensures { b.new ≡ apply_interchanges w interchanges.now b.old }
-{
-    let mut k = 0;
-    while k < w {
-        let q = interchanges[k];
-        if q < 25 {
-            let x = b[k];
-            b[k] = b[q];
-            b[q] = x;
-        }
-        k += 1;
-    }
-}
-
-// The share of unknown k, which is x, is subtracted from the right sides of the rows from `start` up to `end`.
-fn subtract_multiples(m: &[f64; 625], b: &mut [f64; 25], k: usize, x: f64, start: usize, end: usize)
-    requires { (k < 25) × (end ≤ 25) }
-    ensures { b.new ≡ repeat start end (subtract_multiple m.now k x) b.old }
-{
-    let mut i = start;
-    while i < end {
-        b[i] = b[i] - entry(m, i, k) * x;
-        i += 1;
-    }
-}
-
-fn forward_substitution(m: &[f64; 625], b: &mut [f64; 25], w: usize)
-    requires { w ≤ 25 }
-    ensures { b.new ≡ forward_substitution w m.now b.old }
-{
-    let mut k = 0;
-    while k < w {
-        let x = b[k];
-        subtract_multiples(m, b, k, x, k + 1, w);
-        k += 1;
-    }
-}
-
-fn back_substitution(m: &[f64; 625], b: &mut [f64; 25], w: usize)
-    requires { w ≤ 25 }
-    ensures { b.new ≡ back_substitution w m.now b.old }
-{
-    let mut k = w;
-    while 0 < k {
-        k -= 1;
-        let x = b[k] / entry(m, k, k);
-        b[k] = x;
-        subtract_multiples(m, b, k, x, 0, k);
-    }
-}
-
-// Column n, or a right side, in the place of which it comes to stand: its interchanges made, and forward.
-pub fn lu_factor_last(m: &[f64; 625], interchanges: &[usize; 25], b: &mut [f64; 25], n: usize)
-    requires { n ≤ 24 }
-    ensures { b.new ≡ factor_last n m.now interchanges.now b.old }
-{
-    apply_interchanges(b, interchanges, n);
-    forward_substitution(m, b, n + 1);
-}
-
 // The share of the last unknown, which is x, is subtracted from the right sides of the n rows above.
-pub fn subtract_last_multiples(last: &[f64; 25], b: &mut [f64; 25], x: f64, n: usize)
+#[tactic(auto, using(crate::proofs::Laws::Counting::repeat_turn, crate::proofs::Laws::Counting::repeat_end))]
+fn subtract_last_multiples(last: &[f64; 25], b: &mut [f64; 25], x: f64, n: usize)
     requires { n ≤ 24 }
     ensures { b.new ≡ repeat 0 n (subtract_last_multiple last.now x) b.old }
 {
-    let mut i = 0;
-    while i < n {
+    for i in 0..n {
         b[i] = b[i] - last[i] * x;
-        i += 1;
     }
 }
 
-pub fn back_last(last: &[f64; 25], b: &mut [f64; 25], n: usize)
+#[tactic(auto, unfolding(crate::specs::Inner::Columns::back_last))]
+fn back_last(last: &[f64; 25], b: &mut [f64; 25], n: usize)
     requires { n ≤ 24 }
     ensures { b.new ≡ back_last n last.now b.old }
 {
@@ -152,18 +50,114 @@ pub fn back_last(last: &[f64; 25], b: &mut [f64; 25], n: usize)
     subtract_last_multiples(last, b, x, n);
 }
 
-// The unknowns stand where the right side stood; `last` is column n.
-pub fn lu_solve_apart(
-    m: &[f64; 625],
-    last: &[f64; 25],
-    interchanges: &[usize; 25],
-    b: &mut [f64; 25],
-    n: usize,
-)
-    requires { n ≤ 24 }
-    ensures { b.new ≡ lu_solve_apart n m.now last.now interchanges.now b.old }
-{
-    lu_factor_last(m, interchanges, b, n);
-    back_last(last, b, n);
-    back_substitution(m, b, n);
+impl Lu {
+    // The pivot row of column k: the rows from row k on, one part of the flat matrix, are handed to the pivot search.
+    fn pivot_row(&self, w: usize, k: usize) -> usize
+        requires { (w ≤ 25) × (k < w) }
+        ensures { (result ≡ k + pivot_row k (w - k) (drop (25 * k) self.now.matrix)) × (result < w) }
+    {
+        k + pivot_row(&self.matrix[25 * k..], k, w - k)
+    }
+
+    // Column k of n + 1 rows, where column n, which is kept apart, is left out of the elimination.
+    #[tactic(auto, unfolding(crate::specs::Inner::Columns::factor_column, crate::specs::Inner::Columns::factor_column_by))]
+    fn factor_column(&mut self, n: usize, k: usize)
+        requires { (n ≤ 24) × (k < n) }
+        ensures { self.new ≡ factor_column n k self.old }
+    {
+        let q = self.pivot_row(n + 1, k);
+        let pivot = entry(&self.matrix, q, k);
+        let pivots = row(&self.matrix, q);
+        interchange_rows(&mut self.matrix, k, q, &pivots);
+        self.interchanges[k] = q;
+        eliminate_rows(&mut self.matrix, n + 1, n, k, &pivots, 1.0 / pivot);
+    }
+
+    // Each column before column n, in turn.
+    #[tactic(auto, using(crate::proofs::Laws::Counting::repeat_turn, crate::proofs::Laws::Counting::repeat_end))]
+    pub fn factor_columns(&mut self, n: usize)
+        requires { n ≤ 24 }
+        ensures { self.new ≡ factor_columns n self.old.matrix self.old.interchanges }
+    {
+        for k in 0..n {
+            self.factor_column(n, k);
+        }
+    }
+
+    #[tactic(auto, unfolding(crate::specs::Lu::pivots_valid))]
+    pub fn pivots_valid(&self, w: usize) -> bool
+        requires { w ≤ 25 }
+        ensures { result ≡ pivots_valid w self.now.matrix }
+    {
+        (0..w).all(|k| valid_divisor(entry(&self.matrix, k, k)))
+    }
+
+    // The row exchanges of the factorisation, made on a right side.
+    #[tactic(auto, using(crate::proofs::Laws::Counting::repeat_turn, crate::proofs::Laws::Counting::repeat_end), unfolding(crate::specs::Lu::apply_interchanges))]
+    fn apply_interchanges(&self, b: &mut [f64; 25], w: usize)
+        requires { w ≤ 25 }
+        ensures { b.new ≡ apply_interchanges w self.now.interchanges b.old }
+    {
+        for k in 0..w {
+            let q = self.interchanges[k];
+            if q < 25 {
+                b.swap(k, q);
+            }
+        }
+    }
+
+    // The share of unknown k, which is x, is subtracted from the right sides of the rows from `start` up to `end`.
+    #[tactic(auto, using(crate::proofs::Laws::Counting::repeat_turn, crate::proofs::Laws::Counting::repeat_end))]
+    fn subtract_multiples(&self, b: &mut [f64; 25], k: usize, x: f64, start: usize, end: usize)
+        requires { (k < 25) × (end ≤ 25) }
+        ensures { b.new ≡ repeat start end (subtract_multiple self.now.matrix k x) b.old }
+    {
+        for i in start..end {
+            b[i] = b[i] - entry(&self.matrix, i, k) * x;
+        }
+    }
+
+    #[tactic(auto, using(crate::proofs::Laws::Counting::repeat_turn, crate::proofs::Laws::Counting::repeat_end), unfolding(crate::specs::Lu::forward_substitution, crate::specs::Lu::forward_step))]
+    fn forward_substitution(&self, b: &mut [f64; 25], w: usize)
+        requires { w ≤ 25 }
+        ensures { b.new ≡ forward_substitution w self.now.matrix b.old }
+    {
+        for k in 0..w {
+            let x = b[k];
+            self.subtract_multiples(b, k, x, k + 1, w);
+        }
+    }
+
+    #[tactic(auto, using(crate::proofs::Laws::Counting::down_next, crate::proofs::Laws::Counting::down_done), unfolding(crate::specs::Lu::back_substitution, crate::specs::Lu::back_step))]
+    fn back_substitution(&self, b: &mut [f64; 25], w: usize)
+        requires { w ≤ 25 }
+        ensures { b.new ≡ back_substitution w self.now.matrix b.old }
+    {
+        for k in (0..w).rev() {
+            let x = b[k] / entry(&self.matrix, k, k);
+            b[k] = x;
+            self.subtract_multiples(b, k, x, 0, k);
+        }
+    }
+
+    // Column n, or a right side, in the place of which it comes to stand: its interchanges made, and forward.
+    #[tactic(auto, unfolding(crate::specs::Inner::Columns::factor_last))]
+    pub fn factor_last(&self, b: &mut [f64; 25], n: usize)
+        requires { n ≤ 24 }
+        ensures { b.new ≡ factor_last n self.now.matrix self.now.interchanges b.old }
+    {
+        self.apply_interchanges(b, n);
+        self.forward_substitution(b, n + 1);
+    }
+
+    // The unknowns stand where the right side stood; `last` is column n.
+    #[tactic(auto, unfolding(crate::specs::Inner::Columns::lu_solve_apart))]
+    pub fn solve_apart(&self, last: &[f64; 25], b: &mut [f64; 25], n: usize)
+        requires { n ≤ 24 }
+        ensures { b.new ≡ lu_solve_apart n self.now.matrix last.now self.now.interchanges b.old }
+    {
+        self.factor_last(b, n);
+        back_last(last, b, n);
+        self.back_substitution(b, n);
+    }
 }

@@ -1,27 +1,27 @@
 // The solution of a zone's system: the matrix is factored once, and each right side substituted.
-ghost use Rattle.std.specs.Prelude.{◌≡◌, ◌≤◌, get_or};
+ghost use Rattle.std.specs.Prelude.{◌≡◌, ◌&&◌, ◌≤◌, get_or};
 ghost use Rattle.std.specs.Float.{nan};
-ghost use Rattle.solver.specs.Repeat.{repeat};
-ghost use Rattle.solver.specs.FastSolver.{at_most24, temperatures};
-ghost use Rattle.solver.specs.Inner.Factored.{factored, solved, fast_solver};
+ghost use Rattle.solver.specs.FastSolver.{at_most24};
+ghost use Rattle.solver.specs.Numbers.{divisor};
+ghost use Rattle.solver.specs.Result.{require};
+ghost use Rattle.solver.specs.Answers.{answered, number_in};
 ghost use Rattle.solver.specs.Closeness.{valid_divisor};
+ghost use Rattle.solver.specs.Inner.Factored.{solved, fast_solver};
 ghost use Rattle.solver.specs.Inner.Columns.{column_of, factor_last};
-ghost use Rattle.solver.specs.Inner.Reduced.{reduce_chains, inner_shares, gather_reduced, gather_loaded};
-ghost use Rattle.solver.specs.Inner.Apart.{columns, factor_apart, substitute_apart};
+ghost use Rattle.solver.specs.Inner.Reduced.{gather_reduced, gather_loaded};
+ghost use Rattle.solver.specs.Inner.Apart.{factored_columns, reduced_base, substitute_apart};
 
-use crate::chain::{
-    back_substitute_chains, divisors_valid, eliminate_chains, inner_shares, nodes_within,
-    reduce_chains,
-};
+use crate::chain::Chains;
 use crate::closeness::valid_divisor;
-use crate::dense_part::{gather_loaded, gather_reduced, scatter_dense, set_inner_diagonals};
-use crate::lu::{lu_factor_columns, lu_factor_last, lu_solve_apart, pivots_valid};
-use crate::numbers::{DIVISOR, TEMPERATURE};
+use crate::dense_part::{RightSide, scatter_dense, set_inner_diagonals};
+use crate::error::SolveError;
+use crate::lu::Lu;
 use crate::rows::column;
 
-// The matrix in the form that is kept: the number of elements, which of them have two nodes; for each slot its own coefficient and those of
-// the next and the previous slot of its chain; and the dense part, 25 places a row: the couplings between the inner surfaces, the air's column
-// and row. Where an inner surface meets itself, the dense part has the chain's adjusted diagonal once it is factored.
+// The matrix as it is given: the number of elements, which of them have two nodes; for each slot its own coefficient and those of the next and the
+// previous slot of its chain; and the dense part, 25 places a row: the couplings between the inner surfaces, the air's column and row. Where an inner
+// surface meets itself, the dense part has the chain's adjusted diagonal once it is factored.
+// It has the fields of `Chains` one by one and no `Chains`, as the definition of the solve (specs/FastSolver.antt) names them.
 #[derive(Clone, Copy)]
 pub struct Matrix {
     pub n: usize,
@@ -32,213 +32,146 @@ pub struct Matrix {
     pub dense: [f64; 625],
 }
 
-// 0 and the temperatures in their slots; 12 and the right side as it was; or 13 and the temperatures that were found.
+// The matrix in the form that is kept: its chains, and its dense part with the row exchanges; once its columns are factored, whether all of their
+// divisors are valid.
 #[derive(Clone, Copy)]
-pub struct Solved {
-    pub number: u32,
-    pub temps: [f64; 121],
+pub struct Factors {
+    pub chains: Chains,
+    pub lu: Lu,
+    pub valid: bool,
 }
 
-// Elements past the 24th are left out.
-fn at_most_24(n: usize) -> usize
-    ensures { (result ≡ at_most24 n) × (result ≤ 24) }
-{
-    if 24 < n { 24 } else { n }
-}
+impl Factors {
+    // Of the dense part's right side v and a reduced right side, where the temperatures come to stand.
+    #[tactic(auto, unfolding(crate::specs::Inner::Apart::substitute_apart, crate::specs::Inner::Apart::temperatures_apart))]
+    fn substitute_apart(
+        &self,
+        n: usize,
+        last: &[f64; 25],
+        v: &mut [f64; 25],
+        b: &mut [f64; 121],
+    ) -> Result<(), SolveError>
+        requires { n ≤ 24 }
+        ensures { solved (number_in result) b.new ≡ substitute_apart n self.now.chains.two_nodes self.now.chains.diag self.now.chains.next
+            self.now.lu.matrix last.now self.now.lu.interchanges v.old b.old }
+    {
+        self.lu.solve_apart(last, v, n);
+        scatter_dense(v, n, b);
+        self.chains.back_substitute(n, b);
+        if self.chains.nodes_within(n, b) {
+            Ok(())
+        } else {
+            Err(SolveError::Temperature)
+        }
+    }
 
-// All of the matrix but column n of its dense part, which is not read, factored in place: whether its divisors are valid.
-pub fn factor_columns(
-    n: usize,
-    two_nodes: &[bool; 24],
-    diag: &mut [f64; 120],
-    next: &[f64; 120],
-    prev: &[f64; 120],
-    dense: &mut [f64; 625],
-    interchanges: &mut [usize; 25],
-) -> bool
-    ensures { columns result diag.new dense.new interchanges.new
-        ≡ factor_apart (at_most24 n) two_nodes.now diag.old next.now prev.now dense.old interchanges.old }
-{
-    let k = at_most_24(n);
-    eliminate_chains(two_nodes, next, prev, k, diag);
-    set_inner_diagonals(diag, k, dense);
-    lu_factor_columns(dense, interchanges, k);
-    let chains = divisors_valid(two_nodes, diag, k);
-    let pivots = pivots_valid(dense, k);
-    chains & pivots
-}
+    // All of the matrix but column n of its dense part, which is not read, factored in place.
+    #[tactic(auto, unfolding(crate::specs::Inner::Apart::factor_apart))]
+    pub fn factor_columns(&mut self)
+        ensures { self.new ≡ factored_columns self.old }
+    {
+        let n = self.chains.count();
+        self.chains.eliminate(n);
+        set_inner_diagonals(&self.chains.diag, n, &mut self.lu.matrix);
+        self.lu.factor_columns(n);
+        self.valid = self.chains.divisors_valid(n) & self.lu.pivots_valid(n);
+    }
 
-// Column n of the dense part.
-pub fn last_column(n: usize, dense: &[f64; 625]) -> [f64; 25]
-    ensures { result ≡ column_of (at_most24 n) dense.now }
-{
-    let k = at_most_24(n);
-    column(dense, k)
-}
+    // Column n of the dense part.
+    pub fn last_column(&self) -> [f64; 25]
+        ensures { result ≡ column_of (at_most24 self.now.chains.n) self.now.lu.matrix }
+    {
+        column(&self.lu.matrix, self.chains.count())
+    }
 
-// Column n of one rate, factored in place: whether its pivot is valid.
-pub fn factor_last(
-    n: usize,
-    dense: &[f64; 625],
-    interchanges: &[usize; 25],
-    last: &mut [f64; 25],
-) -> bool
-    ensures { (last.new ≡ factor_last (at_most24 n) dense.now interchanges.now last.old)
-        × (result ≡ valid_divisor (get_or last.new (at_most24 n) nan)) }
-{
-    let k = at_most_24(n);
-    lu_factor_last(dense, interchanges, last, k);
-    valid_divisor(last[k])
-}
+    // Column n of one rate, factored in place; refused where a divisor of the matrix with that column is zero or not finite.
+    pub fn factor_last(&self, last: &mut [f64; 25]) -> Result<(), SolveError>
+        ensures column { last.new ≡ factor_last (at_most24 self.now.chains.n) self.now.lu.matrix self.now.lu.interchanges last.old }
+        ensures divisors { answered result ≡ require (self.now.valid && valid_divisor (get_or last.new (at_most24 self.now.chains.n) nan)) divisor }
+    {
+        let n = self.chains.count();
+        self.lu.factor_last(last, n);
+        if self.valid & valid_divisor(last[n]) {
+            Ok(())
+        } else {
+            Err(SolveError::Divisor)
+        }
+    }
 
-// A right side without its load, reduced in place but for the last step of each chain; what that step subtracts goes to `inner`.
-pub fn reduce_base(
-    n: usize,
-    two_nodes: &[bool; 24],
-    diag: &[f64; 120],
-    prev: &[f64; 120],
-    b: &mut [f64; 121],
-    inner: &mut [f64; 24],
-)
-    ensures { (b.new ≡ reduce_chains (at_most24 n) two_nodes.now diag.now prev.now b.old)
-        × (inner.new ≡ inner_shares (at_most24 n) diag.now prev.now b.new inner.old) }
-{
-    let k = at_most_24(n);
-    reduce_chains(two_nodes, diag, prev, k, b);
-    inner_shares(diag, prev, b, k, inner);
-}
+    // A right side without its load, reduced in place but for the last step of each chain; what that step subtracts goes to `inner`.
+    pub fn reduce_base(&self, base: &mut RightSide)
+        ensures { base.new ≡ reduced_base self.now base.old }
+    {
+        let n = self.chains.count();
+        self.chains.reduce(n, &mut base.b);
+        self.chains.inner_shares(n, &base.b, &mut base.inner);
+    }
 
-// Of the dense part's right side v and a reduced right side, where the temperatures come to stand: 0, or 13.
-fn substitute_apart(
-    n: usize,
-    two_nodes: &[bool; 24],
-    diag: &[f64; 120],
-    next: &[f64; 120],
-    dense: &[f64; 625],
-    last: &[f64; 25],
-    interchanges: &[usize; 25],
-    v: &mut [f64; 25],
-    b: &mut [f64; 121],
-) -> u32
-    requires { n ≤ 24 }
-    ensures { solved result b.new
-        ≡ substitute_apart n two_nodes.now diag.now next.now dense.now last.now interchanges.now v.old b.old }
-{
-    lu_solve_apart(dense, last, interchanges, v, n);
-    scatter_dense(v, n, b);
-    back_substitute_chains(two_nodes, diag, next, n, b);
-    if nodes_within(two_nodes, b, n) {
-        0
-    } else {
-        TEMPERATURE
+    // The temperatures of a right side that is reduced.
+    #[tactic(auto, unfolding(crate::specs::Inner::Reduced::gather_reduced))]
+    fn substitute_reduced(
+        &self,
+        base: &RightSide,
+        last: &[f64; 25],
+        temps: &mut [f64; 121],
+    ) -> Result<(), SolveError>
+        ensures { solved (number_in result) temps.new ≡ substitute_apart (at_most24 self.now.chains.n) self.now.chains.two_nodes self.now.chains.diag
+            self.now.chains.next self.now.lu.matrix last.now self.now.lu.interchanges (gather_reduced (at_most24 self.now.chains.n) base.now.b base.now.inner) base.now.b }
+    {
+        let n = self.chains.count();
+        let mut v = [0.0; 25];
+        base.gather(n, &mut v);
+        *temps = base.b;
+        self.substitute_apart(n, last, &mut v, temps)
+    }
+
+    // The same with a load: gains at each inner surface, and the air's right side.
+    #[tactic(auto, unfolding(crate::specs::Inner::Reduced::gather_loaded))]
+    pub fn substitute_load(
+        &self,
+        base: &RightSide,
+        last: &[f64; 25],
+        gains: f64,
+        air: f64,
+        temps: &mut [f64; 121],
+    ) -> Result<(), SolveError>
+        ensures { solved (number_in result) temps.new ≡ substitute_apart (at_most24 self.now.chains.n) self.now.chains.two_nodes self.now.chains.diag
+            self.now.chains.next self.now.lu.matrix last.now self.now.lu.interchanges (gather_loaded (at_most24 self.now.chains.n) base.now.b base.now.inner gains air) base.now.b }
+    {
+        let n = self.chains.count();
+        let mut v = [0.0; 25];
+        base.gather_loaded(gains, air, n, &mut v);
+        *temps = base.b;
+        self.substitute_apart(n, last, &mut v, temps)
     }
 }
 
-// Of a right side that is reduced, in the place of which the temperatures come to stand: 0, or 13.
-fn substitute_reduced(
-    n: usize,
-    two_nodes: &[bool; 24],
-    diag: &[f64; 120],
-    next: &[f64; 120],
-    dense: &[f64; 625],
-    last: &[f64; 25],
-    interchanges: &[usize; 25],
-    inner: &[f64; 24],
-    b: &mut [f64; 121],
-) -> u32
-    ensures { solved result b.new
-        ≡ substitute_apart (at_most24 n) two_nodes.now diag.now next.now dense.now last.now interchanges.now (gather_reduced (at_most24 n) b.old inner.now) b.old }
+// All of it, of one right side, where the temperatures come to stand: the entry point that the Rust has. The zone calls its parts, as it solves for
+// several rates and loads. A refusal for a divisor leaves the right side as it was, one for a temperature the temperatures that were found.
+pub fn fast_solver(a: &Matrix, temps: &mut [f64; 121]) -> Result<(), SolveError>
+    ensures { solved (number_in result) temps.new ≡ fast_solver a.now temps.old }
 {
-    let k = at_most_24(n);
-    let mut v = [0.0; 25];
-    gather_reduced(b, inner, k, &mut v);
-    substitute_apart(
-        k,
-        two_nodes,
-        diag,
-        next,
-        dense,
-        last,
-        interchanges,
-        &mut v,
-        b,
-    )
-}
-
-// The same with a load.
-pub fn substitute_load(
-    n: usize,
-    two_nodes: &[bool; 24],
-    diag: &[f64; 120],
-    next: &[f64; 120],
-    dense: &[f64; 625],
-    last: &[f64; 25],
-    interchanges: &[usize; 25],
-    inner: &[f64; 24],
-    gains: f64,
-    air: f64,
-    b: &mut [f64; 121],
-) -> u32
-    ensures { solved result b.new
-        ≡ substitute_apart (at_most24 n) two_nodes.now diag.now next.now dense.now last.now interchanges.now (gather_loaded (at_most24 n) b.old inner.now gains air) b.old }
-{
-    let k = at_most_24(n);
-    let mut v = [0.0; 25];
-    gather_loaded(b, inner, gains, air, k, &mut v);
-    substitute_apart(
-        k,
-        two_nodes,
-        diag,
-        next,
-        dense,
-        last,
-        interchanges,
-        &mut v,
-        b,
-    )
-}
-
-// All of it, of one right side: the entry point that the Rust has. The zone calls its parts, as it solves for several rates and loads.
-pub fn fast_solver(a: Matrix, b: [f64; 121]) -> Solved
-    ensures { result ≡ fast_solver a b }
-{
-    let n = at_most_24(a.n);
-    let two_nodes = a.two_nodes;
-    let mut diag = a.diag;
-    let next = a.next;
-    let prev = a.prev;
-    let mut dense = a.dense;
-    let mut last = column(&dense, n);
-    let mut interchanges = [0; 25];
-    let divisors = factor_columns(
-        a.n,
-        &two_nodes,
-        &mut diag,
-        &next,
-        &prev,
-        &mut dense,
-        &mut interchanges,
-    );
-    let pivot = factor_last(a.n, &dense, &interchanges, &mut last);
-    let mut number = DIVISOR;
-    let mut temps = b;
-    if divisors & pivot {
-        let mut inner = [0.0; 24];
-        reduce_base(a.n, &two_nodes, &diag, &prev, &mut temps, &mut inner);
-        number = substitute_reduced(
-            a.n,
-            &two_nodes,
-            &diag,
-            &next,
-            &dense,
-            &last,
-            &interchanges,
-            &inner,
-            &mut temps,
-        );
-    }
-    Solved {
-        number: number,
-        temps: temps,
-    }
+    let mut factors = Factors {
+        chains: Chains {
+            n: a.n,
+            two_nodes: a.two_nodes,
+            diag: a.diag,
+            next: a.next,
+            prev: a.prev,
+        },
+        lu: Lu {
+            matrix: a.dense,
+            interchanges: [0; 25],
+        },
+        valid: false,
+    };
+    let mut last = factors.last_column();
+    factors.factor_columns();
+    factors.factor_last(&mut last)?;
+    let mut base = RightSide {
+        b: *temps,
+        inner: [0.0; 24],
+    };
+    factors.reduce_base(&mut base);
+    factors.substitute_reduced(&base, &last, temps)
 }

@@ -2,6 +2,7 @@
 #![tactic(auto)]
 
 mod above;
+mod asked;
 mod hours;
 mod nearest;
 mod numbers;

@@ -3,9 +3,10 @@ use Prim.Native.Nat.{ℕ, suc, ◌+◌, ◌≤◌, ◌<◌}
 use mathlib.Core.Path.{◌≡◌, refl, sym, ap, ◌∙◌}
 use mathlib.Core.Bool.{Bool, true, not}
 use mathlib.Core.List.{List, [], ◌∷◌, ◌++◌, append_assoc}
-use mathlib.Core.Option.{Option, none, some}
+use Rattle.std.specs.Prelude.{Option, Some, None, slice_get}
+use Rattle.std.proofs.lemmas.Option.{slice_get-get_or, slice_get_past}
 use native.Mathlib.Omega.{arith}
-use lib.ListN.{length, get_or, get_elem?, replicate}
+use lib.ListN.{length, get_or, replicate}
 use lib.Dec.{leb}
 use lib.Ieee.{Float, binary64, of_bits, round}
 use Rattle.zone.specs.Promise.{ok, refused, bind, require}
@@ -18,13 +19,20 @@ use Rattle.weather.specs.Lines.{without_return, line_of, field_of}
 use Rattle.weather.specs.Decimal.{Decimal, decimal_of, number, value, is}
 use Rattle.weather.specs.Weather.{present, tested, dry_bulb, radiation, weather_from, weather_in, weather_of}
 use Rattle.weather.specs.Claims.{joined, separated, all_without, tie, minus_zero, LineClaims, WeatherClaims}
-use Rattle.weather.proofs.Laws.Written.{at_inside, at_behind, line_behind, line_none, first_ended, last_ended, return_off_end, return_apart, split_separated}
-use Rattle.weather.proofs.Laws.Reading.{line_absent, line_present}
+use Rattle.weather.proofs.Laws.Written.{line_behind, line_none, first_ended, last_ended, return_off_end, return_apart, split_separated}
 use Rattle.weather.proofs.Laws.Every.{every_file, every_line}
 use Rattle.weather.proofs.Examples.{field_examples, file_example}
 use Rattle.weather.proofs.Laws.Decimals.{written_read, read_written}
 
 -- ---- lines
+
+line_absent : (file : List ℕ) (line : ℕ) → line_of file line ≡ None → weather_of file line ≡ refused absent 0
+unfolding weather_of
+line_absent file line e = rw e refl
+
+line_present : (file : List ℕ) (line : ℕ) (l : List ℕ) → line_of file line ≡ Some l → weather_of file line ≡ weather_in l
+unfolding weather_of
+line_present file line l e = rw e refl
 
 module _ (earlier : List (List ℕ)) (n : ℕ) (apart : all_without line_feed earlier ≡ true) (many : length earlier ≡ header_lines + n) (line : List ℕ) (one : without line_feed line ≡ true) where
   fed : (rest : List ℕ) → weather_of (joined earlier ++ line ++ line_feed ∷ rest) (suc n) ≡ weather_in (without_return line)
@@ -78,24 +86,24 @@ fields_read : (fields : List (List ℕ)) → all_without comma fields ≡ true �
 unfolding weather_in field_of
 fields_read [] h l = absurd (omega (arith, l))
 fields_read (f ∷ fs) h l =
-    rw (split_separated f fs h, at_inside (f ∷ fs) 6 [] (omega (arith, l)), at_inside (f ∷ fs) 14 [] (omega (arith, l)), at_inside (f ∷ fs) 15 [] (omega (arith, l)))
+    rw (split_separated f fs h, slice_get-get_or (f ∷ fs) 6 [] (omega (arith, l)), slice_get-get_or (f ∷ fs) 14 [] (omega (arith, l)), slice_get-get_or (f ∷ fs) 15 [] (omega (arith, l)))
     refl
 
 -- a line whose sixteenth field is absent
-few : (a b c : Option (List ℕ)) → c ≡ none
+few : (a b c : Option (List ℕ)) → c ≡ None
     → bind (present absent a) (λ seventh. bind (present absent b) λ fifteenth. bind (present absent c) λ sixteenth. weather_from seventh fifteenth sixteenth) ≡ refused absent 0
-few none b c e = refl
-few (some s) none c e = refl
-few (some s) (some f) c e = rw e refl
+few None b c e = refl
+few (Some s) None c e = refl
+few (Some s) (Some f) c e = rw e refl
 
 few_in : (line : List ℕ) (ps : List (List ℕ)) → split comma line ≡ ps → length ps < 16 → weather_in line ≡ refused absent 0
 unfolding weather_in field_of
 few_in line ps e l =
     few (field_of line dry_bulb_field) (field_of line direct_normal_field) (field_of line diffuse_horizontal_field)
-    (ap (λ (p : List (List ℕ)). get_elem? p 15) e ∙ at_behind ps 15 (omega (arith, l)))
+    (ap (λ (p : List (List ℕ)). slice_get p 15) e ∙ slice_get_past ps 15 (omega (arith, l)))
 
 few_fields : (fields : List (List ℕ)) → all_without comma fields ≡ true → length fields < 16 → weather_in (separated fields) ≡ refused absent 0
-unfolding separated split
+unfolding separated
 few_fields [] h l = few_in [] ([] ∷ []) refl (omega arith)
 few_fields (f ∷ fs) h l = few_in (separated (f ∷ fs)) (f ∷ fs) (split_separated f fs h) l
 

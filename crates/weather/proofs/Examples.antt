@@ -3,14 +3,13 @@ use mathlib.Core.Path.{refl}
 use lib.Ieee.{of_bits, neg, round, le}
 use Rattle.solver.specs.F64.{decimal}
 use Rattle.zone.specs.Check.Ranges.{temperature_range, irradiance_range}
-use Rattle.weather.specs.Split.{split}
-use Rattle.weather.specs.Lines.{without_return, ended, lines, line_of, field_of}
-use Rattle.weather.specs.Decimal.{all_digits, is_digits, unsigned, decimal_of, number, value, is}
+use Rattle.weather.specs.Lines.{ended, lines, line_of, field_of}
+use Rattle.weather.specs.Decimal.{unsigned, decimal_of, number, value, is}
 use Rattle.weather.specs.Weather.{tested, weather_from, weather_in, weather_of}
 use Rattle.weather.specs.Examples.{FieldExamples, FileExample}
 
 pub field_examples : FieldExamples
-unfolding tested decimal_of unsigned split all_digits is_digits number value is temperature_range irradiance_range of_bits decimal round neg le
+unfolding tested decimal_of unsigned number value is temperature_range irradiance_range of_bits decimal round neg le
 field_examples =
     record {
       dry_bulb_1 = refl;
@@ -41,5 +40,5 @@ field_examples =
     }
 
 pub file_example : FileExample
-unfolding weather_of weather_in weather_from line_of lines ended without_return field_of tested decimal_of unsigned split all_digits is_digits number value is temperature_range irradiance_range of_bits decimal round neg le
+unfolding weather_of weather_in weather_from line_of lines ended field_of tested decimal_of unsigned number value is temperature_range irradiance_range of_bits decimal round neg le
 file_example = record { line_1 = refl; line_2 = refl }

@@ -6,5 +6,5 @@ pub mod Written
 pub mod Decimals
 pub mod Unsigned
 pub mod Fields
-pub mod Reading
+pub mod Ranges
 pub mod Every

@@ -2,7 +2,7 @@
 use Prim.Native.Nat.{ℕ}
 use mathlib.Core.Bool.{Bool, not}
 use mathlib.Core.List.{List}
-use mathlib.Core.Option.{Option, none, some}
+use Rattle.std.specs.Prelude.{Option, Some, None}
 use lib.ListN.{length}
 use lib.Dec.{leb}
 use lib.Ieee.{Float}
@@ -16,8 +16,8 @@ use Rattle.weather.specs.Weather.{present, tested, weather_from, weather_in, wea
 use Rattle.weather.specs.Refusals.{WeatherRefusal, weather_absent, weather_invalid, weather_missing, WeatherRefusals}
 
 present_refuses : {P : ℕ → ℕ → Type 0} {A : Type 0} (number : ℕ) (o : Option A) → P number 0 → RefusesOnly P (present number o)
-present_refuses number (some a) p = accepts a
-present_refuses number none p = refuses p
+present_refuses number (Some a) p = accepts a
+present_refuses number None p = refuses p
 
 -- a field: 22 and 23
 tested_refuses : (is_missing : Decimal → Bool) (range : Float → Bool) (field : List ℕ) → RefusesOnly WeatherRefusal (tested is_missing range field)

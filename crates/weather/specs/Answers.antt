@@ -1,8 +1,16 @@
--- What the function answers, for what the definition says: the three numbers, or number and index of a refusal.
+-- What an answer of the code says: a value, or number and index of a refusal.
+use Rattle.std.specs.Prelude.{ℕ, Ok, Err}
+use Rattle.std.specs.Prelude.{Result as Answer}
 use Rattle.zone.specs.Promise.{Result, ok, refused}
-use Rattle.weather.specs.declared.replies.Weather.{Weather}
-use Rattle.weather.specs.declared.replies.WeatherReply.{WeatherReply}
+use Rattle.weather.specs.declared.replies.WeatherError.{WeatherError}
+use Rattle.weather.specs.declared.replies.WeatherError.TheVariants.{Absent, Invalid, Missing}
+use Rattle.weather.specs.Numbers.{absent, invalid, missing}
 
-abbrev pub weather_reply : Result Weather → WeatherReply
-weather_reply (ok w) = WeatherReply.Accepted w
-weather_reply (refused number index) = WeatherReply.Refused number index
+abbrev pub number_of : WeatherError → ℕ
+number_of Absent = absent
+number_of Invalid = invalid
+number_of Missing = missing
+
+abbrev pub answer_of : {A : Type 0} → Answer A WeatherError → Result A
+answer_of (Ok value) = ok value
+answer_of (Err error) = refused (number_of error) 0

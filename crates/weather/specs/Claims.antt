@@ -1,6 +1,5 @@
 -- What is claimed of the weather of a line: a file that is written as the paper says is read so.
-use Rattle.std.specs.Prelude.{ℕ, suc, ◌+◌, ◌≤◌, ◌<◌, ◌≡◌, ◌↔◌, Bool, true, false, ◌&&◌, List, [], ◌∷◌, ◌++◌, length, get_or, replicate}
-use Rattle.std.proofs.Math.Option.{some}
+use Rattle.std.specs.Prelude.{ℕ, suc, ◌+◌, ◌≤◌, ◌<◌, ◌≡◌, ◌↔◌, Bool, true, false, ◌&&◌, List, [], ◌∷◌, ◌++◌, length, get_or, replicate, Some}
 use Rattle.std.specs.Float.{binary64}
 use Rattle.std.specs.Float.Ieee.{of_bits}
 use Rattle.zone.specs.Promise.{ok, refused}
@@ -90,7 +89,7 @@ pub record WeatherClaims : Type 0 where
       → weather_in (separated fields) ≡ weather_from (get_or fields 6 []) (get_or fields 14 []) (get_or fields 15 [])
   pub few_fields : (fields : List (List ℕ)) → all_without comma fields ≡ true → length fields < 16 → weather_in (separated fields) ≡ refused 21 0
   -- A decimal is read exactly where one is written, and as it is written.
-  pub decimals : (field : List ℕ) (d : Decimal) → (decimal_of field ≡ some d) ↔ Written field d
+  pub decimals : (field : List ℕ) (d : Decimal) → (decimal_of field ≡ Some d) ↔ Written field d
   -- "ties to even", below and above; "a minus stays on a zero"
   pub tie_below : value (tie 51) ≡ of_bits binary64 0x4340_0000_0000_0000
   pub tie_above : value (tie 53) ≡ of_bits binary64 0x4340_0000_0000_0002

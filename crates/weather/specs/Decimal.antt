@@ -1,6 +1,6 @@
 -- Written decimals and their values.
-use Rattle.std.specs.Prelude.{ℕ, ◌+◌, ◌-◌, ◌*◌, ◌^◌, Bool, true, false, not, cond, ◌&&◌, List, [], ◌∷◌, ◌++◌, length, leb, eqb, Float}
-use Rattle.std.proofs.Math.Option.{Option, none, some}
+use Rattle.std.specs.Prelude.{ℕ, ◌+◌, ◌-◌, ◌*◌, ◌^◌, Bool, true, false, not, cond, ◌&&◌, List, [], ◌∷◌, ◌++◌, length, leb, eqb, ◌==◌, Float, Option, Some, None}
+use Rattle.std.specs.List.{list_all}
 use Rattle.std.specs.Float.{binary64}
 use Rattle.std.specs.Float.Ieee.{round}
 use Rattle.weather.specs.Numbers.{minus_sign, point, digit0, digit9}
@@ -17,27 +17,24 @@ pub record Decimal : Type 0 where
 abbrev pub is_digit : ℕ → Bool
 is_digit b = leb digit0 b && leb b digit9
 
-unfoldable pub all_digits : List ℕ → Bool
-all_digits [] = true
-all_digits (b ∷ bs) = is_digit b && all_digits bs
+abbrev pub all_digits : List ℕ → Bool
+all_digits bs = list_all is_digit bs
 
 -- one digit or more
-unfoldable pub is_digits : List ℕ → Bool
-unfolding all_digits
-is_digits [] = false
-is_digits (b ∷ bs) = all_digits (b ∷ bs)
+abbrev pub is_digits : List ℕ → Bool
+is_digits bs = not (length bs == 0) && all_digits bs
 
 -- "digits, and perhaps a point with digits after it", from what points split it into
 unfoldable pub unsigned : (minus : Bool) → List (List ℕ) → Option Decimal
-unsigned minus [] = none
-unsigned minus (whole ∷ []) = cond (is_digits whole) (some (record { minus = minus; digits = whole; places = 0 })) none
+unsigned minus [] = None
+unsigned minus (whole ∷ []) = cond (is_digits whole) (Some (record { minus = minus; digits = whole; places = 0 })) None
 unsigned minus (whole ∷ fraction ∷ []) =
-    cond (is_digits whole && is_digits fraction) (some (record { minus = minus; digits = whole ++ fraction; places = length fraction })) none
-unsigned minus (whole ∷ fraction ∷ third ∷ others) = none
+    cond (is_digits whole && is_digits fraction) (Some (record { minus = minus; digits = whole ++ fraction; places = length fraction })) None
+unsigned minus (whole ∷ fraction ∷ third ∷ others) = None
 
 -- "A decimal is a minus or none, digits, and perhaps a point with digits after it."
 unfoldable pub decimal_of : (field : List ℕ) → Option Decimal
-decimal_of [] = none
+decimal_of [] = None
 decimal_of (b ∷ bs) = cond (eqb b minus_sign) (unsigned true (split point bs)) (unsigned false (split point (b ∷ bs)))
 
 -- the number that digits write, the highest first

@@ -1,17 +1,12 @@
 -- What stands between the separators of a byte string.
-use Rattle.std.specs.Prelude.{ℕ, Bool, true, not, cond, ◌&&◌, List, [], ◌∷◌, eqb}
-
--- a byte before the first of some pieces
-abbrev pub onto : ℕ → List (List ℕ) → List (List ℕ)
-onto b [] = (b ∷ []) ∷ []
-onto b (piece ∷ pieces) = (b ∷ piece) ∷ pieces
+use Rattle.std.specs.Prelude.{ℕ, Bool, true, not, ◌&&◌, ◌==◌, List, [], ◌∷◌}
+use Rattle.std.specs.List.{slice_split}
 
 -- The pieces that the separator splits bytes into, empty ones too: one more than it has separators.
-unfoldable pub split : (separator : ℕ) → List ℕ → List (List ℕ)
-split c [] = [] ∷ []
-split c (b ∷ bs) = let pieces = split c bs in cond (eqb b c) ([] ∷ pieces) (onto b pieces)
+abbrev pub split : (separator : ℕ) → List ℕ → List (List ℕ)
+split c bs = slice_split (λ b. b == c) bs
 
 -- none of the bytes is the separator
 unfoldable pub without : (separator : ℕ) → List ℕ → Bool
 without c [] = true
-without c (b ∷ bs) = not (eqb b c) && without c bs
+without c (b ∷ bs) = not (b == c) && without c bs

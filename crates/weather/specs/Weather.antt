@@ -1,6 +1,5 @@
 -- Document 02 (f), "Weather from EPW files": the three numbers of a chosen line.
-use Rattle.std.specs.Prelude.{ℕ, Bool, not, List, length, leb, Float}
-use Rattle.std.proofs.Math.Option.{Option, none, some}
+use Rattle.std.specs.Prelude.{ℕ, Bool, not, List, length, leb, Float, Option, Some, None}
 use Rattle.zone.specs.Promise.{Result, ok, refused, bind, require}
 use Rattle.zone.specs.Check.Ranges.{temperature_range, irradiance_range}
 use Rattle.weather.specs.declared.replies.Weather.{Weather}
@@ -10,8 +9,8 @@ use Rattle.weather.specs.Decimal.{Decimal, decimal_of, value, is}
 
 -- goes on with what is there, else refuses
 abbrev pub present : {A : Type 0} → (number : ℕ) → Option A → Result A
-present number (some a) = ok a
-present number none = refused number 0
+present number (Some a) = ok a
+present number None = refused number 0
 
 -- "22, not a decimal, more than 12 digits or outside document 01's range; 23, missing", "which is tested just before the range"
 unfoldable pub tested : (is_missing : Decimal → Bool) → (range : Float → Bool) → (field : List ℕ) → Result Float

@@ -2,12 +2,12 @@
 #![tactic(auto)]
 
 mod decimal;
-mod field;
+mod fraction;
 mod lines;
 mod numbers;
+mod quantity;
 mod replies;
-mod split;
 mod weather;
 
-pub use replies::{Weather, WeatherReply};
+pub use replies::{Weather, WeatherError};
 pub use weather::read_weather;

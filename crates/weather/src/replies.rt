@@ -1,4 +1,6 @@
-// What a weather file says of an hour, and what is answered.
+// What a weather file says of an hour, and why it is refused.
+ghost use Rattle.std.specs.Prelude.{◌≡◌};
+ghost use Rattle.weather.specs.Answers.{number_of};
 
 // Dry bulb temperature in °C, direct normal and diffuse horizontal radiation in Wh/m².
 #[derive(Clone, Copy)]
@@ -8,8 +10,21 @@ pub struct Weather {
     pub diffuse_horizontal: f64,
 }
 
-#[derive(Clone, Copy)]
-pub enum WeatherReply {
-    Accepted(Weather),
-    Refused { number: u32, index: usize },
+// Each has its number of document 02.
+#[derive(Clone, Copy, Debug, PartialEq, Eq)]
+pub enum WeatherError {
+    // The line or one of the three fields is absent.
+    Absent = 21,
+    // Not a decimal, more than 12 digits, or out of range.
+    Invalid = 22,
+    // 99.9 for a dry bulb, 9999 for a radiation.
+    Missing = 23,
+}
+
+impl WeatherError {
+    pub fn number(self) -> u32
+        ensures { result ≡ number_of self }
+    {
+        self as u32
+    }
 }

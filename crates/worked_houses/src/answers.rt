@@ -1,92 +1,91 @@
-// The three questions over a book (document 02 (c)), a row for each: what is answered, and what is expected. An answer
-// stands in one number, so that two of them are compared at once: an hour, or a count of hours, as it is, then none, and
-// a refusal with its number above its index.
-use crate::table::{column, refusal_column, text, verdict};
+// The three questions over a book (document 02 (c)), a row for each: what is answered, and what is expected.
+use crate::refusal::Refusal;
+use crate::table::row;
+use std::fmt::{self, Display};
 use std::io;
 use tools::{HourReply, HoursReply};
 
-pub const NONE: u64 = 4294967295;
-
-pub fn refused(number: u64, index: u64) -> u64 {
-    number << 32 | index
+#[derive(Clone, Copy, PartialEq, Eq)]
+pub enum Answer {
+    Hour(usize),
+    NoHour,
+    // How many hours.
+    Hours(usize),
+    Refused(Refusal),
 }
 
-fn of_hour(r: HourReply) -> u64 {
-    match r {
-        HourReply::Hour(hour) => hour as u64,
-        HourReply::NoHour => NONE,
-        HourReply::Refused { number, index } => refused(number as u64, index as u64),
+// The questions' own replies have no equality, and are no results.
+impl From<HourReply> for Answer {
+    fn from(reply: HourReply) -> Answer {
+        match reply {
+            HourReply::Hour(hour) => Answer::Hour(hour),
+            HourReply::NoHour => Answer::NoHour,
+            HourReply::Refused { number, index } => Answer::Refused(Refusal { number, index }),
+        }
     }
 }
 
-fn of_hours(r: HoursReply) -> u64 {
-    match r {
-        HoursReply::Hours(hours) => hours as u64,
-        HoursReply::Refused { number, index } => refused(number as u64, index as u64),
+impl From<HoursReply> for Answer {
+    fn from(reply: HoursReply) -> Answer {
+        match reply {
+            HoursReply::Hours(hours) => Answer::Hours(hours),
+            HoursReply::Refused { number, index } => Answer::Refused(Refusal { number, index }),
+        }
     }
 }
 
-// In a column of eighteen.
-fn print_answer(rt: &impl Print, x: u64) -> io::Result<()> {
-    if x < NONE {
-        return column(rt, x);
+impl Display for Answer {
+    fn fmt<W: fmt::Write>(&self, f: &mut fmt::Formatter<W>) -> fmt::Result {
+        match self {
+            Answer::Hour(number) | Answer::Hours(number) => Display::fmt(number, f),
+            Answer::NoHour => f.pad("none"),
+            Answer::Refused(refusal) => Display::fmt(refusal, f),
+        }
     }
-    if x == NONE {
-        return text(rt, b"              none");
-    }
-    refusal_column(rt, x >> 32, x % 4294967296)
-}
-
-fn row(rt: &impl Print, asked: &[u8], came: u64, expected: u64) -> io::Result<()> {
-    text(rt, asked)?;
-    print_answer(rt, came)?;
-    print_answer(rt, expected)?;
-    text(rt, b"             ")?;
-    verdict(rt, came == expected)
 }
 
 pub fn above(
     rt: &impl Print,
-    asked: &[u8],
-    bytes: &[u8],
+    asked: &str,
+    book: &[u8],
     value: f64,
-    expected: u64,
+    expected: Answer,
 ) -> io::Result<()> {
     row(
         rt,
         asked,
-        of_hour(tools::first_above(bytes, value)),
+        Answer::from(tools::first_above(book, value)),
         expected,
     )
 }
 
 pub fn within(
     rt: &impl Print,
-    asked: &[u8],
-    bytes: &[u8],
+    asked: &str,
+    book: &[u8],
     lower: f64,
     upper: f64,
-    expected: u64,
+    expected: Answer,
 ) -> io::Result<()> {
     row(
         rt,
         asked,
-        of_hours(tools::hours_within(bytes, lower, upper)),
+        Answer::from(tools::hours_within(book, lower, upper)),
         expected,
     )
 }
 
 pub fn nearest(
     rt: &impl Print,
-    asked: &[u8],
-    bytes: &[u8],
+    asked: &str,
+    book: &[u8],
     value: f64,
-    expected: u64,
+    expected: Answer,
 ) -> io::Result<()> {
     row(
         rt,
         asked,
-        of_hour(tools::nearest_hour(bytes, value)),
+        Answer::from(tools::nearest_hour(book, value)),
         expected,
     )
 }

@@ -1,27 +1,30 @@
-// Limits of a plant, W, as the rows hand them over.
+// How an hour is met: in which entry version, and by a plant with which limits, W.
 use zone::Limits;
 
-// The greatest that a limit may be.
+// The greatest that a limit may be; no plant of the rows needs as much.
 pub const MOST: f64 = 1e7;
 
-pub fn limits(heating: f64, cooling: f64) -> Limits {
-    Limits { heating, cooling }
+#[derive(Clone, Copy)]
+pub struct Meeting {
+    pub version: u64,
+    pub limits: Limits,
 }
 
-pub fn both(x: f64) -> Limits {
-    limits(x, x)
-}
+impl Meeting {
+    pub fn with(version: u64, heating: f64, cooling: f64) -> Meeting {
+        Meeting {
+            version,
+            limits: Limits { heating, cooling },
+        }
+    }
 
-// No plant of the rows needs as much.
-pub fn wide() -> Limits {
-    both(MOST)
-}
+    // Of version 3.
+    pub fn limited(heating: f64, cooling: f64) -> Meeting {
+        Meeting::with(3, heating, cooling)
+    }
 
-pub fn not_a_number() -> f64 {
-    0.0 / 0.0
-}
-
-// What an hour of version 1 or 2 is given, which has no limits: neither tested nor used.
-pub fn not_looked_at() -> Limits {
-    both(not_a_number())
+    // Of version 1 or 2, which has no limits: what is handed over is neither tested nor used.
+    pub fn unlimited(version: u64) -> Meeting {
+        Meeting::with(version, f64::NAN, f64::NAN)
+    }
 }

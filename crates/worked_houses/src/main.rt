@@ -1,6 +1,6 @@
-// Worked houses, row by row: what is asked, what came and what is expected. A value is given by its bits, with what
-// is expected in words; a value with nothing to be laid beside by its bits, with decimals before them; a refusal by its
-// number, 0 for none.
+// The program worked_houses: houses worked out by hand, row by row, what is asked, what came and what is expected. A value is given by
+// its bits, with what is expected in words; a value with nothing to be laid beside by its bits, with decimals before them; a refusal by its
+// number, 0 for none. A call that refuses where nothing is said of it ends the program with that refusal.
 //
 // First House P of document 01, then its hours in version 3 with limits, worked out by hand. Then a room with a chilled
 // ceiling: a warm hour is asked, and met in version 1 and in version 2. By the heating fraction the room is left too warm, by
@@ -12,25 +12,25 @@
 #![tactic(auto)]
 
 mod answers;
-mod bytes;
 mod chilled_ceiling;
 mod convection;
 mod house_p;
 mod limits;
+mod refusal;
 mod replies;
 mod table;
 mod why;
+mod zone_read;
 
 use chilled_ceiling::{books, hours, limit_books, limit_values, limited, questions, room, unknown};
 use convection::rows as surface_rows;
 use house_p::{
     book_rows, limited as limited_hours, questions as hours_asked, rows, surface_convection,
 };
-use std::io;
 use why::{bases, close, coarse, found, lost_load, order, reasons, refusals, temperatures};
 
-fn print_house_p(rt: &impl Print) -> io::Result<()> {
-    table::heading(rt, b"House P\n")?;
+fn print_house_p(rt: &impl Print) -> anyhow::Result<()> {
+    table::heading(rt, "House P")?;
     rows::print_zone(rt)?;
     surface_convection::print_h_ci(rt)?;
     rows::print_rates(rt)?;
@@ -39,38 +39,31 @@ fn print_house_p(rt: &impl Print) -> io::Result<()> {
     hours_asked::print_questions(rt)
 }
 
-fn print_chilled_ceiling(rt: &impl Print) -> io::Result<()> {
-    let h = room::head();
-    let mut codes = [0; 72];
-    let mut values = [0.0; 600];
-    let read = zone::read_head(&h, &mut codes, &mut values);
-    let z = read.zone;
-    table::heading(rt, b"\nA room with a chilled ceiling\n")?;
-    let start = hours::print_start(rt, z, &codes, &values)?;
-    hours::print_warm(rt, z, &codes, &values, start)?;
-    hours::print_cold(rt, z, &codes, &values, start)?;
-    books::print_books(rt, z, &codes, &values, &h, start)?;
-    unknown::print_unknown(rt, z, &codes, &values, &h, start)?;
-    limited::print_warm(rt, z, &codes, &values, start)?;
-    limited::print_cold(rt, z, &codes, &values, start)?;
-    limited::print_earlier(rt, z, &codes, &values, start)?;
-    limit_values::print_values(rt, z, &codes, &values, &h, start)?;
-    limit_books::print_books(rt, z, &codes, &values, &h, start)?;
-    questions::print_questions(rt, z, &codes, &values, &h)
+fn print_chilled_ceiling(rt: &impl Print) -> anyhow::Result<()> {
+    let head = room::head();
+    table::heading(rt, "\nA room with a chilled ceiling")?;
+    let room = hours::print_start(rt, &head)?;
+    hours::print_hours(rt, &room)?;
+    books::print_books(rt, &room)?;
+    unknown::print_unknown(rt, &room)?;
+    limited::print_limited(rt, &room)?;
+    limit_values::print_values(rt, &room)?;
+    limit_books::print_books(rt, &room)?;
+    questions::print_questions(rt, &room.zone)
 }
 
-fn print_convection(rt: &impl Print) -> io::Result<()> {
+fn print_convection(rt: &impl Print) -> anyhow::Result<()> {
     table::heading(
         rt,
-        b"\nRooms of six surfaces, and what their air gives to them by direction of heat flow\n",
+        "\nRooms of six surfaces, and what their air gives to them by direction of heat flow",
     )?;
     surface_rows::print_rooms(rt)
 }
 
-fn print_why(rt: &impl Print) -> io::Result<()> {
+fn print_why(rt: &impl Print) -> anyhow::Result<()> {
     table::heading(
         rt,
-        b"\nA room with windows, and why its hours have their rate and their load\n",
+        "\nA room with windows, and why its hours have their rate and their load",
     )?;
     temperatures::print_temperatures(rt)?;
     reasons::print_reasons(rt)?;
@@ -83,7 +76,7 @@ fn print_why(rt: &impl Print) -> io::Result<()> {
     refusals::print_refusals(rt)
 }
 
-fn main(rt: HostRuntime) -> io::Result<()> {
+fn main(rt: HostRuntime) -> anyhow::Result<()> {
     print_house_p(&rt)?;
     print_chilled_ceiling(&rt)?;
     print_convection(&rt)?;

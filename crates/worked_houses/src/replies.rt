@@ -1,38 +1,99 @@
-// What a call on a book is given, and a verdict as number and index.
-use book::BookState;
-use zone::{State, Verdict};
+// What a call on a book is given, and the rows of what it hands back.
+use crate::refusal::{Cause, Refusal, outcome};
+use crate::table::row;
+use book::{BookState, Reply};
+use std::io;
+use zone::State;
+
+// What is said of a book beside its state's temperatures.
+#[derive(Clone, Copy)]
+pub struct Counts {
+    pub entries: usize,
+    pub used: usize,
+    pub last_version: u64,
+}
 
 // What no call on these books hands back, so that what was given can be told from what was found.
-pub const MADE_UP_VERSION: u64 = 77;
-
-pub const MADE_UP_COUNT: usize = 9999;
-
-pub const MADE_UP_USED: usize = 79;
+pub const MADE_UP: Counts = Counts {
+    entries: 9999,
+    used: 79,
+    last_version: 77,
+};
 
 pub fn nothing() -> BookState {
-    let state = State {
-        nodes: 0,
-        temps: [0.0; 121],
-    };
     BookState {
-        state,
-        count: MADE_UP_COUNT,
-        used: MADE_UP_USED,
-        last_version: MADE_UP_VERSION,
+        state: State {
+            nodes: 0,
+            temps: [0.0; 121],
+        },
+        count: MADE_UP.entries,
+        used: MADE_UP.used,
+        last_version: MADE_UP.last_version,
     }
 }
 
-// 0 for none.
-pub fn verdict_number(v: Verdict) -> u64 {
-    match v {
-        Verdict::Refused { number, index: _ } => number as u64,
-        Verdict::Accepted => 0,
+pub fn taken_up(bytes: &[u8]) -> Reply {
+    book::take_up(nothing(), bytes)
+}
+
+// The number of a refusal, 0 for none.
+pub fn number_of<T>(outcome: &Result<T, Refusal>) -> u32 {
+    match outcome {
+        Ok(_) => 0,
+        Err(refusal) => refusal.number,
     }
 }
 
-pub fn verdict_index(v: Verdict) -> u64 {
-    match v {
-        Verdict::Refused { number: _, index } => index as u64,
-        Verdict::Accepted => 0,
+fn index_of<T>(outcome: &Result<T, Refusal>) -> usize {
+    match outcome {
+        Ok(_) => 0,
+        Err(refusal) => refusal.index,
+    }
+}
+
+pub fn print_outcome<T>(
+    rt: &impl Print,
+    came: &Result<T, Refusal>,
+    expected: Result<(), Refusal>,
+) -> io::Result<()> {
+    row(rt, "  refusal", number_of(came), number_of(&expected))?;
+    row(rt, "  index", index_of(came), index_of(&expected))
+}
+
+impl Counts {
+    pub fn print(self, rt: &impl Print, came: BookState) -> io::Result<()> {
+        row(rt, "  entries", came.count, self.entries)?;
+        row(rt, "  used bytes", came.used, self.used)?;
+        row(rt, "  last version", came.last_version, self.last_version)
+    }
+}
+
+// What is expected of a call on a book.
+#[derive(Clone, Copy)]
+pub struct Expected {
+    outcome: Result<(), Refusal>,
+    counts: Counts,
+}
+
+impl Counts {
+    pub fn accepted(self) -> Expected {
+        Expected {
+            outcome: Ok(()),
+            counts: self,
+        }
+    }
+
+    pub fn refused(self, cause: Cause, index: usize) -> Expected {
+        Expected {
+            outcome: Err(cause.at(index)),
+            counts: self,
+        }
+    }
+}
+
+impl Expected {
+    pub fn print(self, rt: &impl Print, came: Reply) -> io::Result<()> {
+        print_outcome(rt, &outcome(came.verdict), self.outcome)?;
+        self.counts.print(rt, came.values)
     }
 }

@@ -5,21 +5,21 @@ pub use Rattle.solver.proofs.Laws.Result.{bind_is, bind_ok, require_ok, ok_inj, 
 pub use Rattle.solver.proofs.Laws.Refusals.{bind_refuses, refusal_by, refuses_also, test_refuses}
 pub use Rattle.solver.proofs.Laws.Tests.{and_true}
 pub use Rattle.zone.proofs.Laws.Accepted.{conditions_length_lem, count_few, temps_length}
-pub use Rattle.zone.proofs.Laws.Answers.{demand_no, demand_yes, hour_no, hour_yes, operative_no, operative_yes, start_no, start_yes, update_no, update_yes, why_no, why_yes}
-pub use Rattle.zone.proofs.Laws.Arrays.{floats_length}
+pub use Rattle.zone.proofs.Laws.Answers.{answered_no, answered_yes, hour_no, hour_yes, update_no, update_yes}
+pub use Rattle.zone.proofs.Laws.Decoded.{floats_length}
 pub use Rattle.zone.proofs.Laws.Element.{nodes_few}
 pub use Rattle.zone.proofs.Laws.Fits.{hour_behind, hour_fits, hour_nodes}
-pub use Rattle.zone.proofs.Laws.HeadAnswers.{apart, head_no, head_yes, same_refusal}
+pub use Rattle.zone.proofs.Laws.HeadAnswers.{head_no, head_yes}
 pub use Rattle.zone.proofs.Laws.Kept.{none_kept_in}
 pub use Rattle.zone.proofs.Laws.Limits.{limits_back, limits_length_lem, same_limits}
-pub use Rattle.zone.proofs.Laws.Lists.{drop_replicate, from, none_left}
+pub use Rattle.zone.proofs.Laws.Lists.{drop_replicate}
 pub use Rattle.zone.proofs.Laws.NextHour.{next_then}
 pub use Rattle.zone.proofs.Laws.NextKept.{next_kept}
-pub use Rattle.zone.proofs.Laws.Nan.{alike_no_nan, differs_nan, no_nan}
+pub use Rattle.zone.proofs.Laws.Nan.{nan_only}
 pub use Rattle.zone.proofs.Laws.Refusals.{because}
 pub use Rattle.zone.proofs.Laws.RoundTrip.{row_back}
 pub use Rattle.zone.proofs.Laws.StructuredHead.{head_as_tested, head_fails, head_judged, head_passes, head_then_test, head_wrong, structured_counts, structured_few, structured_within}
 pub use Rattle.zone.proofs.Laws.StructuredHead.{demand_judges, hour_judges, operative_judges, start_up_judges, update_judges, why_judges}
 pub use Rattle.zone.proofs.Laws.Versions.{hour_version_bounds, hour_version_not}
-pub use Rattle.zone.proofs.Laws.Ranges.{counts_few, verdict_accepted, verdict_refused}
+pub use Rattle.zone.proofs.Laws.Ranges.{counts_few}
 pub use Rattle.zone.proofs.Claims.ForBook.{length_bytes_of, length_row, node_count_few, tested_few}

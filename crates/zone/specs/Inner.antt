@@ -1,8 +1,6 @@
 -- Words that only contracts need, of private functions and of those that one layer calls of the other: the code's split of a calculation. Nobody has to
 -- believe them: a law ties each to a definition outside, and no definition outside cites them.
-pub mod Verdict
-pub mod Lent
-pub mod Arrays
+pub mod Counted
 pub mod Head
 pub mod NextHour
 pub mod Assembly
@@ -12,6 +10,8 @@ pub mod ConvectiveSums
 pub mod Operative
 pub mod Prepared
 pub mod Kept
+pub mod KeptMatrix
+pub mod PreparedHour
 pub mod Demand
 pub mod Solves
 pub mod Hour

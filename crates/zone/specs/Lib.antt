@@ -4,6 +4,7 @@ pub mod Check
 pub mod Physics
 pub mod Claims
 pub mod Calls
+pub mod Answers
 pub mod Hour
 pub mod Inner
 pub mod Promise

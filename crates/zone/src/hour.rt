@@ -1,7 +1,8 @@
 // An hour's solves: ventilation, load and demand.
-pub mod cooling_potential;
+pub mod control;
+mod cooling_potential;
 pub mod delivered;
-pub mod demand;
+mod demand;
 pub mod free;
 pub mod hour;
 pub mod hour_kept;

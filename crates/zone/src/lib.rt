@@ -9,16 +9,14 @@ mod physics;
 mod record;
 
 pub use calls::start_up::{init_node_temps, start_up_lent};
-pub use calls::state::{
-    AchToTriggerHeating, Demand, DemandAnswer, DemandReply, HourAnswer, HourStepReply, Load,
-    OperativeReply, Reason, StartUp, State, UpdateAnswer, UpdateReply, WhyReply,
-};
+pub use calls::state::{Demand, Load, Reason, Reply, State};
 pub use check::versions::{has_limits, hour_version};
 pub use check::zone_tests::zone_test;
 pub use format::conditions::AirChangesPerHourArgument;
-pub use format::head::{Head, read_head};
+pub use format::head::read_head;
 pub use format::limits::{Limits, read_limits};
 pub use format::temperatures::read_temperatures;
+pub use hour::kept::KeptMatrix;
 pub use physics::balance::{
     HeatBalance, HeatBalanceAirNode, HeatBalanceExternalBoundary, HeatBalanceInternalBoundary,
 };
@@ -28,4 +26,5 @@ pub use record::building_element::{
     Coefficients, Element, ElementHour, HeatFlowDirection, Kind, SurfaceConvection, h_ci,
     h_pli_transparent, standard_coefficients,
 };
-pub use record::zone_record::{Verdict, ZoneFront, ZoneTemperatureControlBasis, node_count};
+pub use record::refusal::Refusal;
+pub use record::zone_record::{Zone, ZoneTemperatureControlBasis};

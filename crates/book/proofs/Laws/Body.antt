@@ -43,10 +43,10 @@ part_length version l = go (has_limits version)
     go false = refl
 
 -- and as the code cuts them out of their 16 bytes
-pub part_cut : (version : ℕ) (l : Limits) (b : List ℕ) (n : ℕ) → b ≡ limits_bytes l → n ≡ limits_length version → take (n - 0) (drop 0 b) ≡ limits_part version l
-part_cut version l b n b_is n_is = (λ t. take (n_is t - 0) (b_is t)) ∙ go (has_limits version)
+pub part_cut : (version : ℕ) (l : Limits) (b : List ℕ) (n : ℕ) → b ≡ limits_bytes l → n ≡ limits_length version → take n b ≡ limits_part version l
+part_cut version l b n b_is n_is = (λ t. take (n_is t) (b_is t)) ∙ go (has_limits version)
   where
-    go : (b : Bool) → take (cond b power_limits_size 0 - 0) (limits_bytes l) ≡ cond b (limits_bytes l) []
+    go : (b : Bool) → take (cond b power_limits_size 0) (limits_bytes l) ≡ cond b (limits_bytes l) []
     go true = ap (λ (k : ℕ). take k (limits_bytes l)) (sym (limits_length_lem l)) ∙ take-length (limits_bytes l)
     go false = refl
 

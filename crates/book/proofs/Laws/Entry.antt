@@ -1,4 +1,5 @@
 -- The length of an entry, and the version and the body read back from it.
+use Rattle.std.specs.Prelude.{None, Option, Some}
 use Prim.Native.Nat.{ℕ, ◌≤◌, ◌<◌}
 use mathlib.Core.Path.{◌≡◌, ap, ◌∙◌}
 use mathlib.Core.Bool.{Bool, true, false, cond}
@@ -11,12 +12,8 @@ use Rattle.zone.specs.Record.BuildingElement.{node_count}
 use Rattle.zone.specs.Format.Bytes.{bytes_of}
 use Rattle.zone.proofs.Promise.{node_count_few, length_bytes_of, length_row}
 use Rattle.zone.specs.declared.record.zone_record.Zone.{Zone}
-use Rattle.zone.specs.declared.record.zone_record.ZoneFront.{ZoneFront}
-use Rattle.zone.specs.Inner.Lent.{zone_in}
 use Rattle.zone.specs.declared.calls.state.State.{State}
 use Rattle.zone.specs.declared.calls.state.Demand.{Demand}
-use Rattle.zone.specs.declared.calls.state.AchToTriggerHeating.{AchToTriggerHeating}
-use Rattle.zone.specs.declared.calls.state.AchToTriggerHeating.TheVariants.{Absent, At}
 use Rattle.zone.specs.Format.Encode.{float_bytes, row_bytes}
 use Rattle.zone.specs.Format.Layout.{length_size, version_in}
 use Rattle.zone.specs.Format.Limits.{power_limits_size}
@@ -34,12 +31,12 @@ limits_few version = go (has_limits version)
     go true = omega arith
     go false = omega arith
 
-module _ (z : ZoneFront) (codes : List ℕ) (values : List Float) (h : z.count ≤ 24) where
-  pub nodes_few : (n : ℕ) → n ≡ node_count (zone_in z codes values) → n ≤ 121
-  nodes_few n e = omega (arith, node_count_few (zone_in z codes values) h)
+module _ (z : Zone) (h : z.count ≤ 24) where
+  pub nodes_few : (n : ℕ) → n ≡ node_count z → n ≤ 121
+  nodes_few n e = omega (arith, node_count_few z h)
 
-  pub whole_few : (version : ℕ) → whole_length (zone_in z codes values) version ≤ longest_entry
-  whole_few version = omega (arith, node_count_few (zone_in z codes values) h, limits_few version)
+  pub whole_few : (version : ℕ) → whole_length z version ≤ longest_entry
+  whole_few version = omega (arith, node_count_few z h, limits_few version)
 
 -- an array of 121 has so many
 pub floats_few : (n : ℕ) (l : List Float) → n ≤ 121 → length l ≡ 121 → n ≤ length l
@@ -53,9 +50,9 @@ one_byte : (version : ℕ) → version < 256 → get_or (bytes_of version_size v
 unfolding bytes_of
 one_byte version h = omega arith
 
-length_trigger : (t : AchToTriggerHeating) → length (trigger_bytes t) ≡ trigger_size
-length_trigger Absent = omega (arith, length-append (bytes_of 1 0) (bytes_of 8 0), length_bytes_of 1 0, length_bytes_of 8 0)
-length_trigger (At x) = omega (arith, length-append (bytes_of 1 1) (float_bytes x), length_bytes_of 1 1, length_bytes_of 8 (to_bits binary64 x))
+length_trigger : (t : Option Float) → length (trigger_bytes t) ≡ trigger_size
+length_trigger None = omega (arith, length-append (bytes_of 1 0) (bytes_of 8 0), length_bytes_of 1 0, length_bytes_of 8 0)
+length_trigger (Some x) = omega (arith, length-append (bytes_of 1 1) (float_bytes x), length_bytes_of 1 1, length_bytes_of 8 (to_bits binary64 x))
 
 pub length_demand : (d : Demand) → length (demand_bytes d) ≡ demand_size
 length_demand d =

@@ -1,20 +1,19 @@
--- The loops that write and compare bytes: one turn, and the end.
+-- The loops that write bytes, one turn and the end, and the comparison of bytes.
+use Rattle.std.proofs.Common.{nat_eq}
 use Prim.Native.Nat.{ℕ, suc, ◌+◌, ◌-◌, ◌/◌, ◌%◌, ◌≤◌, ◌<◌}
 use mathlib.Core.Path.{◌≡◌, refl, sym, ap, ◌∙◌}
-use mathlib.Core.Bool.{true, false}
-use mathlib.Core.List.{List, ◌++◌}
+use mathlib.Core.Bool.{Bool, true, false, cond, ◌&&◌}
+use mathlib.Core.List.{List, [], ◌∷◌, ◌++◌}
 use native.Mathlib.Omega.{arith}
-use native.Mathlib.Numerals.{add-one}
-use lib.ListN.{length, take, drop, get_or, set, drop_of_length-le}
-use lib.Seq.{paste, paste-suc}
+use lib.ListN.{length, drop, get_or, set, drop_of_length-le}
+use lib.Pointwise.{pointwise}
 use lib.Ieee.{Float, nan, binary64, to_bits}
-use borrow.Author.Tests.{eq-eqb, ne_eqb}
-use Rattle.zone.proofs.Promise.{drop_next, from, none_left, length_bytes_of}
+use Rattle.zone.proofs.Promise.{drop_next, length_bytes_of}
 use Rattle.zone.specs.Format.Bytes.{bytes_of}
-use Rattle.book.specs.Model.Bytes.{equal_bytes}
 use Rattle.zone.specs.Format.Encode.{float_bytes, row_bytes}
+use Rattle.book.specs.Model.Bytes.{equal_bytes}
 use Rattle.book.specs.Inner.Replace.{replace_at}
-use Rattle.book.proofs.Laws.Replace.{replace_none, replace_byte, replace_then, replace_paste}
+use Rattle.book.proofs.Laws.Replace.{replace_none, replace_byte, replace_then}
 
 -- ---- a number, from its lowest byte on
 
@@ -33,45 +32,33 @@ num_done b w at k m z e = sym (replace_none at b) ∙ ap (λ (j : ℕ). replace_
 
 -- ---- floats one behind the other
 
-module _ (xs : List Float) (n i : ℕ) (p : ℕ) (b w : List ℕ) (inv : replace_at p (row_bytes (drop i (take n xs))) b ≡ w) where
-  floats_first : i < n → n ≤ length xs → row_bytes (drop i (take n xs)) ≡ float_bytes (get_or xs i nan) ++ row_bytes (drop (i + 1) (take n xs))
+module _ (xs : List Float) (i : ℕ) (p : ℕ) (b w : List ℕ) (inv : replace_at p (row_bytes (drop i xs)) b ≡ w) where
+  floats_first : i < length xs → row_bytes (drop i xs) ≡ float_bytes (get_or xs i nan) ++ row_bytes (drop (i + 1) xs)
   unfolding row_bytes
-  floats_first h l = rw (from xs i n nan h l)
+  floats_first h = rw (drop_next xs i nan h)
 
-  pub floats_more : i < n → n ≤ length xs → p ≤ length b → (b₁ : List ℕ) → b₁ ≡ replace_at p (float_bytes (get_or xs i nan)) b
-      → replace_at (p + 8) (row_bytes (drop (i + 1) (take n xs))) b₁ ≡ w
-  floats_more h l q b₁ e =
+  pub floats_more : i < length xs → p ≤ length b → (b₁ : List ℕ) → b₁ ≡ replace_at p (float_bytes (get_or xs i nan)) b → (q : ℕ) → q ≡ p + 8
+      → replace_at q (row_bytes (drop (i + 1) xs)) b₁ ≡ w
+  floats_more h l b₁ e q q_is =
       let F : List ℕ = float_bytes (get_or xs i nan) in
-      let R : List ℕ = row_bytes (drop (i + 1) (take n xs)) in
-      let at : p + 8 ≡ p + length F = ap (λ (k : ℕ). p + k) (sym (length_bytes_of 8 (to_bits binary64 (get_or xs i nan)))) in
-      replace_then p (p + 8) F R b b₁ (replace_at (p + 8) R b₁) q at e refl
-      ∙ ap (λ (l : List ℕ). replace_at p l b) (sym (floats_first h l))
+      let R : List ℕ = row_bytes (drop (i + 1) xs) in
+      let at : q ≡ p + length F = q_is ∙ ap (λ (k : ℕ). p + k) (sym (length_bytes_of 8 (to_bits binary64 (get_or xs i nan)))) in
+      replace_then p q F R b b₁ (replace_at q R b₁) l at e refl
+      ∙ ap (λ (l : List ℕ). replace_at p l b) (sym (floats_first h))
       ∙ inv
 
-  pub floats_done : n ≤ i → b ≡ w
+  pub floats_done : length xs ≤ i → b ≡ w
   unfolding row_bytes
-  floats_done h = sym (replace_none p b) ∙ ap (λ (l : List Float). replace_at p (row_bytes l) b) (sym (none_left xs i n h)) ∙ inv
+  floats_done h = sym (replace_none p b) ∙ ap (λ (l : List Float). replace_at p (row_bytes l) b) (sym (drop_of_length-le xs {i = i} h)) ∙ inv
 
--- ---- a copy
+-- ---- the comparison of bytes
 
-module _ (b₀ : List ℕ) (at : ℕ) (s : List ℕ) (n : ℕ) (room : at + n ≤ length b₀) (whole : n ≤ length s) (b : List ℕ) (i : ℕ) (e : b ≡ paste b₀ at s i) where
-  pub copy_more : i < n → set b (at + i) (get_or s i 0) ≡ paste b₀ at s (i + 1)
-  copy_more h = rw add-one (ap (λ (l : List ℕ). set l (at + i) (get_or s i 0)) e ∙ paste-suc b₀ at s i 0 (omega arith) (omega arith))
-
-  pub copy_done : i ≤ n → n ≤ i → b ≡ replace_at at (take n s) b₀
-  copy_done l r = let q : i ≡ n = omega arith in e ∙ ap (paste b₀ at s) q ∙ replace_paste at n s b₀ whole
-
--- ---- the comparison of b with what a begins with
-
-module _ (a b : List ℕ) (l : length b ≤ length a) (i : ℕ) (r : equal_bytes (take (length b) a) b ≡ equal_bytes (drop i (take (length b) a)) (drop i b)) where
-  pub begins_differ : i < length b → (get_or a i 0 ≡ get_or b i 0 → ⊥) → false ≡ equal_bytes (take (length b) a) b
-  begins_differ h n = rw (r, from a i (length b) 0 h l, drop_next b i 0 h, ne_eqb (get_or a i 0) (get_or b i 0) n)
-
-  pub begins_more : i < length b → get_or a i 0 ≡ get_or b i 0
-      → equal_bytes (take (length b) a) b ≡ equal_bytes (drop (i + 1) (take (length b) a)) (drop (i + 1) b)
-  begins_more h n = rw (r, from a i (length b) 0 h l, drop_next b i 0 h, eq-eqb (get_or a i 0) (get_or b i 0) n)
-
-  pub begins_done : length b ≤ i → true ≡ equal_bytes (take (length b) a) b
-  begins_done h = rw (r, none_left a i (length b) h, drop_of_length-le b {i = i} h)
-
-pub ruleset begins_cases = (begins_differ, begins_done)
+pub pointwise_equal : (xs ys : List ℕ) → pointwise nat_eq xs ys ≡ equal_bytes xs ys
+pointwise_equal [] [] = refl
+pointwise_equal [] (y ∷ ys) = refl
+pointwise_equal (x ∷ xs) [] = refl
+pointwise_equal (x ∷ xs) (y ∷ ys) = go (pointwise_equal xs ys) (nat_eq x y)
+  where
+    go : pointwise nat_eq xs ys ≡ equal_bytes xs ys → (b : Bool) → b && pointwise nat_eq xs ys ≡ cond b (equal_bytes xs ys) false
+    go e true = e
+    go e false = refl

@@ -1,31 +1,30 @@
 -- What is read of a book is what the plain book has: start-up's state, and entry by entry the state after it.
-use Prim.Native.Nat.{ℕ, ◌+◌, ◌-◌, ◌*◌, ◌≤◌}
+use Rattle.std.specs.Prelude.{Ok, Err}
+use Rattle.std.specs.Prelude as Rust
+use Prim.Native.Nat.{ℕ, ◌+◌, ◌-◌, ◌*◌, ◌≤◌, ◌<◌}
 use mathlib.Core.Path.{◌≡◌, refl, sym, ap, subst, ◌∙◌}
 use mathlib.Core.Bool.{Bool, true, false, cond}
 use mathlib.Core.List.{List, [], ◌∷◌, ◌++◌, map, append-nil, append_assoc}
 use native.Mathlib.Omega.{arith}
-use lib.ListN.{length, take, drop, replicate, length-append}
-use lib.Seq.{drop_at, length-take-le}
+use lib.ListN.{length, take, drop, replicate, length-append, length-drop}
+use lib.Seq.{drop_at, length-take-le, take-length}
 use lib.Dec.{leb}
 use lib.Ieee.{Float}
-use borrow.Author.Tests.{le-leb}
+use borrow.Author.Tests.{le-leb, lt-leb}
 use Rattle.zone.specs.Promise.{Result, ok, zero64}
-use Rattle.zone.specs.Inner.Lent.{zone_in}
-use Rattle.zone.specs.Inner.Head.{structured_head, head_in}
+use Rattle.zone.specs.Answers.{answered}
+use Rattle.zone.specs.Inner.Head.{structured_head, head_read}
 use Rattle.zone.specs.Record.BuildingElement.{node_count, standard_coefficients}
 use Rattle.zone.specs.Format.Bytes.{float_size}
 use Rattle.zone.specs.Format.Decode.{floats_at}
 use Rattle.zone.specs.Format.Encode.{row_bytes}
 use Rattle.zone.specs.Format.Head.{ReadHead}
-use Rattle.zone.specs.Inner.Temperatures.{most_nodes}
+use Rattle.zone.specs.Inner.Temperatures.{most_nodes, temperatures_from}
 use Rattle.zone.specs.Calls.Hour.{HourResult}
 use Rattle.zone.specs.Calls.StartUp.{init_node_temps}
-use Rattle.zone.specs.Calls.Answers.{start_up_reply}
 use Rattle.zone.specs.declared.record.zone_record.Zone.{Zone}
-use Rattle.zone.specs.declared.record.zone_record.Verdict.TheVariants.{Accepted, Refused}
-use Rattle.zone.specs.declared.format.head.Head.{Head}
+use Rattle.zone.specs.declared.record.refusal.Refusal.{Refusal}
 use Rattle.zone.specs.declared.calls.state.State.{State}
-use Rattle.zone.specs.declared.calls.state.StartUp.{StartUp}
 use Rattle.zone.proofs.Promise.{ok_inj, drop_replicate, floats_length, hour_fits, hour_behind, hour_nodes, row_back, take_fits, temps_length, count_few, node_count_few, length_row}
 use Rattle.book.specs.Model.Interface.{Written}
 use Rattle.book.specs.Model.Plain.{entries_of}
@@ -38,22 +37,38 @@ use Rattle.book.proofs.Laws.Interface.{HourEntered, step_hour}
 
 -- ---- start-up
 
-module _ (bytes : List ℕ) (h : Head) (codes : List ℕ) (values : List Float) (e : head_in h codes values ≡ structured_head bytes) (given : State) where
+module _ (bytes : List ℕ) (x : Rust.Result ℕ Refusal) (z : Zone) (e : head_read x z ≡ structured_head bytes) (given : State) where
   abbrev after : ReadHead Zone → Carried → Result State
-  after x s = ok s.state
+  after y s = ok s.state
 
-  pub start_in_head : (n j : ℕ) → h.verdict ≡ Refused n j → given ≡ start_in given bytes
+  pub start_in_head : (r : Refusal) → x ≡ Err r → given ≡ start_in given bytes
   unfolding start_in
-  start_in_head n j f = rw (head_stops bytes h codes values e after n j f) refl
+  start_in_head r f = rw (head_stops bytes x z e after r f) refl
 
-  module _ (f : h.verdict ≡ Accepted) (s : StartUp) (i : s ≡ start_up_reply (init_node_temps standard_coefficients (zone_in h.zone codes values))) where
-    pub start_in_start_up : (n j : ℕ) → s.verdict ≡ Refused n j → given ≡ start_in given bytes
+  module _ (n : ℕ) (f : x ≡ Ok n) (y : Rust.Result State Refusal) (i : answered y ≡ init_node_temps standard_coefficients z) where
+    pub start_in_start_up : (r : Refusal) → y ≡ Err r → given ≡ start_in given bytes
     unfolding start_in
-    start_in_start_up n j k = rw (head_goes_on bytes h codes values e after f, starts_not (zone_in h.zone codes values) s i n j k) refl
+    start_in_start_up r k = rw (head_goes_on bytes x z e after n f, starts_not z y i r k) refl
 
-    pub start_in_book : s.verdict ≡ Accepted → s.state ≡ start_in given bytes
+    pub start_in_book : (s : State) → y ≡ Ok s → s ≡ start_in given bytes
     unfolding start_in
-    start_in_book k = rw (head_goes_on bytes h codes values e after f, starts (zone_in h.zone codes values) s i k) refl
+    start_in_book s k = rw (head_goes_on bytes x z e after n f, starts z y i s k) refl
+
+-- ---- the temperatures of an entry, as the code cuts them out
+
+module _ (z : Zone) (entry : List ℕ) (temps : List Float) (n : ℕ) (n_is : n ≡ node_count z) where
+  pub read_short : length entry < 8 * n → replicate most_nodes zero64 ≡ read_temperatures z entry temps
+  unfolding read_temperatures
+  read_short h = rw (← n_is, lt-leb (8 * n) (length entry) h) refl
+
+  pub read_long : n ≤ most_nodes → 8 * n ≤ length entry → (out : List Float) → out ≡ temperatures_from (take (length entry - (length entry - 8 * n)) (drop (length entry - 8 * n) entry)) n temps
+      → out ≡ read_temperatures z entry temps
+  unfolding read_temperatures temperatures_from
+  read_long few long out e =
+      let at = length entry - 8 * n in
+      let whole : take (length entry - at) (drop at entry) ≡ drop at entry = ap (λ (m : ℕ). take m (drop at entry)) (sym (length-drop at entry)) ∙ take-length (drop at entry) in
+      let size : 8 * n ≤ length (drop at entry) = omega (arith, length-drop at entry) in
+      rw (← n_is, le-leb (8 * n) (length entry) long) (e ∙ rw (whole, le-leb n most_nodes few, le-leb (8 * n) (length (drop at entry)) size) refl)
 
 -- ---- the state after an entry
 

@@ -1,11 +1,12 @@
 -- Bytes in place of others, one write behind the other.
-use Prim.Native.Nat.{ℕ, suc, ◌+◌, ◌≤◌, ◌<◌}
+use Prim.Native.Nat.{ℕ, suc, ◌+◌, ◌-◌, ◌≤◌, ◌<◌}
 use mathlib.Core.Path.{◌≡◌, sym, ap, ◌∙◌}
 use mathlib.Core.List.{List, [], ◌∷◌, ◌++◌, append_assoc, append-nil}
-use native.Mathlib.Nat.{zero-add}
+use native.Mathlib.Nat.{add-sub_cancel_left, zero-add}
 use native.Mathlib.Omega.{arith}
 use lib.ListN.{length, take, drop, set, length-append, length-set, length-take, take-append-drop}
-use lib.Seq.{take-set-le, drop-cons, get_or-set_same, drop-set-lt, take_at, drop-append-add, drop-drop, length-take-le, drop-length, paste}
+use lib.Seq.{take-set-le, drop-cons, get_or-set_same, drop-set-lt, take_at, drop-append-add, drop-drop, drop-length}
+use borrow.Rule.Slice.PartMut.{put_mid}
 use Rattle.book.specs.Inner.Replace.{replace_at}
 
 -- no byte replaced
@@ -59,10 +60,11 @@ replace_four at p q r xs ys zs ws b b₁ b₂ b₃ b₄ h hp hq hr e₁ e₂ e�
     ∙ ap (λ (l : List ℕ). replace_at at l b)
     (append_assoc (xs ++ ys) zs ws ∙ append_assoc xs ys (zs ++ ws))
 
--- a copy of the first n bytes
-pub replace_paste : (at n : ℕ) (s b : List ℕ) → n ≤ length s → paste b at s n ≡ replace_at at (take n s) b
+-- a part of the buffer that is lent and filled
+pub replace_put : (at : ℕ) (s b part : List ℕ) → part ≡ s → put_mid at (at + length s - at) b part ≡ replace_at at s b
 unfolding replace_at
-replace_paste at n s b h = ap (λ (k : ℕ). take at b ++ take n s ++ drop (at + k) b) (sym (length-take-le n s h))
+replace_put at s b part e =
+    rw (add-sub_cancel_left at (length s), e, drop-drop (length s) at b) (sym (append_assoc (take at b) s (drop (at + length s) b)))
 
 -- what begins a buffer that was written from its start on
 pub replace_start : (bs b : List ℕ) (n : ℕ) → length bs ≡ n → take n (replace_at 0 bs b) ≡ bs

@@ -1,6 +1,8 @@
 -- The first record of a rest: by its size and its version byte.
 use Prim.Native.Nat.{ℕ, ◌≤◌, ◌<◌}
-use mathlib.Core.Path.{◌≡◌, refl, sym, ap, ◌∙◌}
+use Rattle.std.specs.Prelude.{Some}
+use Rattle.std.specs.Prelude as Rust
+use mathlib.Core.Path.{◌≡◌, refl, sym, ap, subst, ◌∙◌}
 use mathlib.Core.Bool.{Bool, true, false}
 use mathlib.Core.List.{List}
 use mathlib.Core.Option.{none, some}
@@ -14,6 +16,7 @@ use Rattle.zone.specs.Format.Layout.{version_at, version_in}
 use Rattle.zone.specs.declared.record.zone_record.Zone.{Zone}
 use Rattle.book.specs.Layout.{front_size, whole_length}
 use Rattle.book.specs.Year.{entry_length}
+use Rattle.book.specs.Inner.Record.{record_length}
 use Rattle.book.proofs.Model.Laws.Bytes.{none_not_some, some_inj}
 
 module _ (z : Zone) (rest : List ℕ) where
@@ -36,6 +39,24 @@ module _ (z : Zone) (rest : List ℕ) where
     pub rest_unknown : hour_version (version_in rest) ≡ false → entry_length z rest ≡ some (length rest)
     unfolding entry_length
     rest_unknown k = rw (le-leb front_size (length rest) five, k) refl
+
+-- the same, by the version and the length that the code holds
+module _ (z : Zone) (rest : List ℕ) (five : front_size ≤ length rest) (version : ℕ) (v : version ≡ version_in rest) (known : Bool) (k : known ≡ hour_version version) where
+  is_known : hour_version (version_in rest) ≡ known
+  is_known = ap hour_version (sym v) ∙ sym k
+
+  pub record_unknown : known ≡ false → some (length rest) ≡ entry_length z rest
+  record_unknown f = sym (rest_unknown z rest five (is_known ∙ f))
+
+  module _ (t : known ≡ true) (n : ℕ) (n_is : n ≡ whole_length z version) where
+    whole_is : n ≡ whole_length z (version_in rest)
+    whole_is = n_is ∙ ap (whole_length z) v
+
+    pub record_short : length rest < n → none ≡ entry_length z rest
+    record_short h = sym (rest_short z rest five (is_known ∙ t) (subst (λ (m : ℕ). length rest < m) whole_is h))
+
+    pub record_whole : n ≤ length rest → some n ≡ entry_length z rest
+    record_whole h = ap some whole_is ∙ sym (rest_whole z rest five (is_known ∙ t) (subst (λ (m : ℕ). m ≤ length rest) whole_is h))
 
 -- what a rest that begins with a whole record is
 pub data Begins (z : Zone) (rest : List ℕ) : (n : ℕ) → Type 0 where
@@ -64,6 +85,9 @@ module _ (z : Zone) (rest : List ℕ) (n : ℕ) (e : entry_length z rest ≡ som
 pub begins_within : (z : Zone) (rest : List ℕ) (n : ℕ) → Begins z rest n → (front_size ≤ n) × (n ≤ length rest)
 begins_within z rest n (entire five k h) = (omega arith, h)
 begins_within z rest n (unknown five k) = (five, omega arith)
+
+pub record_inside : (z : Zone) (rest : List ℕ) (r : Rust.Option ℕ) → record_length r ≡ entry_length z rest → (n : ℕ) → r ≡ Some n → n ≤ length rest
+record_inside z rest r e n f = (begins_within z rest n (begins z rest n (sym e ∙ ap record_length f))).1
 
 -- of a version that hours have it has that version's length
 pub begins_known : (z : Zone) (rest : List ℕ) (n : ℕ) → Begins z rest n → hour_version (version_in rest) ≡ true → n ≡ whole_length z (version_in rest)

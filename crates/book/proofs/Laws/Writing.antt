@@ -1,22 +1,20 @@
 -- An entry part by part: what the writers leave in the buffer, one behind the other.
+use Rattle.std.specs.Prelude.{None, Option, Some}
 use Prim.Native.Nat.{ℕ, ◌+◌, ◌≤◌}
 use mathlib.Core.Path.{◌≡◌, sym, ap, ◌∙◌}
 use mathlib.Core.Bool.{Bool}
 use mathlib.Core.List.{List, [], ◌∷◌, ◌++◌, append_assoc}
 use native.Mathlib.Omega.{arith}
 use lib.ListN.{length, take, length-append}
-use lib.Seq.{take-length}
 use lib.Ieee.{Float}
 use Rattle.zone.specs.Record.BuildingElement.{node_count}
 use Rattle.zone.specs.Format.Bytes.{bytes_of}
-use Rattle.zone.proofs.Promise.{length_bytes_of, length_row}
+use Rattle.zone.proofs.Promise.{length_bytes_of, length_row, limits_length_lem}
+use Rattle.zone.specs.Format.Limits.{power_limits_size, limits_bytes}
+use Rattle.zone.specs.declared.format.limits.Limits.{Limits}
 use Rattle.zone.specs.declared.record.zone_record.Zone.{Zone}
-use Rattle.zone.specs.declared.record.zone_record.ZoneFront.{ZoneFront}
-use Rattle.zone.specs.Inner.Lent.{zone_in}
 use Rattle.zone.specs.declared.calls.state.State.{State}
 use Rattle.zone.specs.declared.calls.state.Demand.{Demand}
-use Rattle.zone.specs.declared.calls.state.AchToTriggerHeating.{AchToTriggerHeating}
-use Rattle.zone.specs.declared.calls.state.AchToTriggerHeating.TheVariants.{Absent, At}
 use Rattle.book.specs.Model.Bytes.{equal_bytes}
 use Rattle.zone.specs.Format.Encode.{float_bytes, row_bytes}
 use Rattle.book.specs.Inner.Replace.{replace_at}
@@ -24,26 +22,26 @@ use Rattle.zone.specs.Format.Layout.{length_size}
 use Rattle.book.specs.Layout.{version_size, front_size, following_length, whole_length}
 use Rattle.book.specs.Inner.Sizes.{trigger_size, rates_size, demand_size}
 use Rattle.book.specs.Entry.{front_bytes, trigger_bytes, demand_bytes, temperature_bytes, entry_of}
-use Rattle.book.proofs.Laws.Replace.{replace_then, replace_four, replace_start}
+use Rattle.book.proofs.Laws.Replace.{replace_then, replace_four, replace_start, replace_all}
 use Rattle.book.proofs.Laws.Entry.{length_front, length_demand}
 
 module _ (at : ℕ) (b b₁ b₂ : List ℕ) where
-  pub front_written : (z : ZoneFront) (codes : List ℕ) (values : List Float) (version m : ℕ) → m ≡ following_length (zone_in z codes values) version → at + front_size ≤ length b
-      → b₁ ≡ replace_at at (bytes_of length_size m) b → b₂ ≡ replace_at (at + length_size) (bytes_of version_size version) b₁ → b₂ ≡ replace_at at (front_bytes (zone_in z codes values) version) b
-  front_written z codes values version m l h e₁ e₂ =
+  pub front_written : (z : Zone) (version m : ℕ) → m ≡ following_length z version → at + front_size ≤ length b
+      → b₁ ≡ replace_at at (bytes_of length_size m) b → b₂ ≡ replace_at (at + length_size) (bytes_of version_size version) b₁ → b₂ ≡ replace_at at (front_bytes z version) b
+  front_written z version m l h e₁ e₂ =
       replace_then at (at + length_size) (bytes_of length_size m) (bytes_of version_size version) b b₁ b₂ (omega arith) (omega (arith, length_bytes_of length_size m)) e₁ e₂
       ∙ (λ i. replace_at at (bytes_of length_size (l i) ++ bytes_of version_size version) b)
 
-  module _ (t : AchToTriggerHeating) (h : at + trigger_size ≤ length b) where
-    pub trigger_absent : t ≡ Absent → b₁ ≡ replace_at at (bytes_of 1 0) b → b₂ ≡ replace_at (at + 1) (bytes_of 8 0) b₁ → b₂ ≡ replace_at at (trigger_bytes t) b
+  module _ (t : Option Float) (h : at + trigger_size ≤ length b) where
+    pub trigger_absent : t ≡ None → b₁ ≡ replace_at at (bytes_of 1 0) b → b₂ ≡ replace_at (at + 1) (bytes_of 8 0) b₁ → b₂ ≡ replace_at at (trigger_bytes t) b
     trigger_absent f e₁ e₂ =
         replace_then at (at + 1) (bytes_of 1 0) (bytes_of 8 0) b b₁ b₂ (omega arith) (omega (arith, length_bytes_of 1 0)) e₁ e₂
-        ∙ ap (λ (y : AchToTriggerHeating). replace_at at (trigger_bytes y) b) (sym f)
+        ∙ ap (λ (y : Option Float). replace_at at (trigger_bytes y) b) (sym f)
 
-    pub trigger_at : (x : Float) → t ≡ At x → b₁ ≡ replace_at at (bytes_of 1 1) b → b₂ ≡ replace_at (at + 1) (float_bytes x) b₁ → b₂ ≡ replace_at at (trigger_bytes t) b
+    pub trigger_at : (x : Float) → t ≡ Some x → b₁ ≡ replace_at at (bytes_of 1 1) b → b₂ ≡ replace_at (at + 1) (float_bytes x) b₁ → b₂ ≡ replace_at at (trigger_bytes t) b
     trigger_at x f e₁ e₂ =
         replace_then at (at + 1) (bytes_of 1 1) (float_bytes x) b b₁ b₂ (omega arith) (omega (arith, length_bytes_of 1 1)) e₁ e₂
-        ∙ ap (λ (y : AchToTriggerHeating). replace_at at (trigger_bytes y) b) (sym f)
+        ∙ ap (λ (y : Option Float). replace_at at (trigger_bytes y) b) (sym f)
 
   pub demand_written : (d : Demand) → at + demand_size ≤ length b
       → b₁ ≡ replace_at at (row_bytes (d.space_heat_demand ∷ d.space_cool_demand ∷ d.ach_cooling ∷ [])) b
@@ -52,13 +50,15 @@ module _ (at : ℕ) (b b₁ b₂ : List ℕ) where
       let row = d.space_heat_demand ∷ d.space_cool_demand ∷ d.ach_cooling ∷ [] in
       replace_then at (at + rates_size) (row_bytes row) (trigger_bytes d.ach_to_trigger_heating) b b₁ b₂ (omega arith) (omega (arith, length_row row)) e₁ e₂
 
-pub ruleset trigger_cases = (trigger_absent, trigger_at)
+-- the limits fill their 16 bytes
+pub limits_written : (l : Limits) (b b₁ : List ℕ) → length b ≡ power_limits_size → b₁ ≡ replace_at 0 (limits_bytes l) b → b₁ ≡ limits_bytes l
+limits_written l b b₁ n e = e ∙ replace_all (limits_bytes l) b (limits_length_lem l ∙ sym n)
 
 module _ (z : Zone) (version : ℕ) (i j : List ℕ) (d : Demand) (s : State) where
   pub entry_written : (at n : ℕ) (b b₁ b₂ b₃ b₄ b₅ : List ℕ) → n ≡ node_count z → at + whole_length z version ≤ length b
       → b₁ ≡ replace_at at (front_bytes z version) b
-      → b₂ ≡ replace_at (at + front_size) (take (length i) i) b₁
-      → b₃ ≡ replace_at (at + front_size + length i) (take (length j) j) b₂
+      → b₂ ≡ replace_at (at + front_size) i b₁
+      → b₃ ≡ replace_at (at + front_size + length i) j b₂
       → b₄ ≡ replace_at (at + front_size + length i + length j) (demand_bytes d) b₃
       → b₅ ≡ replace_at (at + front_size + length i + length j + demand_size) (row_bytes (take n s.temps)) b₄
       → b₅ ≡ replace_at at (entry_of z version (i ++ j) d s) b
@@ -69,14 +69,14 @@ module _ (z : Zone) (version : ℕ) (i j : List ℕ) (d : Demand) (s : State) wh
       let q = p + length i in
       let r = q + length j in
       let opened : b₂ ≡ replace_at at (front ++ i) b =
-      replace_then at p front i b b₁ b₂ (omega arith) (omega (arith, length_front z version)) e₁ (e₂ ∙ ap (λ (y : List ℕ). replace_at p y b₁) (take-length i)) in
+      replace_then at p front i b b₁ b₂ (omega arith) (omega (arith, length_front z version)) e₁ e₂ in
       replace_four at q r (r + demand_size) (front ++ i) j (demand_bytes d) (temperature_bytes z s) b b₂ b₃ b₄ b₅
       (omega arith)
       (omega (arith, length-append front i, length_front z version))
       (omega (arith, length-append front i, length_front z version))
       (omega (arith, length-append front i, length_front z version, length_demand d))
       opened
-      (e₃ ∙ ap (λ (y : List ℕ). replace_at q y b₂) (take-length j))
+      e₃
       e₄
       (e₅ ∙ ap (λ (y : ℕ). replace_at (r + demand_size) (row_bytes (take y s.temps)) b₄) l)
       ∙ ap (λ (y : List ℕ). replace_at at y b)

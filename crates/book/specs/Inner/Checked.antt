@@ -1,6 +1,6 @@
 -- What the check of one entry answers.
 use Rattle.zone.specs.Promise.{Result, ok, refused}
-use Rattle.zone.specs.declared.record.zone_record.Verdict.TheVariants.{Accepted, Refused}
+use Rattle.book.specs.declared.verdict.Verdict.TheVariants.{Accepted, Refused}
 use Rattle.book.specs.Year.{Carried}
 use Rattle.book.specs.declared.checked_entry.CheckedEntry.{CheckedEntry}
 

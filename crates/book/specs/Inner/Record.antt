@@ -1,9 +1,9 @@
 -- What `record_in` answers.
 use Rattle.std.specs.Prelude.{ℕ}
 use Rattle.std.proofs.Math.Option.{Option, none, some}
-use Rattle.book.specs.declared.record.Record.{Record}
-use Rattle.book.specs.declared.record.Record.TheVariants.{Dropped, Whole}
+use Rattle.std.specs.Prelude.{None, Some}
+use Rattle.std.specs.Prelude as Rust
 
-abbrev pub record_length : Record → Option ℕ
-record_length Dropped = none
-record_length (Whole n) = some n
+abbrev pub record_length : Rust.Option ℕ → Option ℕ
+record_length None = none
+record_length (Some n) = some n

@@ -10,7 +10,8 @@ use lib.Ieee.{Float, nan}
 use Rattle.solver.specs.F64.{◌*ᶠ◌, ◌/ᶠ◌, one64}
 use Rattle.solver.specs.Repeat.{repeat}
 use Rattle.solver.specs.Rows.{entry, row, eliminate_row}
-use Rattle.solver.specs.Lu.{Lu, interchange_rows, eliminate_column_by, swap, apply_interchanges, forward_step}
+use Rattle.solver.specs.declared.lu.Lu.{Lu}
+use Rattle.solver.specs.Lu.{interchange_rows, eliminate_column_by, swap, apply_interchanges, forward_step}
 use Rattle.solver.specs.Inner.Columns.{factor_column_by}
 use Rattle.solver.proofs.Laws.Signed.{add_neg_product}
 use Rattle.solver.proofs.Laws.Turns.{repeat_last}

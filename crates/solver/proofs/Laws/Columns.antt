@@ -10,7 +10,8 @@ use borrow.Author.Tests.{eq-eqb}
 use Rattle.solver.specs.F64.{◌/ᶠ◌, one64}
 use Rattle.solver.specs.Repeat.{repeat}
 use Rattle.solver.specs.Rows.{entry, row, larger_in_column, pivot_row, eliminate_row}
-use Rattle.solver.specs.Lu.{Lu, lu_with, interchange_rows, eliminate_column_by, eliminate_column, lu_factor, apply_interchange, apply_interchanges, forward_step}
+use Rattle.solver.specs.declared.lu.Lu.{Lu}
+use Rattle.solver.specs.Lu.{lu_with, interchange_rows, eliminate_column_by, eliminate_column, lu_factor, apply_interchange, apply_interchanges, forward_step}
 use Rattle.solver.specs.Inner.Columns.{factor_column, factor_columns, factor_last}
 use Rattle.solver.proofs.Laws.Counting.{repeat_done}
 use Rattle.solver.proofs.Laws.Turns.{repeat_last, repeat_relates}

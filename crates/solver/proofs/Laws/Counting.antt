@@ -1,10 +1,20 @@
--- Counting loops against `repeat`, `repeat_down` and `all` of specs/Repeat.antt. The invariant of a loop is that the turns that are left, from the
--- state now, give what all turns give from the state at the start. For `search (rules, repeat_turn)` and `search (rules, repeat_end)`.
+-- Counting loops against `repeat` and `repeat_down` of specs/Repeat.antt, and `all` of an iterator against `all` there. The invariant of a loop is that
+-- the turns that are left, from the state now, give what all turns give from the state at the start; `using(repeat_turn, repeat_end)` then proves it.
 use mathlib.Core.Path.{◌≡◌, refl, sym, ap, ◌∙◌}
 use mathlib.Core.Bool.{Bool, true, false, ◌&&◌}
-use Prim.Native.Nat.{ℕ, suc, ◌+◌, ◌-◌, ◌≤◌, ◌<◌}
+use mathlib.Core.List.{List}
+use Prim.Native.Nat.{ℕ, zero, suc, ◌+◌, ◌-◌, ◌≤◌, ◌<◌}
 use native.Mathlib.Numerals.{add-one}
 use native.Mathlib.Omega.{arith}
+use denote.Param.Members.{Mut}
+use Rattle.std.specs.Prelude.{Option, MatchOption}
+use Rattle.std.specs.declared.ops.Range.{Range}
+use Rattle.std.specs.Fn.{Called}
+use Rattle.std.specs.Iterator.{YieldsThen}
+use Rattle.std.specs.List.{FoldsTo, list_all, range_with_len}
+use Rattle.std.proofs.iter.Yields.{nat_range_steps}
+use Rattle.std.proofs.lemmas.Iterator.{YieldsList-from_range}
+use Rattle.std.proofs.lemmas.Iterator.Search.{all_from_yields_List}
 use Rattle.solver.specs.Repeat.{repeat_of, repeat, repeat_down, all_of, all}
 
 module _ {A : Type 0} (f : ℕ → A → A) where
@@ -43,27 +53,25 @@ module _ {A : Type 0} where
   pub repeat_end : (f : ℕ → A → A) (i n : ℕ) (s w : A) → n ≤ i → repeat i n f s ≡ w → s ≡ w
   repeat_end f i n s w h inv = sym (repeat_done f i n s h) ∙ inv
 
-and_swap : (x y z : Bool) → (x && (y && z)) ≡ ((x && y) && z)
-and_swap true y z = refl
-and_swap false y z = refl
+  -- the same of a loop from above down to a, whose next turn is for number i - 1
+  pub down_turn : (f : ℕ → A → A) (a i : ℕ) (s s' w : A) → a < i → s' ≡ f (i - a - 1) s → repeat_down (i - a) f s ≡ w → repeat_down (i - 1 - a) f s' ≡ w
+  down_turn f a i s s' w h e inv =
+      let n : i - 1 - a ≡ i - a - 1 = omega arith in
+      rw (n, e) (sym (down_next f (i - a) s (omega arith)) ∙ inv)
 
-and_end : (x : Bool) → (x && true) ≡ x
-and_end true = refl
-and_end false = refl
+  pub down_end : (f : ℕ → A → A) (a i : ℕ) (s w : A) → i ≤ a → repeat_down (i - a) f s ≡ w → s ≡ w
+  down_end f a i s w h inv = sym (down_done f (i - a) s (omega arith)) ∙ inv
 
--- a loop that tests each number: what was found so far, and the tests that are left
-module _ (test : ℕ → Bool) (i n : ℕ) (found w : Bool) where
-  all_next : i < n → all i n test ≡ (test i && all (i + 1) n test)
-  unfolding all_of
-  all_next h =
-      let e : n - i ≡ suc (n - (i + 1)) = omega arith in
-      rw (e, add-one i)
+-- the test of each number of a range's list
+list_all_is : (test : ℕ → Bool) (n a : ℕ) → list_all test (range_with_len a n) ≡ all_of n a test
+unfolding all_of
+list_all_is test zero a = refl
+list_all_is test (suc n) a = rw (add-one a) (ap (λ x. test a && x) (list_all_is test n (suc a)))
 
-  pub all_turn : (x : Bool) → i < n → x ≡ test i → (found && all i n test) ≡ w → ((found && x) && all (i + 1) n test) ≡ w
-  all_turn x h e inv = rw e (sym (and_swap found (test i) (all (i + 1) n test)) ∙ (rw (all_next h) at inv))
-
-  pub all_end : n ≤ i → (found && all i n test) ≡ w → found ≡ w
-  unfolding all_of
-  all_end h inv =
-      let e : n - i ≡ 0 = omega arith in
-      sym (and_end found) ∙ (rw e at inv)
+-- what `(a..b).all(f)` answers, where f answers the test
+pub all_from_range : {F : Type 0} {g : Mut F (ℕ × Unit {0}) Bool} (test : ℕ → Bool) (a b : ℕ) (u : Range ℕ) (f : F) (r : Bool) →
+    (xs : List ℕ) × (o : Option ℕ) × (j : F) × YieldsThen nat_range_steps (record { start = a; end = b }) xs o u × FoldsTo (λ p x q. Called g p (x, tt) true q) f xs j
+    × MatchOption o (r ≡ true) (λ x. (r ≡ false) × ((h : F) × Called g j (x, tt) false h)) →
+    ((x : ℕ) (y : Bool) (q : F) → Called g f (x, tt) y q → (q ≡ f) × (y ≡ test x)) → r ≡ all a b test
+all_from_range test a b u f r ran calls =
+    all_from_yields_List test u f r ran (YieldsList-from_range a b (b - a) refl refl) calls ∙ list_all_is test (b - a) a

@@ -1,69 +1,40 @@
--- Magnitudes, by comparisons with zero and with infinity.
-use mathlib.Core.Path.{◌≡◌, refl, sym, subst, ◌∙◌}
-use mathlib.Core.Bool.{Bool, true, false}
-use Prim.Native.Nat.{ℕ, zero, suc, ◌+◌, ◌*◌, ◌<◌, ◌≤◌}
-use native.Mathlib.Nat.{mul-pos}
+-- Magnitudes and finiteness: std's words and those of specs/Closeness.antt say the same.
+use mathlib.Core.Path.{◌≡◌, refl, sym, ap, subst}
+use mathlib.Core.Bool.{Bool, true, false, not, ◌&&◌}
+use Prim.Native.Nat.{zero, suc, ◌*◌}
+use native.Mathlib.Nat.{pow-suc}
 use native.Mathlib.Omega.{arith}
-use lib.IntN.{ℤ}
-use lib.Dec.{T}
-use lib.Ieee.{Float, nan, inf, fin, binary64, up, down, lt, eq, neg, of_bits}
-use lib.Ieee.Fits.{up_pos}
-use borrow.Author.Tests.{ltb-true, ltb-false, eqb-true, eq-eqb}
+use lib.IntN.{ℤ, pos, negsuc}
+use lib.Dec.{T, eqb→eq}
+use lib.Ieee.{Float, nan, inf, fin, binary64, up, down, fits, eq, ne}
+use Rattle.std.specs.Float.{float_with_sign, float_is_finite}
 use Rattle.solver.specs.F64.{zero64}
-use Rattle.solver.specs.Closeness.{abs, is_finite}
-use Rattle.solver.proofs.Laws.Tests.{and_true}
+use Rattle.solver.specs.Closeness.{abs, is_finite, valid_divisor}
 
 -- a test that computes to false is not true
 pub never : {A : Type 0} → false ≡ true → A
 never h = absurd (subst T (sym h) tt)
 
--- a number that is not 0 is above 0
-some_up : (m : ℕ) (e : ℤ) → 0 < suc m * up e * 1
-some_up m e = mul-pos (mul-pos (omega arith) (up_pos e)) (omega arith)
+-- `abs` of std: a zero that a format holds has the exponent 0
+pub without_sign : (x : Float) → T (fits binary64 x) → float_with_sign false x ≡ abs x
+unfolding float_with_sign abs fits
+without_sign nan h = refl
+without_sign (inf s) h = refl
+without_sign (fin s zero e) h = ap (fin false zero) (whole e (eqb→eq (up e * down e) 1 h))
+  where
+    whole : (e : ℤ) → up e * down e ≡ 1 → e ≡ pos 0
+    whole (pos zero) k = refl
+    whole (pos (suc n)) k = absurd (omega (arith, pow-suc 2 n))
+    whole (negsuc n) k = absurd (omega (arith, pow-suc 2 n))
+without_sign (fin s (suc m) e) h = refl
 
-pub below_zero : (x : Float) → lt x zero64 ≡ true → neg x ≡ abs x
-unfolding lt of_bits neg abs
-below_zero nan h = refl
-below_zero (inf true) h = refl
-below_zero (inf false) h = never h
-below_zero (fin true zero e) h =
-    let z : 0 < 0 * up e * 1 + 0 * 1 * down e = ltb-true _ _ h in
-    absurd (omega arith)
-below_zero (fin true (suc m) e) h = refl
-below_zero (fin false m e) h =
-    let z : m * up e * 1 < 0 * 1 * down e = ltb-true _ _ h in
-    absurd (omega arith)
+pub finite_same : (x : Float) → float_is_finite x ≡ is_finite x
+unfolding float_is_finite is_finite
+finite_same nan = refl
+finite_same (inf s) = refl
+finite_same (fin s m e) = refl
 
-pub level_zero : (x : Float) → eq x zero64 ≡ true → zero64 ≡ abs x
-unfolding eq of_bits abs
-level_zero nan h = never h
-level_zero (inf s) h = never h
-level_zero (fin s zero e) h = refl
-level_zero (fin s (suc m) e) h =
-    let z : suc m * up e * 1 ≡ 0 * 1 * down e = eqb-true _ _ (and_true _ _ h).0 in
-    let p : 0 < suc m * up e * 1 = some_up m e in
-    absurd (omega arith)
-
-zero_level : (s : Bool) (e : ℤ) → eq (fin s zero e) zero64 ≡ true
-unfolding eq of_bits
-zero_level true e = rw (eq-eqb (0 * up e * 1) (0 * 1 * down e) (omega arith), eq-eqb (0 * up e * 1) 0 (omega arith))
-zero_level false e = rw (eq-eqb (0 * up e * 1) (0 * 1 * down e) (omega arith))
-
-pub above_zero : (x : Float) → lt x zero64 ≡ false → eq x zero64 ≡ false → x ≡ abs x
-unfolding lt eq of_bits abs
-above_zero nan h k = refl
-above_zero (inf true) h k = never (sym h)
-above_zero (inf false) h k = refl
-above_zero (fin s zero e) h k = never (sym k ∙ zero_level s e)
-above_zero (fin true (suc m) e) h k =
-    let z : suc m * up e * 1 + 0 * 1 * down e ≤ 0 = ltb-false _ _ h in
-    let p : 0 < suc m * up e * 1 = some_up m e in
-    absurd (omega arith)
-above_zero (fin false (suc m) e) h k = refl
-
-pub below_inf : (x : Float) → lt (abs x) (of_bits binary64 0x7ff0_0000_0000_0000) ≡ is_finite x
-unfolding lt of_bits abs is_finite
-below_inf nan = refl
-below_inf (inf s) = refl
-below_inf (fin s zero e) = refl
-below_inf (fin s (suc m) e) = refl
+-- the code's test of a divisor
+pub divisor_test : (x : Float) → (ne x zero64 && float_is_finite x) ≡ valid_divisor x
+unfolding ne valid_divisor
+divisor_test x = ap (λ (b : Bool). not (eq x zero64) && b) (finite_same x)

@@ -6,24 +6,33 @@ use mathlib.Core.Bool.{Bool, true, false, cond, ◌&&◌}
 use mathlib.Core.List.{List}
 use Prim.Native.Nat.{ℕ, ◌+◌, ◌*◌, ◌≤◌, ◌<◌}
 use native.Mathlib.Omega.{arith}
+use Rattle.std.specs.Prelude.{Ok, Err}
+use Rattle.std.specs.Prelude as Rust
 use lib.Dec.{ltb}
 use lib.ListN.{length, get_or, set, replicate, length-set}
 use lib.Seq.{get_or-set_same, get_or-set_other}
 use lib.Ieee.{Float, nan}
 use borrow.Author.Tests.{ltb-false}
 use Rattle.solver.specs.declared.system.Matrix.{Matrix}
-use Rattle.solver.specs.declared.system.Solved.{Solved}
+use Rattle.solver.specs.declared.lu.Lu.{Lu}
+use Rattle.solver.specs.declared.system.Factors.{Factors}
+use Rattle.solver.specs.declared.dense_part.RightSide.{RightSide}
+use Rattle.solver.specs.declared.error.SolveError.{SolveError}
+use Rattle.solver.specs.Numbers.{divisor}
+use Rattle.solver.specs.Result.{Result, ok, refused, require}
+use Rattle.solver.specs.Answers.{number_of, answered}
+use Rattle.solver.specs.Inner.Factored.{Solved}
 use Rattle.solver.specs.F64.{zero64}
 use Rattle.solver.specs.Closeness.{valid_divisor}
 use Rattle.solver.specs.Rows.{entry, set_entry}
-use Rattle.solver.specs.Lu.{Lu, lu_factor, pivots_valid}
+use Rattle.solver.specs.Lu.{lu_with, lu_factor, pivots_valid}
 use Rattle.solver.specs.Inner.Columns.{column_of, factor_columns, factor_last, lu_solve_apart}
 use Rattle.solver.specs.Chain.{eliminate_chains, divisors_valid, nodes_within}
 use Rattle.solver.specs.Inner.Reduced.{reduce_chains, inner_shares, gather_reduced, with_load, gather_loaded}
 use Rattle.solver.specs.FastSolver.{at_most24, set_inner_diagonals, temperatures}
 use Rattle.solver.specs.Inner.Reduced.{set_inner_diagonal}
 use Rattle.solver.specs.Inner.Factored.{Factored, factored, factor_dense, factor, solved, substitute, substitute_factored, fast_solver}
-use Rattle.solver.specs.Inner.Apart.{Columns, columns, factor_apart, temperatures_apart, substitute_apart}
+use Rattle.solver.specs.Inner.Apart.{Columns, columns, valid_in, diag_in, dense_in, interchanges_in, factor_apart, temperatures_apart, substitute_apart, factored_columns, reduced_base}
 use Rattle.solver.proofs.Laws.Turns.{repeat_relates}
 use Rattle.solver.proofs.Laws.Stores.{stores_length, stores_in}
 use Rattle.solver.proofs.Laws.Interchanges.{equal_or_not}
@@ -218,26 +227,64 @@ module _ (a : Matrix) (m c : List Float) (valid : Bool) (diag dense : List Float
           solved_as (with_load n gains air b) (temperatures_apart n a.two_nodes diag a.next dense last interchanges (gather_loaded n reduced inner gains air) reduced)
           (λ full hx q. temperatures_loaded n a.two_nodes diag a.next a.prev full dense last interchanges b shares (at_most a.n) q hx hb hs gains air)
 
+-- What the contract of `factor_columns` says, as the equation that the laws above take.
+columns_again : (k : Columns) → columns (valid_in k) (diag_in k) (dense_in k) (interchanges_in k) ≡ k
+columns_again (columns valid diag dense interchanges) = refl
+
+pub factored_are : (f g : Factors) → g ≡ factored_columns f →
+    columns g.valid g.chains.diag g.lu.matrix g.lu.interchanges
+    ≡ factor_apart (at_most24 f.chains.n) f.chains.two_nodes f.chains.diag f.chains.next f.chains.prev f.lu.matrix f.lu.interchanges
+factored_are f g e =
+    ap (λ (h : Factors). columns h.valid h.chains.diag h.lu.matrix h.lu.interchanges) e
+    ∙ columns_again (factor_apart (at_most24 f.chains.n) f.chains.two_nodes f.chains.diag f.chains.next f.chains.prev f.lu.matrix f.lu.interchanges)
+
+-- A test that decides between an answer and the refusal of a divisor.
+refused_divisor : (t : Bool) (k : ℕ) → ◌≡◌ {A = Result (Unit {0})} (refused k 0) (require t divisor) → (t ≡ false) × (k ≡ divisor)
+refused_divisor true k e = absurd (cc)
+refused_divisor false k e = (refl, cc)
+
+ok_divisor : (t : Bool) (u : Unit {0}) → ok u ≡ require t divisor → t ≡ true
+ok_divisor true u e = refl
+ok_divisor false u e = absurd (cc)
+
+-- A matrix in the form that is kept, with nothing factored yet.
+abbrev unfactored : Matrix → Factors
+unfactored a =
+    record {
+      chains = record { n = a.n; two_nodes = a.two_nodes; diag = a.diag; next = a.next; prev = a.prev };
+      lu = lu_with a.dense (replicate 25 0);
+      valid = false;
+    }
+
 -- The solver on one right side: the equations that the contracts give along `fast_solver`, put together.
-module _ (a : Matrix) (b : List Float) (k : ℕ) (c : List Float) (valid : Bool) (diag dense : List Float) (interchanges : List ℕ) (last : List Float) (pivot : Bool)
-    (ha : length a.dense ≡ 625) (hk : k ≡ at_most24 a.n) (hc : c ≡ column_of k a.dense)
-    (f : columns valid diag dense interchanges ≡ factor_apart (at_most24 a.n) a.two_nodes a.diag a.next a.prev a.dense (replicate 25 0))
-    (l : last ≡ factor_last (at_most24 a.n) dense interchanges c) (v : pivot ≡ valid_divisor (get_or last (at_most24 a.n) nan)) where
-  own : c ≡ column_of (at_most24 a.n) a.dense
-  own = rw hk at hc
+module _ (a : Matrix) (b : List Float) (f : Factors) (c last : List Float) (x : Rust.Result (Unit {0}) SolveError)
+    (ha : length a.dense ≡ 625) (hc : c ≡ column_of (at_most24 a.n) a.dense) (hf : f ≡ factored_columns (unfactored a))
+    (l : last ≡ factor_last (at_most24 f.chains.n) f.lu.matrix f.lu.interchanges c)
+    (v : answered x ≡ require (f.valid && valid_divisor (get_or last (at_most24 f.chains.n) nan)) divisor) where
+  same_n : f.chains.n ≡ a.n
+  same_n = ap (λ (g : Factors). g.chains.n) hf
 
   beside : Apart (at_most24 a.n) a.dense a.dense c
-  beside = rw own (own_column (at_most24 a.n) a.dense ha)
+  beside = rw hc (own_column (at_most24 a.n) a.dense ha)
 
   fits : length c ≡ 25
-  fits = rw own (column_length (at_most24 a.n) a.dense)
+  fits = rw hc (column_length (at_most24 a.n) a.dense)
 
-  pub parts_divisor : (valid && pivot) ≡ false → fast_solver a b ≡ solved 12 b
-  parts_divisor t = apart_divisor a a.dense c valid diag dense interchanges last beside fits f l b (rw v at t)
+  own_last : last ≡ factor_last (at_most24 a.n) f.lu.matrix f.lu.interchanges c
+  own_last = rw same_n at l
 
-  pub parts_solved : (temps inner : List Float) → length b ≡ 121 → (valid && pivot) ≡ true →
-      temps ≡ reduce_chains (at_most24 a.n) a.two_nodes diag a.prev b →
-      inner ≡ inner_shares (at_most24 a.n) diag a.prev temps (replicate 24 zero64) →
-      fast_solver a b ≡ substitute_apart (at_most24 a.n) a.two_nodes diag a.next dense last interchanges (gather_reduced (at_most24 a.n) temps inner) temps
-  parts_solved temps inner hb t r i =
-      rw (i, r) (apart_reduced a a.dense c valid diag dense interchanges last beside fits f l (rw v at t) b (replicate 24 zero64) hb refl)
+  pub parts_divisor : (e : SolveError) → x ≡ Err e → fast_solver a b ≡ solved (number_of e) b
+  parts_divisor e h =
+      let t = refused_divisor (f.valid && valid_divisor (get_or last (at_most24 a.n) nan)) (number_of e) (rw (h, same_n) at v) in
+      rw (t.1)
+      (apart_divisor a a.dense c f.valid f.chains.diag f.lu.matrix f.lu.interchanges last beside fits (factored_are (unfactored a) f hf) own_last b (t.0))
+
+  pub parts_solved : (base : RightSide) (u : Unit {0}) → length b ≡ 121 → x ≡ Ok u →
+      base ≡ reduced_base f (record { b = b; inner = replicate 24 zero64 }) →
+      fast_solver a b
+      ≡ substitute_apart (at_most24 f.chains.n) f.chains.two_nodes f.chains.diag f.chains.next f.lu.matrix last f.lu.interchanges
+      (gather_reduced (at_most24 f.chains.n) base.b base.inner) base.b
+  parts_solved base u hb h r =
+      let t = ok_divisor (f.valid && valid_divisor (get_or last (at_most24 a.n) nan)) u (rw (h, same_n) at v) in
+      rw (r, same_n, ap (λ (g : Factors). g.chains.two_nodes) hf, ap (λ (g : Factors). g.chains.next) hf, ap (λ (g : Factors). g.chains.prev) hf)
+      (apart_reduced a a.dense c f.valid f.chains.diag f.lu.matrix f.lu.interchanges last beside fits (factored_are (unfactored a) f hf) own_last t b (replicate 24 zero64) hb refl)

@@ -6,7 +6,8 @@ use Rattle.solver.specs.F64.{◌-ᶠ◌, ◌*ᶠ◌, ◌/ᶠ◌, zero64, one64}
 use Rattle.solver.specs.Closeness.{valid_divisor}
 use Rattle.solver.specs.Repeat.{repeat}
 use Rattle.solver.specs.Rows.{entry, row, pivot_row, eliminate_row}
-use Rattle.solver.specs.Lu.{Lu, lu_with, interchange_rows, pivots_valid, apply_interchanges, forward_substitution, back_substitution}
+use Rattle.solver.specs.declared.lu.Lu.{Lu}
+use Rattle.solver.specs.Lu.{lu_with, interchange_rows, pivots_valid, apply_interchanges, forward_substitution, back_substitution}
 
 -- column j: its entry i is the matrix's
 abbrev pub column_entry : ℕ → List Float → ℕ → List Float → List Float

@@ -2,7 +2,7 @@
 -- (proofs/Laws/Solver.antt) ties `fast_solver` to `solve`, which alone the zone's promise cites.
 use Rattle.std.specs.Prelude.{ℕ, zero, suc, ◌+◌, List, Bool, cond, ◌&&◌, replicate, Float}
 use Rattle.solver.specs.declared.system.Matrix.{Matrix}
-use Rattle.solver.specs.declared.system.Solved.{Solved}
+use Rattle.solver.specs.declared.chain.Chains.{Chains}
 use Rattle.solver.specs.Numbers.{divisor, temperature}
 use Rattle.solver.specs.Result.{Result, ok, refused}
 use Rattle.solver.specs.Lu.{lu_factor, pivots_valid}
@@ -26,6 +26,10 @@ factor a interchanges =
     factor_dense n a.two_nodes (eliminate_chains n a.two_nodes a.next a.prev a.diag) a.dense interchanges
 
 -- a right side solved for: 0 or a refusal's number, and the temperatures in their slots
+pub record Solved : Type 0 where
+  pub number : ℕ
+  pub temps : List Float
+
 abbrev pub solved : (number : ℕ) (temps : List Float) → Solved
 solved number temps = record { number = number; temps = temps }
 
@@ -40,6 +44,10 @@ substitute a interchanges b =
 abbrev pub with_factors : Matrix → (diag dense : List Float) → Matrix
 with_factors a diag dense =
     record { n = a.n; two_nodes = a.two_nodes; diag = diag; next = a.next; prev = a.prev; dense = dense }
+
+-- chains with other own coefficients
+abbrev pub with_diag : Chains → (diag : List Float) → Chains
+with_diag c diag = record { n = c.n; two_nodes = c.two_nodes; diag = diag; next = c.next; prev = c.prev }
 
 -- goes on with a matrix that is factored; a refusal leaves the right side as it was
 abbrev pub substitute_factored : Matrix → List Float → Factored → Solved

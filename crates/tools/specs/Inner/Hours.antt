@@ -7,8 +7,9 @@ use Rattle.book.specs.Model.Bytes.{map_option}
 use Rattle.book.specs.Model.Calls.{whole_entries}
 use Rattle.book.specs.Inner.Reader.{state_in}
 use Rattle.book.specs.Year.{entry_length, year_interface}
+use Rattle.std.specs.Prelude.{None, Some}
+use Rattle.std.specs.Prelude as Rust
 use Rattle.tools.specs.declared.hours.NextHour.{NextHour}
-use Rattle.tools.specs.declared.hours.NextHour.TheVariants.{End, Next}
 
 -- after the hour of an entry
 abbrev pub entry_temperature : Zone → (entry : List ℕ) → Float
@@ -22,9 +23,9 @@ pub record FirstEntry : Type 0 where
   pub length : ℕ
   pub temperature : Float
 
-abbrev pub first_entry_of : NextHour → Option FirstEntry
-first_entry_of End = none
-first_entry_of (Next length temperature) = some (record { length = length; temperature = temperature })
+abbrev pub first_entry_of : Rust.Option NextHour → Option FirstEntry
+first_entry_of None = none
+first_entry_of (Some h) = some (record { length = h.length; temperature = h.temperature })
 
 abbrev pub first_entry_in : Zone → (rest : List ℕ) → Option FirstEntry
 first_entry_in z rest = map_option (λ n. record { length = n; temperature = entry_temperature z (take n rest) }) (entry_length z rest)

@@ -1,7 +1,7 @@
--- Laws of digits and the numbers that they write, and of the loops over them.
+-- Laws of digits and the numbers that they write, and of the loop over them.
 use Prim.Native.Nat.{ℕ, suc, ◌+◌, ◌-◌, ◌*◌, ◌^◌, ◌≤◌, ◌<◌}
 use mathlib.Core.Path.{◌≡◌, refl, sym, ap, ◌∙◌}
-use mathlib.Core.Bool.{true, false}
+use mathlib.Core.Bool.{true}
 use mathlib.Core.List.{List, [], ◌∷◌, ◌++◌}
 use native.Mathlib.Nat.{mul_assoc, mul_comm, mul_left_comm, add-mul, pow-le-pow_right, mul-le-mul_left, mul-le-mul_right}
 use native.Mathlib.Numerals.{add-one}
@@ -9,59 +9,32 @@ use native.Mathlib.Omega.{arith}
 use lib.ListN.{length, length-drop, length-append, drop, get_or, drop_of_length-le}
 use lib.Dec.{leb}
 use lib.Pow.{pow-add}
-use borrow.Author.Tests.{leb-true, ne_eqb}
-use Rattle.zone.proofs.Promise.{and_true, drop_next}
-use Rattle.weather.specs.Numbers.{digit0, digit9, point, most_digits}
-use Rattle.weather.specs.Split.{without}
-use Rattle.weather.specs.Decimal.{is_digit, all_digits, is_digits, number}
+use borrow.Author.Tests.{leb-true}
+use Rattle.std.proofs.lemmas.Bool.{and_parts}
+use Rattle.std.proofs.lemmas.List.{drop_more}
+use Rattle.weather.specs.Numbers.{digit0, digit9, most_digits}
+use Rattle.weather.specs.Decimal.{is_digit, all_digits, number}
 
--- ---- whether all are digits
-
-module _ (bs : List ℕ) (i : ℕ) where
-  pub digits_next : i < length bs → is_digit (get_or bs i 0) ≡ true → all_digits (drop i bs) ≡ all_digits (drop (i + 1) bs)
-  unfolding all_digits
-  digits_next h d = rw (drop_next bs i 0 h, d) refl
-
-  pub digits_stop : i < length bs → is_digit (get_or bs i 0) ≡ false → all_digits (drop i bs) ≡ false
-  unfolding all_digits
-  digits_stop h d = rw (drop_next bs i 0 h, d) refl
-
-  pub digits_end : length bs ≤ i → all_digits (drop i bs) ≡ true
-  unfolding all_digits
-  digits_end h = rw (drop_of_length-le bs {i = i} h) refl
-
-  pub digit_bounds : i < length bs → all_digits (drop i bs) ≡ true → (digit0 ≤ get_or bs i 0) × (get_or bs i 0 ≤ digit9) × (all_digits (drop (i + 1) bs) ≡ true)
-  unfolding all_digits
-  digit_bounds h d =
-      let e : all_digits (get_or bs i 0 ∷ drop (i + 1) bs) ≡ true = ap all_digits (sym (drop_next bs i 0 h)) ∙ d in
-      let a = and_true (is_digit (get_or bs i 0)) (all_digits (drop (i + 1) bs)) e in
-      let b = and_true (leb digit0 (get_or bs i 0)) (leb (get_or bs i 0) digit9) a.0 in
-      (leb-true _ _ b.0, leb-true _ _ b.1, a.1)
-
-pub no_digit : (bs : List ℕ) → length bs ≡ 0 → is_digits bs ≡ false
-unfolding is_digits
-no_digit [] h = refl
-no_digit (b ∷ bs) h = absurd (omega (arith, h))
-
-pub some_digits : (bs : List ℕ) → (length bs ≡ 0 → ⊥) → is_digits bs ≡ all_digits bs
-unfolding is_digits
-some_digits [] h = absurd (h refl)
-some_digits (b ∷ bs) h = refl
-
-pub digits_all : (bs : List ℕ) → is_digits bs ≡ true → all_digits bs ≡ true
-unfolding is_digits all_digits
-digits_all [] h = refl
-digits_all (b ∷ bs) h = h
+pub digit_bounds : (b : ℕ) → is_digit b ≡ true → (digit0 ≤ b) × (b ≤ digit9)
+digit_bounds b h = let a = and_parts (leb digit0 b) (leb b digit9) h in (leb-true _ _ a.0, leb-true _ _ a.1)
 
 -- ---- the number that they write
 
 pub number_next : (bs : List ℕ) (i : ℕ) → i < length bs → number (drop i bs) ≡ (get_or bs i 0 - digit0) * 10 ^ (length bs - (i + 1)) + number (drop (i + 1) bs)
 unfolding number
-number_next bs i h = rw (drop_next bs i 0 h, length-drop (i + 1) bs) refl
+number_next bs i h = rw (drop_more bs i 0 h, length-drop (i + 1) bs) refl
 
 -- ---- the loop that appends digits to a number: of the number so far and of the digits left
 
 module _ (ds : List ℕ) (n i : ℕ) where
+  -- the next digit, and that all behind it are digits
+  pub digit_next : i < length ds → all_digits (drop i ds) ≡ true → (digit0 ≤ get_or ds i 0) × (get_or ds i 0 ≤ digit9) × (all_digits (drop (i + 1) ds) ≡ true)
+  digit_next h d =
+      let e : all_digits (get_or ds i 0 ∷ drop (i + 1) ds) ≡ true = ap all_digits (sym (drop_more ds i 0 h)) ∙ d in
+      let a = and_parts (is_digit (get_or ds i 0)) (all_digits (drop (i + 1) ds)) e in
+      let b = digit_bounds (get_or ds i 0) a.0 in
+      (b.0, b.1, a.1)
+
   pub digits_append : i < length ds
       → n * 10 ^ (length ds - i) + number (drop i ds) ≡ (10 * n + (get_or ds i 0 - digit0)) * 10 ^ (length ds - (i + 1)) + number (drop (i + 1) ds)
   digits_append h = ap (λ (x : ℕ). n * 10 ^ (length ds - i) + x) (number_next ds i h) ∙ go (length ds - (i + 1)) (length ds - i) (omega (arith, h))
@@ -98,37 +71,19 @@ number_append (b ∷ w) f =
 
 -- so many digits write less than 10 to that power
 pub number_less : (bs : List ℕ) → all_digits bs ≡ true → number bs < 10 ^ length bs
-unfolding number all_digits
+unfolding number
 number_less [] d = omega arith
 number_less (b ∷ bs) d =
-    let a = and_true (is_digit b) (all_digits bs) d in
-    let t = and_true (leb digit0 b) (leb b digit9) a.0 in
-    let top : b - digit0 ≤ 9 = omega (arith, leb-true digit0 b t.0, leb-true b digit9 t.1) in
+    let a = and_parts (is_digit b) (all_digits bs) d in
+    let t = digit_bounds b a.0 in
+    let top : b - digit0 ≤ 9 = omega (arith, t.0, t.1) in
     let m : (b - digit0) * 10 ^ length bs ≤ 9 * 10 ^ length bs = mul-le-mul_right (10 ^ length bs) top in
     let p : 10 ^ suc (length bs) ≡ 10 * 10 ^ length bs = ap (λ (x : ℕ). 10 ^ x) (sym (add-one (length bs))) ∙ pow-add 10 (length bs) 1 ∙ mul_comm (10 ^ length bs) (10 ^ 1) in
     omega (arith, m, p, number_less bs a.1)
-
--- a digit is no point
-pub digits_without : (bs : List ℕ) → all_digits bs ≡ true → without point bs ≡ true
-unfolding without all_digits
-digits_without [] d = refl
-digits_without (b ∷ bs) d =
-    let a = and_true (is_digit b) (all_digits bs) d in
-    let t = and_true (leb digit0 b) (leb b digit9) a.0 in
-    let other : b ≡ point → ⊥ = λ e. omega (arith, leb-true digit0 b t.0, e) in
-    rw (ne_eqb b point other) (digits_without bs a.1)
 
 -- 12 places suffice
 pub power_few : (k : ℕ) → k ≤ most_digits → 10 ^ k ≤ 10 ^ most_digits
 power_few k h = pow-le-pow_right {n = 10} (omega arith) h
 
-pub power_next : (k : ℕ) → 10 * 10 ^ k ≡ 10 ^ (k + 1)
-power_next k = mul_comm 10 (10 ^ k) ∙ sym (pow-add 10 k 1)
-
 pub power_some : (k : ℕ) → 0 < 10 ^ k
 power_some k = pow-le-pow_right {n = 10} (omega arith) {i = 0} {j = k} (omega arith)
-
-pub digits_both : (w f : List ℕ) → all_digits w ≡ true → all_digits f ≡ true → all_digits (w ++ f) ≡ true
-unfolding all_digits
-digits_both [] f d h = h
-digits_both (b ∷ w) f d h = let a = and_true (is_digit b) (all_digits w) d in rw a.0 (digits_both w f a.1 h)

@@ -1,32 +1,20 @@
 -- Laws of files that are written line by line and of lines that are written field by field: they split into what they are written of.
-use Prim.Native.Nat.{ℕ, zero, suc, ◌+◌, ◌≤◌, ◌<◌}
+use Prim.Native.Nat.{ℕ, suc, ◌+◌, ◌≤◌, ◌<◌}
 use mathlib.Core.Path.{◌≡◌, refl, ap, ◌∙◌}
 use mathlib.Core.Bool.{true}
 use mathlib.Core.List.{List, [], ◌∷◌, ◌++◌, append_assoc}
-use mathlib.Core.Option.{none, some}
+use Rattle.std.specs.Prelude.{Some, None, slice_get}
 use native.Mathlib.Omega.{arith}
-use lib.ListN.{length, length-append, drop, drop_of_length-le, get_or, get_elem?}
+use lib.ListN.{length, length-append, drop, drop_of_length-le}
 use lib.Seq.{drop-drop, drop_at}
-use Rattle.zone.proofs.Promise.{and_true}
+use Rattle.std.proofs.lemmas.Grind.{common_steps}
+use Rattle.std.proofs.lemmas.Bool.{and_parts}
 use Rattle.weather.specs.Numbers.{line_feed, carriage_return, comma, header_lines}
 use Rattle.weather.specs.Split.{split, without}
 use Rattle.weather.specs.Lines.{without_return, ended, line_of}
 use Rattle.weather.specs.Claims.{joined, separated, all_without}
 use Rattle.weather.proofs.Laws.Split.{split_first, split_last, split_some, without_next}
-use Rattle.weather.proofs.Laws.Lines.{line_from}
-
-module _ {A : Type 0} where
-  -- an element that is there
-  pub at_inside : (l : List A) (n : ℕ) (d : A) → n < length l → get_elem? l n ≡ some (get_or l n d)
-  at_inside [] n d h = absurd (omega (arith, h))
-  at_inside (a ∷ l) zero d h = refl
-  at_inside (a ∷ l) (suc n) d h = at_inside l n d (omega (arith, h))
-
-  -- and one behind the last
-  pub at_behind : (l : List A) (n : ℕ) → length l ≤ n → get_elem? l n ≡ none
-  at_behind [] n h = refl
-  at_behind (a ∷ l) zero h = absurd (omega (arith, h))
-  at_behind (a ∷ l) (suc n) h = at_behind l n (omega (arith, h))
+use Rattle.weather.proofs.Laws.Lines.{at_drop, ended_drop, line_from}
 
 -- ---- lines
 
@@ -35,7 +23,7 @@ pub split_joined : (earlier : List (List ℕ)) (rest : List ℕ) → all_without
 unfolding all_without joined
 split_joined [] rest h = refl
 split_joined (p ∷ ps) rest h =
-    let a = and_true (without line_feed p) (all_without line_feed ps) h in
+    let a = and_parts (without line_feed p) (all_without line_feed ps) h in
     ap (split line_feed) (append_assoc p (line_feed ∷ joined ps) rest)
     ∙ split_first line_feed p (joined ps ++ rest) a.0
     ∙ ap (λ (l : List (List ℕ)). p ∷ l) (split_joined ps rest a.1)
@@ -45,37 +33,40 @@ module _ (earlier : List (List ℕ)) (n : ℕ) (rest : List ℕ) (apart : all_wi
   left : drop n (drop header_lines (split line_feed (joined earlier ++ rest))) ≡ drop (header_lines + n) (earlier ++ split line_feed rest)
   left = drop-drop n header_lines (split line_feed (joined earlier ++ rest)) ∙ ap (λ (l : List (List ℕ)). drop (header_lines + n) l) (split_joined earlier rest apart)
 
-  -- the line behind so many lines is the first of the rest
-  pub line_behind : length earlier ≡ header_lines + n → line_of (joined earlier ++ rest) (suc n) ≡ get_elem? (ended (split line_feed rest)) 0
-  line_behind h =
+  -- the line with n lines behind the headers before it is the first of what is left
+  first_left : line_of (joined earlier ++ rest) (suc n) ≡ slice_get (ended (drop (header_lines + n) (earlier ++ split line_feed rest))) 0
+  first_left =
       line_from (joined earlier ++ rest) n
-      ∙ ap (λ (l : List (List ℕ)). get_elem? (ended l) 0) (left ∙ drop_at earlier (split line_feed rest) (header_lines + n) h)
+      ∙ at_drop (ended (drop header_lines (split line_feed (joined earlier ++ rest)))) n
+      ∙ ap (λ (l : List (List ℕ)). slice_get l 0) (ended_drop n (drop header_lines (split line_feed (joined earlier ++ rest))))
+      ∙ ap (λ (l : List (List ℕ)). slice_get (ended l) 0) left
+
+  -- the line behind so many lines is the first of the rest
+  pub line_behind : length earlier ≡ header_lines + n → line_of (joined earlier ++ rest) (suc n) ≡ slice_get (ended (split line_feed rest)) 0
+  line_behind h = first_left ∙ ap (λ (l : List (List ℕ)). slice_get (ended l) 0) (drop_at earlier (split line_feed rest) (header_lines + n) h)
 
   -- there is no line behind the last
-  pub line_none : without line_feed rest ≡ true → length earlier < header_lines + n → line_of (joined earlier ++ rest) (suc n) ≡ none
+  pub line_none : without line_feed rest ≡ true → length earlier < header_lines + n → line_of (joined earlier ++ rest) (suc n) ≡ None
   unfolding ended
   line_none w h =
       let pieces : earlier ++ split line_feed rest ≡ earlier ++ rest ∷ [] = ap (λ (l : List (List ℕ)). earlier ++ l) (split_last line_feed rest w) in
       let few : length (earlier ++ rest ∷ []) ≤ header_lines + n = omega (arith, length-append earlier (rest ∷ []), h) in
-      line_from (joined earlier ++ rest) n
-      ∙ ap (λ (l : List (List ℕ)). get_elem? (ended l) 0) (left ∙ ap (λ (l : List (List ℕ)). drop (header_lines + n) l) pieces ∙ drop_of_length-le (earlier ++ rest ∷ []) few)
+      first_left
+      ∙ ap (λ (l : List (List ℕ)). slice_get (ended l) 0) (ap (λ (l : List (List ℕ)). drop (header_lines + n) l) pieces ∙ drop_of_length-le (earlier ++ rest ∷ []) few)
 
 -- a line that ends with a line feed
-pub first_ended : (line rest : List ℕ) → without line_feed line ≡ true → get_elem? (ended (split line_feed (line ++ line_feed ∷ rest))) 0 ≡ some (without_return line)
+pub first_ended : (line rest : List ℕ) → without line_feed line ≡ true → slice_get (ended (split line_feed (line ++ line_feed ∷ rest))) 0 ≡ Some (without_return line)
 unfolding ended
 first_ended line rest w = let s = split_some line_feed rest in rw (split_first line_feed line rest w, s.are) refl
 
 -- and one that the file ends
-pub last_ended : (line : List ℕ) → without line_feed line ≡ true → get_elem? (ended (split line_feed line)) 0 ≡ some line
+pub last_ended : (line : List ℕ) → without line_feed line ≡ true → slice_get (ended (split line_feed line)) 0 ≡ Some line
 unfolding ended
 last_ended line w = rw (split_last line_feed line w) refl
 
 -- a carriage return at the end is taken off
 pub return_off_end : (line : List ℕ) → without_return (line ++ carriage_return ∷ []) ≡ line
-unfolding without_return
-return_off_end [] = refl
-return_off_end (b ∷ []) = refl
-return_off_end (b ∷ c ∷ line) = ap (λ (l : List ℕ). b ∷ l) (return_off_end (c ∷ line))
+return_off_end line = grind (arith, common_steps)
 
 pub return_apart : (line : List ℕ) → without line_feed line ≡ true → without line_feed (line ++ carriage_return ∷ []) ≡ true
 return_apart line w = without_next line_feed carriage_return line w refl
@@ -85,7 +76,7 @@ return_apart line w = without_next line_feed carriage_return line w refl
 -- fields that are written, at least one, are the pieces between commas
 pub split_separated : (f : List ℕ) (fs : List (List ℕ)) → all_without comma (f ∷ fs) ≡ true → split comma (separated (f ∷ fs)) ≡ f ∷ fs
 unfolding all_without separated
-split_separated f [] h = split_last comma f (and_true (without comma f) true h).0
+split_separated f [] h = split_last comma f (and_parts (without comma f) true h).0
 split_separated f (g ∷ gs) h =
-    let a = and_true (without comma f) (all_without comma (g ∷ gs)) h in
+    let a = and_parts (without comma f) (all_without comma (g ∷ gs)) h in
     split_first comma f (separated (g ∷ gs)) a.0 ∙ ap (λ (l : List (List ℕ)). f ∷ l) (split_separated g gs a.1)

@@ -1,230 +1,145 @@
 // The warm and the cold hour: demand, then the hour step in version 1 and in version 2 from the same state.
 use crate::chilled_ceiling::room::{
-    CONDITIONS, COOLING_SETPOINT, HEATING_SETPOINT, cold_hour, warm_hour,
+    CONDITIONS, COOLING_SETPOINT, HEATING_SETPOINT, Room, cold_hour, warm_hour,
 };
-use crate::limits::not_looked_at;
-use crate::replies::verdict_number;
-use crate::table::{holds, number, shown, text, value};
+use crate::limits::Meeting;
+use crate::refusal::Refusal;
+use crate::replies::number_of;
+use crate::table::{holds, row, shown, value};
+use crate::zone_read::ZoneRead;
 use std::io;
-use zone::{Demand, DemandAnswer, HourAnswer, Limits, OperativeReply, State, ZoneFront};
+use zone::{Demand, State};
 
 // A distance that is no more than rounding, and one that the room's people notice.
 pub const KEPT: f64 = 1e-9;
 
 const MISSED: f64 = 0.1;
 
-// A temperature that is near no setpoint.
-const NOWHERE: f64 = -273.15;
+pub fn print_start<'a>(rt: &impl Print, head: &'a [u8]) -> anyhow::Result<Room<'a>> {
+    let zone = ZoneRead::read(head)?;
+    let start = zone.start_up();
+    row(rt, "start-up, refusal", number_of(&start), 0)?;
+    Ok(Room {
+        zone,
+        start: start?,
+    })
+}
 
-// The demand that is asked before an hour is met.
+// An hour of the room from its start, that was asked for its demand and is met in one way or another.
 #[derive(Clone, Copy)]
-pub struct Asked {
-    pub heating: f64,
-    pub cooling: f64,
-    pub rate: f64,
+pub struct Hour<'a> {
+    room: &'a Room<'a>,
+    conditions: [u8; CONDITIONS],
+    pub asked: Demand,
 }
 
-pub fn print_start(
-    rt: &impl Print,
-    z: ZoneFront,
-    codes: &[u8; 72],
-    values: &[f64; 600],
-) -> io::Result<State> {
-    let x = zone::init_node_temps(z, codes, values);
-    let verdict = x.verdict;
-    number(
-        rt,
-        b"start-up, refusal                ",
-        verdict_number(verdict),
-        0,
-    )?;
-    Ok(x.state)
-}
-
-// A refused demand is printed as such, and its heating and cooling are no demand's.
-pub fn print_asked(
-    rt: &impl Print,
-    z: ZoneFront,
-    codes: &[u8; 72],
-    values: &[f64; 600],
-    s: State,
-    conditions: &[u8; CONDITIONS],
-) -> io::Result<Asked> {
-    let x = s.space_heat_cool_demand(z, codes, values, conditions);
-    let answer = x.answer;
-    match answer {
-        DemandAnswer::Refused {
-            number: n,
-            index: _,
-        } => {
-            number(rt, b"  demand, refusal                ", n as u64, 0)?;
-            Ok(Asked {
-                heating: -1.0,
-                cooling: 1.0,
-                rate: 0.0,
-            })
-        }
-        DemandAnswer::Accepted(d) => {
-            shown(rt, b"  heating, kWh           ", d.space_heat_demand)?;
-            shown(rt, b"  cooling, kWh           ", d.space_cool_demand)?;
-            Ok(Asked {
-                heating: d.space_heat_demand,
-                cooling: d.space_cool_demand,
-                rate: d.ach_cooling,
-            })
-        }
+impl<'a> Hour<'a> {
+    pub fn ask(
+        rt: &impl Print,
+        room: &'a Room<'a>,
+        conditions: [u8; CONDITIONS],
+    ) -> anyhow::Result<Hour<'a>> {
+        let asked = room.zone.demand(room.start, &conditions)?;
+        shown(rt, "  heating, kWh", asked.space_heat_demand)?;
+        shown(rt, "  cooling, kWh", asked.space_cool_demand)?;
+        Ok(Hour {
+            room,
+            conditions,
+            asked,
+        })
     }
 }
 
-// Neither version nor limits change anything of the demand.
-fn print_demand(rt: &impl Print, d: Demand, asked: Asked) -> io::Result<()> {
-    value(
-        rt,
-        b"  heating, kWh                   ",
-        d.space_heat_demand,
-        asked.heating,
-        b"  as asked   ",
-    )?;
-    value(
-        rt,
-        b"  cooling, kWh                   ",
-        d.space_cool_demand,
-        asked.cooling,
-        b"  as asked   ",
-    )
-}
-
-// The state after the hour; of a refused hour the one before it.
-pub fn state_after(
-    rt: &impl Print,
-    z: ZoneFront,
-    codes: &[u8; 72],
-    values: &[f64; 600],
-    s: State,
-    conditions: &[u8; CONDITIONS],
-    version: u64,
-    limits: Limits,
-    asked: Asked,
-) -> io::Result<State> {
-    let x = s.hour_step(z, codes, values, conditions, version, limits);
-    let answer = x.answer;
-    match answer {
-        HourAnswer::Refused {
-            number: n,
-            index: _,
-        } => number(rt, b"  hour step, refusal             ", n as u64, 0)?,
-        HourAnswer::Accepted(d, _) => print_demand(rt, d, asked)?,
-    }
-    Ok(x.state)
-}
-
-// The temperature under control; a refusal is printed as such, and then no setpoint is kept.
-pub fn operative(
-    rt: &impl Print,
-    z: ZoneFront,
-    codes: &[u8; 72],
-    values: &[f64; 600],
-    s: State,
-) -> io::Result<f64> {
-    let answer = s.temp_operative(z, codes, values);
-    match answer {
-        OperativeReply::Refused {
-            number: n,
-            index: _,
-        } => {
-            number(rt, b"  operative temperature, refusal ", n as u64, 0)?;
-            Ok(NOWHERE)
+impl Hour<'_> {
+    // Neither version nor limits change anything of the demand.
+    fn print_demand(&self, rt: &impl Print, came: Demand) -> io::Result<()> {
+        let asked = self.asked;
+        for (name, came, asked) in [
+            (
+                "  heating, kWh",
+                came.space_heat_demand,
+                asked.space_heat_demand,
+            ),
+            (
+                "  cooling, kWh",
+                came.space_cool_demand,
+                asked.space_cool_demand,
+            ),
+        ] {
+            value(rt, name, came, asked, "as asked")?;
         }
-        OperativeReply::Accepted(t) => Ok(t),
+        Ok(())
+    }
+
+    // The state after the hour.
+    pub fn meet(&self, rt: &impl Print, meeting: Meeting) -> anyhow::Result<State> {
+        let Room { zone, start } = self.room;
+        let step = zone.hour_step(*start, &self.conditions, meeting);
+        let (demand, _) = step.answer.map_err(Refusal::from)?;
+        self.print_demand(rt, demand)?;
+        Ok(step.state)
+    }
+
+    // The state after the hour with this power, by this fraction and at the rate that was asked.
+    pub fn update(&self, power: f64, fraction: f64) -> Result<State, Refusal> {
+        let Room { zone, start } = self.room;
+        let share = if power == 0.0 {
+            0.0
+        } else {
+            power * fraction / power
+        };
+        let rate = self.asked.ach_cooling;
+        let (after, _) = zone.update(*start, &self.conditions, power, share, rate)?;
+        Ok(after)
+    }
+
+    // The temperature under control after the hour in this version, printed with its distance from a setpoint.
+    fn print_met(&self, rt: &impl Print, version: u64, setpoint: f64) -> anyhow::Result<f64> {
+        println!(rt; "met in version {version}")?;
+        let after = self.meet(rt, Meeting::unlimited(version))?;
+        let temperature = self.room.zone.operative(after)?;
+        shown(rt, "  operative temperature", temperature)?;
+        shown(rt, "  from the setpoint", distance(temperature, setpoint))?;
+        Ok(temperature)
     }
 }
 
 pub fn distance(a: f64, b: f64) -> f64 {
-    if a < b { b - a } else { a - b }
+    (a - b).abs()
 }
 
-// The temperature after an hour in this version, printed with its distance from a setpoint.
-fn print_met(
-    rt: &impl Print,
-    z: ZoneFront,
-    codes: &[u8; 72],
-    values: &[f64; 600],
-    s: State,
-    conditions: &[u8; CONDITIONS],
-    version: u64,
-    asked: Asked,
-    setpoint: f64,
-) -> io::Result<f64> {
-    let after = state_after(
-        rt,
-        z,
-        codes,
-        values,
-        s,
-        conditions,
-        version,
-        not_looked_at(),
-        asked,
-    )?;
-    let t = operative(rt, z, codes, values, after)?;
-    shown(rt, b"  operative temperature  ", t)?;
-    shown(rt, b"  from the setpoint      ", distance(t, setpoint))?;
-    Ok(t)
+fn print_kept(rt: &impl Print, temperature: f64, setpoint: f64) -> io::Result<()> {
+    let kept = distance(temperature, setpoint) < KEPT;
+    holds(rt, "  the room keeps the setpoint", kept)
 }
 
-pub fn print_warm(
-    rt: &impl Print,
-    z: ZoneFront,
-    codes: &[u8; 72],
-    values: &[f64; 600],
-    s: State,
-) -> io::Result<()> {
-    let c = warm_hour();
-    text(
-        rt,
-        b"a warm hour, cooling setpoint 24, heating fraction 0.3, cooling fraction 0.7: asked\n",
+fn print_warm(rt: &impl Print, room: &Room) -> anyhow::Result<()> {
+    println!(rt;
+        "a warm hour, cooling setpoint 24, heating fraction 0.3, cooling fraction 0.7: asked"
     )?;
-    let asked = print_asked(rt, z, codes, values, s, &c)?;
-    text(rt, b"met in version 1\n")?;
-    let one = print_met(rt, z, codes, values, s, &c, 1, asked, COOLING_SETPOINT)?;
+    let hour = Hour::ask(rt, room, warm_hour())?;
+    let one = hour.print_met(rt, 1, COOLING_SETPOINT)?;
     holds(
         rt,
-        b"  the room is too warm",
+        "  the room is too warm",
         COOLING_SETPOINT + MISSED < one,
     )?;
-    text(rt, b"met in version 2\n")?;
-    let two = print_met(rt, z, codes, values, s, &c, 2, asked, COOLING_SETPOINT)?;
-    holds(
-        rt,
-        b"  the room keeps the setpoint",
-        distance(two, COOLING_SETPOINT) < KEPT,
-    )
+    let two = hour.print_met(rt, 2, COOLING_SETPOINT)?;
+    print_kept(rt, two, COOLING_SETPOINT)?;
+    Ok(())
 }
 
-pub fn print_cold(
-    rt: &impl Print,
-    z: ZoneFront,
-    codes: &[u8; 72],
-    values: &[f64; 600],
-    s: State,
-) -> io::Result<()> {
-    let c = cold_hour();
-    text(rt, b"a cold hour, heating setpoint 21: asked\n")?;
-    let asked = print_asked(rt, z, codes, values, s, &c)?;
-    text(rt, b"met in version 1\n")?;
-    let one = print_met(rt, z, codes, values, s, &c, 1, asked, HEATING_SETPOINT)?;
-    text(rt, b"met in version 2\n")?;
-    let two = print_met(rt, z, codes, values, s, &c, 2, asked, HEATING_SETPOINT)?;
-    value(
-        rt,
-        b"  operative temperature          ",
-        two,
-        one,
-        b"  version 1's",
-    )?;
-    holds(
-        rt,
-        b"  the room keeps the setpoint",
-        distance(two, HEATING_SETPOINT) < KEPT,
-    )
+fn print_cold(rt: &impl Print, room: &Room) -> anyhow::Result<()> {
+    println!(rt; "a cold hour, heating setpoint 21: asked")?;
+    let hour = Hour::ask(rt, room, cold_hour())?;
+    let one = hour.print_met(rt, 1, HEATING_SETPOINT)?;
+    let two = hour.print_met(rt, 2, HEATING_SETPOINT)?;
+    value(rt, "  operative temperature", two, one, "version 1's")?;
+    print_kept(rt, two, HEATING_SETPOINT)?;
+    Ok(())
+}
+
+pub fn print_hours(rt: &impl Print, room: &Room) -> anyhow::Result<()> {
+    print_warm(rt, room)?;
+    print_cold(rt, room)
 }

@@ -1,238 +1,118 @@
 // Books with entries of version 3, which may follow 1 and 2, "never the reverse", and bytes behind them.
-use crate::bytes::differing;
-use crate::chilled_ceiling::books::{FALSE_ENTRY, one_hour, print_used};
-use crate::chilled_ceiling::limit_entries::{BOOK, COOLING, HEATING, print_entries};
-use crate::chilled_ceiling::room::{ENTRY, HEAD, LIMITED_ENTRY, warm_hour};
-use crate::house_p::book_rows::taken_up;
-use crate::limits::{limits, wide};
-use crate::replies::{MADE_UP_COUNT, MADE_UP_USED, MADE_UP_VERSION, nothing};
-use crate::table::{number, text};
+use crate::chilled_ceiling::differing::differing;
+use crate::chilled_ceiling::limit_entries::{BOOK, COOLING, COUNTS, HEATING, print_entries};
+use crate::chilled_ceiling::room::{ENTRY, HEAD, LIMITED_ENTRY, Room, warm_hour};
+use crate::limits::{MOST, Meeting};
+use crate::refusal::Cause;
+use crate::replies::{Counts, Expected, MADE_UP, taken_up};
+use crate::table::row;
+use crate::zone_read::ZoneRead;
 use book::BookState;
 use std::io;
-use zone::{State, ZoneFront};
 
 // The used length with an entry of version 1, with one of version 3 behind it, and with another.
 const FIRST: usize = HEAD + ENTRY;
 
 const SECOND: usize = FIRST + LIMITED_ENTRY;
 
-pub const ROOM: usize = SECOND + LIMITED_ENTRY;
+pub const BUFFER: usize = SECOND + LIMITED_ENTRY;
 
-// Of an entry: its length and its version byte.
-const FRONT: usize = 5;
+const OF_ONE: Counts = Counts {
+    entries: 1,
+    used: FIRST,
+    last_version: 1,
+};
 
-const BUFFER_SHORT: u64 = 16;
+const OF_TWO: Counts = Counts {
+    entries: 2,
+    used: SECOND,
+    last_version: 3,
+};
+
+const OF_THREE: Counts = Counts {
+    entries: 3,
+    used: BUFFER,
+    last_version: 3,
+};
+
+// A book of one entry of version 3, and behind it room for a length and a version byte.
+const BEHIND: usize = BOOK + 5;
 
 // The warm hour appended in this version, and what the book then says.
 fn print_append(
     rt: &impl Print,
-    z: ZoneFront,
-    codes: &[u8; 72],
-    values: &[f64; 600],
+    zone: &ZoneRead,
     given: BookState,
     version: u64,
-    b: &mut [u8],
-    refusal: u64,
-    expected: BookState,
+    buffer: &mut [u8],
+    expected: Expected,
 ) -> io::Result<BookState> {
-    let c = warm_hour();
-    let r = book::append(
-        z,
-        codes,
-        values,
-        given,
-        &c,
-        version,
-        limits(HEATING, COOLING),
-        b,
-    );
-    let index = if refusal == FALSE_ENTRY {
-        expected.count
-    } else {
-        0
-    };
-    print_used(
-        rt,
-        r,
-        refusal,
-        index,
-        expected.count,
-        expected.used,
-        expected.last_version,
-    )?;
-    Ok(r.values)
-}
-
-// What is expected of a book; its temperatures are not looked at.
-fn book_of(count: usize, used: usize, last_version: u64) -> BookState {
-    let b = nothing();
-    let state = b.state;
-    BookState {
-        state,
-        count,
-        used,
-        last_version,
-    }
-}
-
-fn print_cut(
-    rt: &impl Print,
-    b: &[u8; ROOM],
-    cut: usize,
-    count: usize,
-    used: usize,
-    last_version: u64,
-) -> io::Result<()> {
-    print_used(rt, taken_up(b, cut), 0, 0, count, used, last_version)
-}
-
-fn print_order(
-    rt: &impl Print,
-    z: ZoneFront,
-    codes: &[u8; 72],
-    values: &[f64; 600],
-    h: &[u8],
-) -> io::Result<()> {
-    let mut b = [0u8; ROOM];
-    let begun = book::begin(nothing(), h, &mut b);
-    text(rt, b"a book with an entry of version 1\n")?;
-    let one = print_append(
-        rt,
-        z,
-        codes,
-        values,
-        begun.values,
-        1,
-        &mut b,
-        0,
-        book_of(1, FIRST, 1),
-    )?;
-    text(rt, b"behind it an append in version 3\n")?;
-    let two = print_append(
-        rt,
-        z,
-        codes,
-        values,
-        one,
-        3,
-        &mut b,
-        0,
-        book_of(2, SECOND, 3),
-    )?;
-    text(rt, b"behind it in version 2\n")?;
-    let kept = print_append(
-        rt,
-        z,
-        codes,
-        values,
-        two,
-        2,
-        &mut b,
-        FALSE_ENTRY,
-        book_of(2, SECOND, 3),
-    )?;
-    text(rt, b"in version 1\n")?;
-    let still = print_append(
-        rt,
-        z,
-        codes,
-        values,
-        kept,
-        1,
-        &mut b,
-        FALSE_ENTRY,
-        book_of(2, SECOND, 3),
-    )?;
-    text(rt, b"in version 3, with one byte too little\n")?;
-    print_short(rt, z, codes, values, still, SECOND)?;
-    text(rt, b"with just the room\n")?;
-    print_append(
-        rt,
-        z,
-        codes,
-        values,
-        still,
-        3,
-        &mut b,
-        0,
-        book_of(3, ROOM, 3),
-    )?;
-    text(rt, b"take-up of all\n")?;
-    print_cut(rt, &b, ROOM, 3, ROOM, 3)?;
-    text(rt, b"without the last byte\n")?;
-    print_cut(rt, &b, ROOM - 1, 2, SECOND, 3)?;
-    text(rt, b"with what an entry of version 2 has of the second\n")?;
-    print_cut(rt, &b, FIRST + ENTRY, 1, FIRST, 1)
+    let meeting = Meeting::with(version, HEATING, COOLING);
+    let reply = zone.append(given, &warm_hour(), meeting, buffer);
+    expected.print(rt, reply)?;
+    Ok(reply.values)
 }
 
 // An append into a buffer with a byte less than the entry needs, of which nothing is written.
-fn print_short(
-    rt: &impl Print,
-    z: ZoneFront,
-    codes: &[u8; 72],
-    values: &[f64; 600],
-    given: BookState,
-    used: usize,
-) -> io::Result<()> {
-    let mut short = [0u8; ROOM - 1];
-    let before = [0u8; ROOM - 1];
-    print_append(
-        rt,
-        z,
-        codes,
-        values,
-        given,
-        3,
-        &mut short,
-        BUFFER_SHORT,
-        book_of(2, used, 3),
-    )?;
-    number(
-        rt,
-        b"  bytes of the buffer changed    ",
-        differing(&short, &before, 0, ROOM - 1),
-        0,
-    )
+fn print_short(rt: &impl Print, zone: &ZoneRead, given: BookState) -> io::Result<()> {
+    let mut short = [0; BUFFER - 1];
+    let expected = OF_TWO.refused(Cause::BufferShort, 0);
+    println!(rt; "in version 3, with one byte too little")?;
+    print_append(rt, zone, given, 3, &mut short, expected)?;
+    let changed = differing(&short, &[0; BUFFER - 1]);
+    row(rt, "  bytes of the buffer changed", changed, 0)
+}
+
+fn print_order(rt: &impl Print, zone: &ZoneRead) -> io::Result<()> {
+    let mut book = [0; BUFFER];
+    let mut last = zone.begin(&mut book).values;
+    let refused = OF_TWO.refused(Cause::FalseEntry, 2);
+    for (title, version, expected) in [
+        ("a book with an entry of version 1", 1, OF_ONE.accepted()),
+        ("behind it an append in version 3", 3, OF_TWO.accepted()),
+        ("behind it in version 2", 2, refused),
+        ("in version 1", 1, refused),
+    ] {
+        println!(rt; "{title}")?;
+        last = print_append(rt, zone, last, version, &mut book, expected)?;
+    }
+    print_short(rt, zone, last)?;
+    println!(rt; "with just the room")?;
+    print_append(rt, zone, last, 3, &mut book, OF_THREE.accepted())?;
+    print_cuts(rt, &book)
+}
+
+fn print_cuts(rt: &impl Print, book: &[u8; BUFFER]) -> io::Result<()> {
+    println!(rt; "take-up of all")?;
+    OF_THREE.accepted().print(rt, taken_up(book))?;
+    println!(rt; "without the last byte")?;
+    let cut = &book[..BUFFER - 1];
+    OF_TWO.accepted().print(rt, taken_up(cut))?;
+    println!(rt; "with what an entry of version 2 has of the second")?;
+    let cut = &book[..FIRST + ENTRY];
+    OF_ONE.accepted().print(rt, taken_up(cut))
 }
 
 // Bytes of 0 behind an entry: "What is dropped at the end is a rest under 5 bytes"; with 5 there is a version byte, 0, which
 // no hour has and which "makes any rest of 5 bytes or more count as a whole entry, a false one".
-fn print_rests(
-    rt: &impl Print,
-    z: ZoneFront,
-    codes: &[u8; 72],
-    values: &[f64; 600],
-    h: &[u8],
-) -> io::Result<()> {
-    let c = warm_hour();
-    let mut b = [0u8; BOOK + FRONT];
-    one_hour(z, codes, values, h, &c, 3, wide(), &mut b);
-    text(
-        rt,
-        b"take-up of an entry of version 3 with 4 bytes behind it\n",
-    )?;
-    print_used(rt, taken_up(&b, BOOK + FRONT - 1), 0, 0, 1, BOOK, 3)?;
-    text(rt, b"with 5 bytes behind it\n")?;
-    print_used(
-        rt,
-        taken_up(&b, BOOK + FRONT),
-        FALSE_ENTRY,
-        1,
-        MADE_UP_COUNT,
-        MADE_UP_USED,
-        MADE_UP_VERSION,
-    )
+fn print_rests(rt: &impl Print, book: &[u8; BEHIND]) -> io::Result<()> {
+    println!(rt; "take-up of an entry of version 3 with 4 bytes behind it")?;
+    let cut = &book[..BEHIND - 1];
+    COUNTS.accepted().print(rt, taken_up(cut))?;
+    println!(rt; "with 5 bytes behind it")?;
+    let refused = MADE_UP.refused(Cause::FalseEntry, 1);
+    refused.print(rt, taken_up(book))
 }
 
-pub fn print_books(
-    rt: &impl Print,
-    z: ZoneFront,
-    codes: &[u8; 72],
-    values: &[f64; 600],
-    h: &[u8; HEAD],
-    start: State,
-) -> io::Result<()> {
-    print_entries(rt, z, codes, values, h, start)?;
-    print_order(rt, z, codes, values, h)?;
-    print_rests(rt, z, codes, values, h)
+fn print_behind(rt: &impl Print, zone: &ZoneRead) -> io::Result<()> {
+    let mut book = [0; BEHIND];
+    zone.book_of_one(&warm_hour(), Meeting::limited(MOST, MOST), &mut book);
+    print_rests(rt, &book)
+}
+
+pub fn print_books(rt: &impl Print, room: &Room) -> anyhow::Result<()> {
+    print_entries(rt, room)?;
+    print_order(rt, &room.zone)?;
+    print_behind(rt, &room.zone)?;
+    Ok(())
 }

@@ -1,11 +1,13 @@
 // An entry of version 3, part by part: the limits stand behind the conditions, the rest is as in version 2.
-use crate::bytes::{differing_at, read_u32_be, u64_of, write_f64s_be};
-use crate::chilled_ceiling::books::{CONDITIONS_FROM, VERSION, one_hour, print_used};
-use crate::chilled_ceiling::room::{CONDITIONS, HEAD, LIMITED_ENTRY, LIMITS, NODES, warm_hour};
-use crate::limits::{limits, not_looked_at, wide};
-use crate::table::{holds, number, text};
+use crate::chilled_ceiling::books::{CONDITIONS_FROM, VERSION};
+use crate::chilled_ceiling::differing::{bytes_of, differing, temperature_bytes};
+use crate::chilled_ceiling::room::{CONDITIONS, HEAD, LIMITED_ENTRY, LIMITS, Room, warm_hour};
+use crate::limits::{MOST, Meeting};
+use crate::replies::Counts;
+use crate::table::{holds, row};
+use big_endian::read_u32_be;
 use std::io;
-use zone::{Limits, State, ZoneFront};
+use zone::{Limits, State};
 
 // A book of one such entry, and places in it: the limits, then heating, cooling, rate and trigger, then the temperatures.
 pub const BOOK: usize = HEAD + LIMITED_ENTRY;
@@ -16,167 +18,87 @@ const DEMAND_FROM: usize = LIMITS_FROM + LIMITS;
 
 const DEMAND: usize = 33;
 
-const TEMPERATURES: usize = DEMAND_FROM + DEMAND;
-
-const STATE: usize = 8 * NODES;
+const TEMPERATURES_FROM: usize = DEMAND_FROM + DEMAND;
 
 // A greatest heating that the warm hour does not need, and less cooling than it needs, each byte of them told from 0.
 pub const HEATING: f64 = 1234.5678901234567;
 
 pub const COOLING: f64 = 123.45678901234567;
 
-// How many bytes are not the hour's conditions.
-fn unlike_conditions(b: &[u8; BOOK]) -> u64 {
-    let c = warm_hour();
-    differing_at(b, CONDITIONS_FROM, &c, 0, CONDITIONS)
+// The counts of a book with this entry alone.
+pub const COUNTS: Counts = Counts {
+    entries: 1,
+    used: BOOK,
+    last_version: 3,
+};
+
+// The parts of an entry of version 2, where the demand stands behind the conditions.
+#[derive(Clone, Copy)]
+struct Parts<'a> {
+    demand: &'a [u8],
+    temperatures: &'a [u8],
 }
 
-// Greatest heating, then greatest cooling.
-fn unlike_limits(b: &[u8; BOOK], l: Limits) -> u64 {
-    let floats = [l.heating, l.cooling];
-    let mut given = [0u8; LIMITS];
-    write_f64s_be(&mut given, 0, &floats, 2);
-    differing_at(b, LIMITS_FROM, &given, 0, LIMITS)
-}
-
-// The demand stands in an entry of version 2 where one of version 3 has its limits.
-fn unlike_demand(b: &[u8; BOOK], two: &[u8; BOOK]) -> u64 {
-    differing_at(b, DEMAND_FROM, two, LIMITS_FROM, DEMAND)
-}
-
-// Those that the hour step gives in version 3 with these limits.
-fn unlike_hour_step(
-    z: ZoneFront,
-    codes: &[u8; 72],
-    values: &[f64; 600],
-    start: State,
-    l: Limits,
-    b: &[u8; BOOK],
-) -> u64 {
-    let c = warm_hour();
-    let x = start.hour_step(z, codes, values, &c, 3, l);
-    let after = x.state;
-    let temps = after.temps;
-    let mut given = [0u8; STATE];
-    write_f64s_be(&mut given, 0, &temps, NODES);
-    differing_at(b, TEMPERATURES, &given, 0, STATE)
-}
-
-// Those of an entry of version 2.
-fn unlike_two(b: &[u8; BOOK], two: &[u8; BOOK]) -> u64 {
-    differing_at(b, TEMPERATURES, two, LIMITS_FROM + DEMAND, STATE)
+fn parts_of_two(book: &[u8; BOOK]) -> Parts<'_> {
+    Parts {
+        demand: &book[LIMITS_FROM..LIMITS_FROM + DEMAND],
+        temperatures: &book[LIMITS_FROM + DEMAND..BOOK - LIMITS],
+    }
 }
 
 // The entry's parts; 163 + 41n + 8N with n = 2 and N = 8 is 309.
 fn print_parts(
     rt: &impl Print,
-    z: ZoneFront,
-    codes: &[u8; 72],
-    values: &[f64; 600],
-    start: State,
-    l: Limits,
-    b: &[u8; BOOK],
+    book: &[u8; BOOK],
+    limits: Limits,
     two: &[u8; BOOK],
+    after: State,
 ) -> io::Result<()> {
-    number(
-        rt,
-        b"  length of what follows         ",
-        read_u32_be(b, HEAD),
-        309,
-    )?;
-    number(
-        rt,
-        b"  version byte                   ",
-        u64_of(b[VERSION]),
-        3,
-    )?;
-    text(rt, b"  bytes that differ\n")?;
-    number(
-        rt,
-        b"    of the conditions            ",
-        unlike_conditions(b),
-        0,
-    )?;
-    number(
-        rt,
-        b"    of the limits                ",
-        unlike_limits(b, l),
-        0,
-    )?;
-    number(
-        rt,
-        b"    of the demand, version 2's   ",
-        unlike_demand(b, two),
-        0,
-    )?;
-    number(
-        rt,
-        b"    of the hour step's temps     ",
-        unlike_hour_step(z, codes, values, start, l, b),
-        0,
-    )
+    row(rt, "  length of what follows", read_u32_be(book, HEAD), 309)?;
+    row(rt, "  version byte", book[VERSION], 3)?;
+    println!(rt; "  bytes that differ")?;
+    let conditions = differing(&book[CONDITIONS_FROM..LIMITS_FROM], &warm_hour());
+    row(rt, "    of the conditions", conditions, 0)?;
+    let given: [u8; LIMITS] = bytes_of(&[limits.heating, limits.cooling]);
+    let limits = differing(&book[LIMITS_FROM..DEMAND_FROM], &given);
+    row(rt, "    of the limits", limits, 0)?;
+    let demand = differing(
+        &book[DEMAND_FROM..TEMPERATURES_FROM],
+        parts_of_two(two).demand,
+    );
+    row(rt, "    of the demand, version 2's", demand, 0)?;
+    let temperatures = differing(&book[TEMPERATURES_FROM..], &temperature_bytes(after));
+    row(rt, "    of the hour step's temps", temperatures, 0)
 }
 
-// The warm hour's entry with these limits.
+// The warm hour's entry with these limits. Returns how many bytes of its temperatures are not those of version 2.
 fn print_entry(
     rt: &impl Print,
-    z: ZoneFront,
-    codes: &[u8; 72],
-    values: &[f64; 600],
-    h: &[u8],
-    start: State,
-    l: Limits,
+    room: &Room,
+    title: &str,
+    meeting: Meeting,
     two: &[u8; BOOK],
-) -> io::Result<[u8; BOOK]> {
-    let c = warm_hour();
-    let mut b = [0u8; BOOK];
-    let r = one_hour(z, codes, values, h, &c, 3, l, &mut b);
-    print_used(rt, r, 0, 0, 1, BOOK, 3)?;
-    print_parts(rt, z, codes, values, start, l, &b, two)?;
-    Ok(b)
+) -> io::Result<usize> {
+    let conditions = warm_hour();
+    let mut book = [0; BOOK];
+    let reply = room.zone.book_of_one(&conditions, meeting, &mut book);
+    let step = room.zone.hour_step(room.start, &conditions, meeting);
+    println!(rt; "{title}")?;
+    COUNTS.accepted().print(rt, reply)?;
+    print_parts(rt, &book, meeting.limits, two, step.state)?;
+    let temperatures = &book[TEMPERATURES_FROM..];
+    Ok(differing(temperatures, parts_of_two(two).temperatures))
 }
 
-fn entry_of_two(z: ZoneFront, codes: &[u8; 72], values: &[f64; 600], h: &[u8]) -> [u8; BOOK] {
-    let c = warm_hour();
-    let mut b = [0u8; BOOK];
-    one_hour(z, codes, values, h, &c, 2, not_looked_at(), &mut b);
-    b
-}
-
-pub fn print_entries(
-    rt: &impl Print,
-    z: ZoneFront,
-    codes: &[u8; 72],
-    values: &[f64; 600],
-    h: &[u8],
-    start: State,
-) -> io::Result<()> {
-    let two = entry_of_two(z, codes, values, h);
-    text(
-        rt,
-        b"the warm hour's entry in version 3, cooling limit 123.457 W: it holds\n",
-    )?;
-    let held = print_entry(
-        rt,
-        z,
-        codes,
-        values,
-        h,
-        start,
-        limits(HEATING, COOLING),
-        &two,
-    )?;
-    holds(
-        rt,
-        b"  version 2's temperatures differ",
-        unlike_two(&held, &two) != 0,
-    )?;
-    text(rt, b"both limits 1e7\n")?;
-    let not_held = print_entry(rt, z, codes, values, h, start, wide(), &two)?;
-    number(
-        rt,
-        b"    of version 2's temperatures  ",
-        unlike_two(&not_held, &two),
-        0,
-    )
+pub fn print_entries(rt: &impl Print, room: &Room) -> io::Result<()> {
+    let mut two = [0; BOOK];
+    room.zone
+        .book_of_one(&warm_hour(), Meeting::unlimited(2), &mut two);
+    let title = "the warm hour's entry in version 3, cooling limit 123.457 W: it holds";
+    let held = Meeting::limited(HEATING, COOLING);
+    let unlike_two = print_entry(rt, room, title, held, &two)?;
+    holds(rt, "  version 2's temperatures differ", unlike_two != 0)?;
+    let not_held = Meeting::limited(MOST, MOST);
+    let unlike_two = print_entry(rt, room, "both limits 1e7", not_held, &two)?;
+    row(rt, "    of version 2's temperatures", unlike_two, 0)
 }

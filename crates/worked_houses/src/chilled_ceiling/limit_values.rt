@@ -1,29 +1,16 @@
 // Limits out of range, 19, and where that is tested: "after 9".
-use crate::bytes::{differing, write_f64s_be};
-use crate::chilled_ceiling::books::{FALSE_ENTRY, one_hour, print_used};
-use crate::chilled_ceiling::limit_books::ROOM;
-use crate::chilled_ceiling::room::{CONDITIONS, HEAD, used_of, warm_hour};
-use crate::chilled_ceiling::unknown::{unlike, verdict_of};
-use crate::limits::{MOST, both, limits, not_a_number, not_looked_at, wide};
-use crate::replies::{verdict_index, verdict_number};
-use crate::table::{number, text};
+use crate::chilled_ceiling::books::counts_of;
+use crate::chilled_ceiling::differing::{differing, unlike};
+use crate::chilled_ceiling::limit_books::BUFFER;
+use crate::chilled_ceiling::room::{CONDITIONS, HEAD, Room, warm_hour};
+use crate::limits::{MOST, Meeting};
+use crate::refusal::{Cause, Refusal};
+use crate::replies::{Counts, print_outcome};
+use crate::table::row;
+use crate::zone_read::ZoneRead;
+use big_endian::write_f64_be;
 use book::BookState;
 use std::io;
-use zone::{Limits, State, ZoneFront};
-
-const LIMIT_VALUE: u64 = 19;
-
-// Refusals before and behind it.
-const CONDITIONS_VALUE: u64 = 9;
-
-const SETPOINTS: u64 = 10;
-
-const BOOK_FULL: u64 = 17;
-
-const BUFFER_SHORT: u64 = 16;
-
-// The float above the greatest limit.
-const TOO_MUCH: f64 = 10000000.000000002;
 
 // The smallest float above 0.
 const SMALLEST: f64 = 5e-324;
@@ -36,232 +23,151 @@ const HEATING_SETPOINT: usize = 48;
 // As many entries as a book may hold.
 const MOST_ENTRIES: usize = 8784;
 
+// A refused hour leaves the temperatures.
 fn print_step(
     rt: &impl Print,
-    z: ZoneFront,
-    codes: &[u8; 72],
-    values: &[f64; 600],
-    s: State,
-    conditions: &[u8; CONDITIONS],
-    version: u64,
-    l: Limits,
-    refusal: u64,
-    index: u64,
+    room: &Room,
+    conditions: &[u8],
+    meeting: Meeting,
+    expected: Result<(), Refusal>,
 ) -> io::Result<()> {
-    let x = s.hour_step(z, codes, values, conditions, version, l);
-    let answer = x.answer;
-    let verdict = verdict_of(answer);
-    number(
-        rt,
-        b"  refusal                        ",
-        verdict_number(verdict),
-        refusal,
-    )?;
-    number(
-        rt,
-        b"  index                          ",
-        verdict_index(verdict),
-        index,
-    )?;
-    if refusal != 0 {
-        number(
-            rt,
-            b"  bytes of temperatures changed  ",
-            unlike(x.state, s),
-            0,
-        )?;
+    let step = room.zone.hour_step(room.start, conditions, meeting);
+    print_outcome(rt, &step.answer.map_err(Refusal::from), expected)?;
+    if expected.is_err() {
+        let changed = unlike(step.state, room.start);
+        row(rt, "  bytes of temperatures changed", changed, 0)?;
     }
     Ok(())
 }
 
-// The warm hour with these limits.
-fn print_limits(
-    rt: &impl Print,
-    z: ZoneFront,
-    codes: &[u8; 72],
-    values: &[f64; 600],
-    s: State,
-    l: Limits,
-    refusal: u64,
-) -> io::Result<()> {
-    let c = warm_hour();
-    print_step(rt, z, codes, values, s, &c, 3, l, refusal, 0)
-}
-
-fn print_refused(
-    rt: &impl Print,
-    z: ZoneFront,
-    codes: &[u8; 72],
-    values: &[f64; 600],
-    s: State,
-    said: &[u8],
-    x: f64,
-) -> io::Result<()> {
-    text(rt, b"version 3, greatest heating ")?;
-    text(rt, said)?;
-    print_limits(rt, z, codes, values, s, limits(x, 0.0), LIMIT_VALUE)?;
-    text(rt, b"greatest cooling ")?;
-    text(rt, said)?;
-    print_limits(rt, z, codes, values, s, limits(0.0, x), LIMIT_VALUE)
-}
-
-fn print_accepted(
-    rt: &impl Print,
-    z: ZoneFront,
-    codes: &[u8; 72],
-    values: &[f64; 600],
-    s: State,
-    said: &[u8],
-    x: f64,
-) -> io::Result<()> {
-    text(rt, b"version 3, both limits ")?;
-    text(rt, said)?;
-    print_limits(rt, z, codes, values, s, both(x), 0)
-}
-
-fn print_ranges(
-    rt: &impl Print,
-    z: ZoneFront,
-    codes: &[u8; 72],
-    values: &[f64; 600],
-    s: State,
-) -> io::Result<()> {
-    let infinite = 1.0 / 0.0;
-    print_refused(rt, z, codes, values, s, b"-1\n", -1.0)?;
-    print_refused(rt, z, codes, values, s, b"the float below 0\n", -SMALLEST)?;
-    print_refused(rt, z, codes, values, s, b"the float above 1e7\n", TOO_MUCH)?;
-    print_refused(rt, z, codes, values, s, b"infinite\n", infinite)?;
-    print_refused(rt, z, codes, values, s, b"no number\n", not_a_number())?;
-    print_accepted(rt, z, codes, values, s, b"0\n", 0.0)?;
-    print_accepted(rt, z, codes, values, s, b"-0.0\n", -0.0)?;
-    print_accepted(rt, z, codes, values, s, b"1e7\n", MOST)
+// The warm hour with limits that are out of range, then with such as are not.
+fn print_ranges(rt: &impl Print, room: &Room) -> io::Result<()> {
+    let conditions = warm_hour();
+    let refused = Err(Cause::LimitValue.at(0));
+    for (said, x) in [
+        ("-1", -1.0),
+        ("the float below 0", -SMALLEST),
+        ("the float above 1e7", MOST.next_up()),
+        ("infinite", f64::INFINITY),
+        ("no number", f64::NAN),
+    ] {
+        println!(rt; "version 3, greatest heating {said}")?;
+        let heating = Meeting::limited(x, 0.0);
+        print_step(rt, room, &conditions, heating, refused)?;
+        println!(rt; "greatest cooling {said}")?;
+        let cooling = Meeting::limited(0.0, x);
+        print_step(rt, room, &conditions, cooling, refused)?;
+    }
+    for (said, x) in [("0", 0.0), ("-0.0", -0.0), ("1e7", MOST)] {
+        println!(rt; "version 3, both limits {said}")?;
+        let both = Meeting::limited(x, x);
+        print_step(rt, room, &conditions, both, Ok(()))?;
+    }
+    Ok(())
 }
 
 // The warm hour with a float of its own.
 fn hour_with(at: usize, x: f64) -> [u8; CONDITIONS] {
-    let mut c = warm_hour();
-    let one = [x];
-    write_f64s_be(&mut c, at, &one, 1);
-    c
+    let mut conditions = warm_hour();
+    write_f64_be(&mut conditions, at, x);
+    conditions
 }
 
-fn print_order(
-    rt: &impl Print,
-    z: ZoneFront,
-    codes: &[u8; 72],
-    values: &[f64; 600],
-    s: State,
-) -> io::Result<()> {
-    let c = warm_hour();
+fn print_order(rt: &impl Print, room: &Room) -> io::Result<()> {
+    let warm = warm_hour();
     let far = hour_with(EXTERNAL, 101.0);
     let crossed = hour_with(HEATING_SETPOINT, 25.0);
-    let bad = limits(-1.0, 0.0);
-    text(rt, b"limits good, element 1 outside at 101: 9\n")?;
-    print_step(
-        rt,
-        z,
-        codes,
-        values,
-        s,
-        &far,
-        3,
-        wide(),
-        CONDITIONS_VALUE,
-        1,
-    )?;
-    text(rt, b"a limit of -1 too: 9\n")?;
-    print_step(rt, z, codes, values, s, &far, 3, bad, CONDITIONS_VALUE, 1)?;
-    text(
-        rt,
-        b"limits good, heating setpoint above the cooling one: 10\n",
-    )?;
-    print_step(rt, z, codes, values, s, &crossed, 3, wide(), SETPOINTS, 0)?;
-    text(rt, b"a limit of -1 too: 19\n")?;
-    print_step(rt, z, codes, values, s, &crossed, 3, bad, LIMIT_VALUE, 0)?;
-    text(rt, b"a limit of -1 in version 4: 18\n")?;
-    print_step(rt, z, codes, values, s, &c, 4, bad, FALSE_ENTRY, 0)?;
-    text(rt, b"in version 2\n")?;
-    print_step(rt, z, codes, values, s, &c, 2, bad, 0, 0)?;
-    text(rt, b"in version 1\n")?;
-    print_step(rt, z, codes, values, s, &c, 1, bad, 0, 0)
+    let good = Meeting::limited(MOST, MOST);
+    let bad = Meeting::limited(-1.0, 0.0);
+    for (title, conditions, meeting, expected) in [
+        (
+            "limits good, element 1 outside at 101: 9",
+            &far,
+            good,
+            Err(Cause::ConditionsValue.at(1)),
+        ),
+        (
+            "a limit of -1 too: 9",
+            &far,
+            bad,
+            Err(Cause::ConditionsValue.at(1)),
+        ),
+        (
+            "limits good, heating setpoint above the cooling one: 10",
+            &crossed,
+            good,
+            Err(Cause::CoolingBelowHeating.at(0)),
+        ),
+        (
+            "a limit of -1 too: 19",
+            &crossed,
+            bad,
+            Err(Cause::LimitValue.at(0)),
+        ),
+        (
+            "a limit of -1 in version 4: 18",
+            &warm,
+            Meeting::with(4, -1.0, 0.0),
+            Err(Cause::FalseEntry.at(0)),
+        ),
+        ("in version 2", &warm, Meeting::with(2, -1.0, 0.0), Ok(())),
+        ("in version 1", &warm, Meeting::with(1, -1.0, 0.0), Ok(())),
+    ] {
+        println!(rt; "{title}")?;
+        print_step(rt, room, conditions, meeting, expected)?;
+    }
+    Ok(())
 }
 
-// An append behind one entry of version 1, with a limit of -1.
+// A refused append of the warm hour, which hands back what it was given.
 fn print_append(
     rt: &impl Print,
-    z: ZoneFront,
-    codes: &[u8; 72],
-    values: &[f64; 600],
+    zone: &ZoneRead,
     given: BookState,
-    b: &mut [u8],
-    refusal: u64,
+    meeting: Meeting,
+    buffer: &mut [u8],
+    cause: Cause,
 ) -> io::Result<()> {
-    let c = warm_hour();
-    let r = book::append(z, codes, values, given, &c, 3, limits(0.0, -1.0), b);
-    print_used(rt, r, refusal, 0, given.count, given.used, 1)
-}
-
-fn print_no_room(
-    rt: &impl Print,
-    z: ZoneFront,
-    codes: &[u8; 72],
-    values: &[f64; 600],
-    given: BookState,
-) -> io::Result<()> {
-    let c = warm_hour();
-    let mut short = [0u8; HEAD];
-    let r = book::append(z, codes, values, given, &c, 3, wide(), &mut short);
-    print_used(rt, r, BUFFER_SHORT, 0, 1, used_of(1), 1)
-}
-
-fn print_appends(
-    rt: &impl Print,
-    z: ZoneFront,
-    codes: &[u8; 72],
-    values: &[f64; 600],
-    h: &[u8],
-) -> io::Result<()> {
-    let c = warm_hour();
-    let mut b = [0u8; ROOM];
-    let one = one_hour(z, codes, values, h, &c, 1, not_looked_at(), &mut b);
-    let before = b;
-    let held = one.values;
-    let state = held.state;
-    let full = BookState {
-        state,
-        count: MOST_ENTRIES,
-        used: used_of(1),
-        last_version: 1,
+    let reply = zone.append(given, &warm_hour(), meeting, buffer);
+    let counts = Counts {
+        entries: given.count,
+        ..counts_of(1, 1)
     };
-    let mut short = [0u8; HEAD];
-    text(
+    counts.refused(cause, 0).print(rt, reply)
+}
+
+// Behind one entry of version 1.
+fn print_appends(rt: &impl Print, zone: &ZoneRead) -> io::Result<()> {
+    let mut book = [0; BUFFER];
+    let held = zone.book_of_one(&warm_hour(), Meeting::unlimited(1), &mut book);
+    let held = held.values;
+    let before = book;
+    let full = BookState {
+        count: MOST_ENTRIES,
+        ..held
+    };
+    let good = Meeting::limited(MOST, MOST);
+    let bad = Meeting::limited(0.0, -1.0);
+    let mut short = [0; HEAD];
+    println!(rt; "behind one entry an append in version 3, greatest cooling -1")?;
+    print_append(rt, zone, held, bad, &mut book, Cause::LimitValue)?;
+    println!(rt; "with no room: 19 before 16")?;
+    print_append(rt, zone, held, bad, &mut short, Cause::LimitValue)?;
+    println!(rt; "behind 8,784 entries: 17")?;
+    print_append(rt, zone, full, bad, &mut book, Cause::BookFull)?;
+    row(
         rt,
-        b"behind one entry an append in version 3, greatest cooling -1\n",
-    )?;
-    print_append(rt, z, codes, values, held, &mut b, LIMIT_VALUE)?;
-    text(rt, b"with no room: 19 before 16\n")?;
-    print_append(rt, z, codes, values, held, &mut short, LIMIT_VALUE)?;
-    text(rt, b"behind 8,784 entries: 17\n")?;
-    print_append(rt, z, codes, values, full, &mut b, BOOK_FULL)?;
-    number(
-        rt,
-        b"  bytes of the buffer changed    ",
-        differing(&b, &before, 0, ROOM),
+        "  bytes of the buffer changed",
+        differing(&book, &before),
         0,
     )?;
-    text(rt, b"limits good, with no room: 16\n")?;
-    print_no_room(rt, z, codes, values, held)
+    println!(rt; "limits good, with no room: 16")?;
+    print_append(rt, zone, held, good, &mut short, Cause::BufferShort)
 }
 
-pub fn print_values(
-    rt: &impl Print,
-    z: ZoneFront,
-    codes: &[u8; 72],
-    values: &[f64; 600],
-    h: &[u8; HEAD],
-    s: State,
-) -> io::Result<()> {
-    print_ranges(rt, z, codes, values, s)?;
-    print_order(rt, z, codes, values, s)?;
-    print_appends(rt, z, codes, values, h)
+pub fn print_values(rt: &impl Print, room: &Room) -> anyhow::Result<()> {
+    print_ranges(rt, room)?;
+    print_order(rt, room)?;
+    print_appends(rt, &room.zone)?;
+    Ok(())
 }

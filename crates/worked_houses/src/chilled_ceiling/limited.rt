@@ -1,117 +1,84 @@
 // The room's hours in version 3, met by a plant with limits. The temperatures after an hour are laid beside those that the
-// call `update_temperatures` gives for the power that the limits leave, its share worked out here by document 01's
+// call `update_temperatures` gives for the power that the limits leave, its share worked out by document 01's
 // "(convective + delivered * fraction) / total"; other gains there are none.
-use crate::chilled_ceiling::hours::{Asked, KEPT, distance, operative, print_asked, state_after};
+use crate::chilled_ceiling::differing::unlike;
+use crate::chilled_ceiling::hours::{Hour, KEPT, distance};
 use crate::chilled_ceiling::room::{
-    CONDITIONS, COOLING_FRACTION, HEATING_FRACTION, cold_hour, warm_hour,
+    COOLING_FRACTION, HEATING_FRACTION, Room, cold_hour, warm_hour,
 };
-use crate::chilled_ceiling::unknown::unlike;
-use crate::limits::{MOST, both, limits, not_looked_at, wide};
-use crate::table::{holds, number, shown, text};
+use crate::limits::{MOST, Meeting};
+use crate::table::{holds, row, shown};
+use crate::zone_read::ZoneRead;
 use std::io;
-use zone::{Limits, State, UpdateAnswer, ZoneFront};
+use zone::State;
 
-// The state after an hour with this power, by this fraction and at this rate.
-fn updated(
-    rt: &impl Print,
-    z: ZoneFront,
-    codes: &[u8; 72],
-    values: &[f64; 600],
-    s: State,
-    conditions: &[u8; CONDITIONS],
-    power: f64,
-    fraction: f64,
-    rate: f64,
-) -> io::Result<State> {
-    let share = if power == 0.0 {
-        0.0
-    } else {
-        power * fraction / power
-    };
-    let x = s.update_temperatures(z, codes, values, conditions, power, share, rate);
-    let answer = x.answer;
-    match answer {
-        UpdateAnswer::Refused {
-            number: n,
-            index: _,
-        } => number(rt, b"  update, refusal                ", n as u64, 0)?,
-        UpdateAnswer::Accepted(_) => {}
+// The states after an hour with no power, with half of what is asked, and with all of it.
+#[derive(Clone, Copy)]
+struct Powers {
+    none: State,
+    half: State,
+    all: State,
+}
+
+impl Powers {
+    // The equations are linear in the power: with half of it the temperature lies midway.
+    fn print_midway(self, rt: &impl Print, zone: &ZoneRead) -> anyhow::Result<()> {
+        let none = zone.operative(self.none)?;
+        let half = zone.operative(self.half)?;
+        let all = zone.operative(self.all)?;
+        println!(rt; "operative temperature")?;
+        shown(rt, "  with no power", none)?;
+        shown(rt, "  with half of it", half)?;
+        shown(rt, "  with all of it", all)?;
+        let midway = distance(half, (none + all) / 2.0) < KEPT;
+        holds(rt, "  half of it ends midway", midway)?;
+        Ok(())
     }
-    Ok(x.state)
 }
 
 // An hour of version 3 with these limits, beside the update with this power and the fraction of its sign.
 fn print_power(
     rt: &impl Print,
-    z: ZoneFront,
-    codes: &[u8; 72],
-    values: &[f64; 600],
-    s: State,
-    conditions: &[u8; CONDITIONS],
-    l: Limits,
-    asked: Asked,
+    hour: &Hour,
+    title: &str,
+    meeting: Meeting,
     power: f64,
-) -> io::Result<State> {
-    let after = state_after(rt, z, codes, values, s, conditions, 3, l, asked)?;
+) -> anyhow::Result<State> {
+    println!(rt; "{title}")?;
+    let after = hour.meet(rt, meeting)?;
     let fraction = if power < 0.0 {
         COOLING_FRACTION
     } else {
         HEATING_FRACTION
     };
-    let expected = updated(
-        rt, z, codes, values, s, conditions, power, fraction, asked.rate,
-    )?;
-    number(
+    let expected = hour.update(power, fraction)?;
+    row(
         rt,
-        b"  bytes unlike the update's      ",
+        "  bytes unlike the update's",
         unlike(after, expected),
         0,
     )?;
     Ok(after)
 }
 
-// An hour of version 3 with limits that do not hold, beside that of version 2.
+// Hours of version 3 with limits that do not hold, beside that of version 2.
 fn print_not_held(
     rt: &impl Print,
-    z: ZoneFront,
-    codes: &[u8; 72],
-    values: &[f64; 600],
-    s: State,
-    conditions: &[u8; CONDITIONS],
-    l: Limits,
-    asked: Asked,
+    hour: &Hour,
+    rows: &[(&str, Meeting)],
     two: State,
-) -> io::Result<()> {
-    let after = state_after(rt, z, codes, values, s, conditions, 3, l, asked)?;
-    number(
-        rt,
-        b"  bytes unlike version 2's       ",
-        unlike(after, two),
-        0,
-    )
+) -> anyhow::Result<()> {
+    for (title, meeting) in rows {
+        println!(rt; "{title}")?;
+        let after = hour.meet(rt, *meeting)?;
+        row(rt, "  bytes unlike version 2's", unlike(after, two), 0)?;
+    }
+    Ok(())
 }
 
-// The equations are linear in the power: with half of it the temperature lies midway.
-fn print_midway(
-    rt: &impl Print,
-    z: ZoneFront,
-    codes: &[u8; 72],
-    values: &[f64; 600],
-    none: State,
-    half: State,
-    all: State,
-) -> io::Result<()> {
-    let a = operative(rt, z, codes, values, none)?;
-    let b = operative(rt, z, codes, values, half)?;
-    let c = operative(rt, z, codes, values, all)?;
-    shown(rt, b"  with no power          ", a)?;
-    shown(rt, b"  with half of it        ", b)?;
-    shown(rt, b"  with all of it         ", c)?;
-    holds(
-        rt,
-        b"  half of it ends midway",
-        distance(b, (a + c) / 2.0) < KEPT,
-    )
+fn print_two(rt: &impl Print, hour: &Hour) -> anyhow::Result<State> {
+    println!(rt; "version 2, limits not looked at")?;
+    hour.meet(rt, Meeting::unlimited(2))
 }
 
 // The power that delivers so much in the room's hour.
@@ -119,107 +86,94 @@ fn watts(kilowatt_hours: f64) -> f64 {
     kilowatt_hours * 1000.0 / 1.0
 }
 
-pub fn print_warm(
+fn print_other_fraction(
     rt: &impl Print,
-    z: ZoneFront,
-    codes: &[u8; 72],
-    values: &[f64; 600],
-    s: State,
-) -> io::Result<()> {
-    let c = warm_hour();
-    text(rt, b"the warm hour with a limit: asked\n")?;
-    let asked = print_asked(rt, z, codes, values, s, &c)?;
-    let w = watts(asked.cooling);
-    let half = w / 2.0;
-    text(rt, b"version 2, limits not looked at\n")?;
-    let two = state_after(rt, z, codes, values, s, &c, 2, not_looked_at(), asked)?;
-    text(rt, b"version 3, cooling limit half of it\n")?;
-    let halved = print_power(rt, z, codes, values, s, &c, limits(0.0, -half), asked, half)?;
-    let by_heating = updated(
-        rt,
-        z,
-        codes,
-        values,
-        s,
-        &c,
-        half,
-        HEATING_FRACTION,
-        asked.rate,
-    )?;
+    hour: &Hour,
+    half: f64,
+    halved: State,
+) -> anyhow::Result<()> {
+    let by_heating = hour.update(half, HEATING_FRACTION)?;
     holds(
         rt,
-        b"  by the heating fraction it would differ",
+        "  by the heating fraction it would differ",
         unlike(halved, by_heating) != 0,
     )?;
-    text(rt, b"cooling limit 0: nothing is delivered\n")?;
-    let free = print_power(rt, z, codes, values, s, &c, limits(MOST, 0.0), asked, 0.0)?;
-    text(rt, b"both limits 0\n")?;
-    print_power(rt, z, codes, values, s, &c, both(0.0), asked, 0.0)?;
-    text(rt, b"both limits -0.0\n")?;
-    print_power(rt, z, codes, values, s, &c, both(-0.0), asked, 0.0)?;
-    text(rt, b"operative temperature\n")?;
-    print_midway(rt, z, codes, values, free, halved, two)?;
-    text(rt, b"cooling limit exactly that\n")?;
-    print_not_held(rt, z, codes, values, s, &c, limits(0.0, -w), asked, two)?;
-    text(rt, b"both limits 1e7\n")?;
-    print_not_held(rt, z, codes, values, s, &c, wide(), asked, two)
+    Ok(())
 }
 
-pub fn print_cold(
-    rt: &impl Print,
-    z: ZoneFront,
-    codes: &[u8; 72],
-    values: &[f64; 600],
-    s: State,
-) -> io::Result<()> {
-    let c = cold_hour();
-    text(rt, b"the cold hour with a limit: asked\n")?;
-    let asked = print_asked(rt, z, codes, values, s, &c)?;
-    let w = watts(asked.heating);
-    let half = w / 2.0;
-    text(rt, b"version 2, limits not looked at\n")?;
-    let two = state_after(rt, z, codes, values, s, &c, 2, not_looked_at(), asked)?;
-    text(rt, b"version 3, heating limit half of it\n")?;
-    let halved = print_power(rt, z, codes, values, s, &c, limits(half, 0.0), asked, half)?;
-    text(rt, b"heating limit 0\n")?;
-    let free = print_power(rt, z, codes, values, s, &c, limits(0.0, MOST), asked, 0.0)?;
-    text(rt, b"operative temperature\n")?;
-    print_midway(rt, z, codes, values, free, halved, two)?;
-    text(rt, b"heating limit exactly that\n")?;
-    print_not_held(rt, z, codes, values, s, &c, limits(w, 0.0), asked, two)?;
-    text(rt, b"both limits 1e7\n")?;
-    print_not_held(rt, z, codes, values, s, &c, wide(), asked, two)
+// The warm and the cold hour share their steps; in one function the rows that only the warm hour has would each need a test.
+fn print_warm(rt: &impl Print, room: &Room) -> anyhow::Result<()> {
+    println!(rt; "the warm hour with a limit: asked")?;
+    let hour = Hour::ask(rt, room, warm_hour())?;
+    let power = watts(hour.asked.space_cool_demand);
+    let half = power / 2.0;
+    let two = print_two(rt, &hour)?;
+    let title = "version 3, cooling limit half of it";
+    let halved = print_power(rt, &hour, title, Meeting::limited(0.0, -half), half)?;
+    print_other_fraction(rt, &hour, half, halved)?;
+    let title = "cooling limit 0: nothing is delivered";
+    let free = print_power(rt, &hour, title, Meeting::limited(MOST, 0.0), 0.0)?;
+    print_power(rt, &hour, "both limits 0", Meeting::limited(0.0, 0.0), 0.0)?;
+    print_power(
+        rt,
+        &hour,
+        "both limits -0.0",
+        Meeting::limited(-0.0, -0.0),
+        0.0,
+    )?;
+    let powers = Powers {
+        none: free,
+        half: halved,
+        all: two,
+    };
+    powers.print_midway(rt, &room.zone)?;
+    let rows = [
+        ("cooling limit exactly that", Meeting::limited(0.0, -power)),
+        ("both limits 1e7", Meeting::limited(MOST, MOST)),
+    ];
+    print_not_held(rt, &hour, &rows, two)
+}
+
+fn print_cold(rt: &impl Print, room: &Room) -> anyhow::Result<()> {
+    println!(rt; "the cold hour with a limit: asked")?;
+    let hour = Hour::ask(rt, room, cold_hour())?;
+    let power = watts(hour.asked.space_heat_demand);
+    let half = power / 2.0;
+    let two = print_two(rt, &hour)?;
+    let title = "version 3, heating limit half of it";
+    let halved = print_power(rt, &hour, title, Meeting::limited(half, 0.0), half)?;
+    let title = "heating limit 0";
+    let free = print_power(rt, &hour, title, Meeting::limited(0.0, MOST), 0.0)?;
+    let powers = Powers {
+        none: free,
+        half: halved,
+        all: two,
+    };
+    powers.print_midway(rt, &room.zone)?;
+    let rows = [
+        ("heating limit exactly that", Meeting::limited(power, 0.0)),
+        ("both limits 1e7", Meeting::limited(MOST, MOST)),
+    ];
+    print_not_held(rt, &hour, &rows, two)
 }
 
 // With versions 1 and 2 limits of 0 change nothing.
-fn print_unused(
-    rt: &impl Print,
-    z: ZoneFront,
-    codes: &[u8; 72],
-    values: &[f64; 600],
-    s: State,
-    version: u64,
-) -> io::Result<()> {
-    let c = warm_hour();
-    let x = s.hour_step(z, codes, values, &c, version, not_looked_at());
-    let y = s.hour_step(z, codes, values, &c, version, both(0.0));
-    number(
-        rt,
-        b"  bytes that limits of 0 change  ",
-        unlike(x.state, y.state),
-        0,
-    )
+fn print_earlier(rt: &impl Print, room: &Room) -> io::Result<()> {
+    let Room { zone, start } = room;
+    let conditions = warm_hour();
+    for (title, version) in [("the warm hour in version 1", 1), ("in version 2", 2)] {
+        println!(rt; "{title}")?;
+        let free = zone.hour_step(*start, &conditions, Meeting::unlimited(version));
+        let held = zone.hour_step(*start, &conditions, Meeting::with(version, 0.0, 0.0));
+        let changed = unlike(free.state, held.state);
+        row(rt, "  bytes that limits of 0 change", changed, 0)?;
+    }
+    Ok(())
 }
 
-pub fn print_earlier(
-    rt: &impl Print,
-    z: ZoneFront,
-    codes: &[u8; 72],
-    values: &[f64; 600],
-    s: State,
-) -> io::Result<()> {
-    text(rt, b"the warm hour in version 1\n")?;
-    print_unused(rt, z, codes, values, s, 1)?;
-    text(rt, b"in version 2\n")?;
-    print_unused(rt, z, codes, values, s, 2)
+pub fn print_limited(rt: &impl Print, room: &Room) -> anyhow::Result<()> {
+    print_warm(rt, room)?;
+    print_cold(rt, room)?;
+    print_earlier(rt, room)?;
+    Ok(())
 }

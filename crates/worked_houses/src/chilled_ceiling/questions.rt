@@ -1,20 +1,19 @@
 // A book of the room asked when it got warm (document 02 (c)). Its temperatures are those of the call `temp_operative` on
 // the state after each hour: of a wall and a window the mean goes by their areas.
-use crate::answers::{NONE, above, nearest, within};
-use crate::chilled_ceiling::hours::{KEPT, operative};
+use crate::answers::Answer::{Hour, Hours, NoHour};
+use crate::answers::{above, nearest, within};
+use crate::chilled_ceiling::hours::KEPT;
 use crate::chilled_ceiling::limit_entries::{COOLING, HEATING};
 use crate::chilled_ceiling::room::{
-    CONDITIONS, COOLING_SETPOINT, ENTRY, HEAD, HEATING_SETPOINT, LIMITED_ENTRY, cold_hour,
-    warm_hour,
+    COOLING_SETPOINT, ENTRY, HEAD, HEATING_SETPOINT, LIMITED_ENTRY, cold_hour, warm_hour,
 };
-use crate::limits::limits;
-use crate::replies::nothing;
-use crate::table::{shown, text};
+use crate::limits::Meeting;
+use crate::table::shown;
+use crate::zone_read::ZoneRead;
 use book::BookState;
 use std::io;
-use zone::ZoneFront;
 
-const ROOM: usize = HEAD + 3 * ENTRY + LIMITED_ENTRY;
+const BUFFER: usize = HEAD + 3 * ENTRY + LIMITED_ENTRY;
 
 // The operative temperature after each hour.
 #[derive(Clone, Copy)]
@@ -25,140 +24,99 @@ struct Temperatures {
     limited: f64,
 }
 
-// Behind the book's last hour; in version 3 with a cooling limit that holds.
-fn append(
-    z: ZoneFront,
-    codes: &[u8; 72],
-    values: &[f64; 600],
-    given: BookState,
-    conditions: &[u8; CONDITIONS],
-    version: u64,
-    b: &mut [u8],
-) -> BookState {
-    let l = limits(HEATING, COOLING);
-    let r = book::append(z, codes, values, given, conditions, version, l, b);
-    r.values
-}
-
 // The temperature that an hour ended with.
 fn print_after(
     rt: &impl Print,
-    z: ZoneFront,
-    codes: &[u8; 72],
-    values: &[f64; 600],
-    said: &[u8],
-    x: BookState,
-) -> io::Result<f64> {
-    let t = operative(rt, z, codes, values, x.state)?;
-    shown(rt, said, t)?;
-    Ok(t)
+    zone: &ZoneRead,
+    said: &str,
+    last: BookState,
+) -> anyhow::Result<f64> {
+    let temperature = zone.operative(last.state)?;
+    shown(rt, said, temperature)?;
+    Ok(temperature)
 }
 
+// Version 3 has a cooling limit that holds.
 fn write_four(
     rt: &impl Print,
-    z: ZoneFront,
-    codes: &[u8; 72],
-    values: &[f64; 600],
-    h: &[u8],
-    b: &mut [u8; ROOM],
-) -> io::Result<Temperatures> {
+    zone: &ZoneRead,
+    book: &mut [u8; BUFFER],
+) -> anyhow::Result<Temperatures> {
+    let meeting = |version| Meeting::with(version, HEATING, COOLING);
     let warm = warm_hour();
     let cold = cold_hour();
-    let begun = book::begin(nothing(), h, b);
-    let h0 = append(z, codes, values, begun.values, &warm, 1, b);
-    let h1 = append(z, codes, values, h0, &cold, 2, b);
-    let h2 = append(z, codes, values, h1, &warm, 2, b);
-    let h3 = append(z, codes, values, h2, &warm, 3, b);
-    print_after(
-        rt,
-        z,
-        codes,
-        values,
-        b"  start-up               ",
-        begun.values,
-    )?;
+    let begun = zone.begin(book).values;
+    let first = zone.append(begun, &warm, meeting(1), book).values;
+    let second = zone.append(first, &cold, meeting(2), book).values;
+    let third = zone.append(second, &warm, meeting(2), book).values;
+    let fourth = zone.append(third, &warm, meeting(3), book).values;
+    print_after(rt, zone, "  start-up", begun)?;
     Ok(Temperatures {
-        too_warm: print_after(rt, z, codes, values, b"  warm, version 1        ", h0)?,
-        heated: print_after(rt, z, codes, values, b"  cold, version 2        ", h1)?,
-        cooled: print_after(rt, z, codes, values, b"  warm, version 2        ", h2)?,
-        limited: print_after(rt, z, codes, values, b"  warm, version 3        ", h3)?,
+        too_warm: print_after(rt, zone, "  warm, version 1", first)?,
+        heated: print_after(rt, zone, "  cold, version 2", second)?,
+        cooled: print_after(rt, zone, "  warm, version 2", third)?,
+        limited: print_after(rt, zone, "  warm, version 3", fourth)?,
     })
 }
 
 // Each hour by its own temperature.
-fn print_own(rt: &impl Print, b: &[u8; ROOM], t: Temperatures) -> io::Result<()> {
-    nearest(rt, b"  nearest hour 0's               ", b, t.too_warm, 0)?;
-    nearest(rt, b"  hour 1's                       ", b, t.heated, 1)?;
-    nearest(rt, b"  hour 2's                       ", b, t.cooled, 2)?;
-    nearest(rt, b"  hour 3's                       ", b, t.limited, 3)?;
-    above(rt, b"  first above hour 0's           ", b, t.too_warm, 3)?;
-    above(rt, b"  above hour 1's                 ", b, t.heated, 2)?;
-    above(rt, b"  above hour 2's                 ", b, t.cooled, 0)?;
-    above(rt, b"  above hour 3's                 ", b, t.limited, NONE)?;
-    within(
-        rt,
-        b"  hours from hour 1's to hour 2's",
-        b,
-        t.heated,
-        t.cooled,
-        2,
-    )?;
-    within(
-        rt,
-        b"  from hour 2's to hour 0's      ",
-        b,
-        t.cooled,
-        t.too_warm,
-        2,
-    )?;
-    within(
-        rt,
-        b"  from hour 1's to hour 3's      ",
-        b,
-        t.heated,
-        t.limited,
-        4,
-    )
+fn print_own(rt: &impl Print, book: &[u8], t: Temperatures) -> io::Result<()> {
+    for (asked, value, hour) in [
+        ("  nearest hour 0's", t.too_warm, 0),
+        ("  hour 1's", t.heated, 1),
+        ("  hour 2's", t.cooled, 2),
+        ("  hour 3's", t.limited, 3),
+    ] {
+        nearest(rt, asked, book, value, Hour(hour))?;
+    }
+    for (asked, value, expected) in [
+        ("  first above hour 0's", t.too_warm, Hour(3)),
+        ("  above hour 1's", t.heated, Hour(2)),
+        ("  above hour 2's", t.cooled, Hour(0)),
+        ("  above hour 3's", t.limited, NoHour),
+    ] {
+        above(rt, asked, book, value, expected)?;
+    }
+    for (asked, lower, upper, hours) in [
+        ("  hours from hour 1's to hour 2's", t.heated, t.cooled, 2),
+        ("  from hour 2's to hour 0's", t.cooled, t.too_warm, 2),
+        ("  from hour 1's to hour 3's", t.heated, t.limited, 4),
+    ] {
+        within(rt, asked, book, lower, upper, Hours(hours))?;
+    }
+    Ok(())
 }
 
-fn print_setpoints(rt: &impl Print, b: &[u8; ROOM]) -> io::Result<()> {
+fn print_setpoints(rt: &impl Print, book: &[u8]) -> io::Result<()> {
     nearest(
         rt,
-        b"  nearest the cooling setpoint   ",
-        b,
+        "  nearest the cooling setpoint",
+        book,
         COOLING_SETPOINT,
-        2,
+        Hour(2),
     )?;
     nearest(
         rt,
-        b"  nearest the heating setpoint   ",
-        b,
+        "  nearest the heating setpoint",
+        book,
         HEATING_SETPOINT,
-        1,
+        Hour(1),
     )?;
     within(
         rt,
-        b"  hours between the setpoints    ",
-        b,
+        "  hours between the setpoints",
+        book,
         HEATING_SETPOINT - KEPT,
         COOLING_SETPOINT + KEPT,
-        2,
+        Hours(2),
     )
 }
 
-pub fn print_questions(
-    rt: &impl Print,
-    z: ZoneFront,
-    codes: &[u8; 72],
-    values: &[f64; 600],
-    h: &[u8; HEAD],
-) -> io::Result<()> {
-    let mut b = [0u8; ROOM];
-    text(
-        rt,
-        b"a book of four hours, operative temperature after each\n",
-    )?;
-    let t = write_four(rt, z, codes, values, h, &mut b)?;
-    print_own(rt, &b, t)?;
-    print_setpoints(rt, &b)
+pub fn print_questions(rt: &impl Print, zone: &ZoneRead) -> anyhow::Result<()> {
+    let mut book = [0; BUFFER];
+    println!(rt; "a book of four hours, operative temperature after each")?;
+    let temperatures = write_four(rt, zone, &mut book)?;
+    print_own(rt, &book, temperatures)?;
+    print_setpoints(rt, &book)?;
+    Ok(())
 }

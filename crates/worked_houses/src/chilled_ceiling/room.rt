@@ -1,5 +1,7 @@
 // The room and its hours, in bytes: 20 m2 with a wall and a window, operative temperature under control.
-use crate::bytes::{put_byte, write_f64s_be};
+use crate::zone_read::ZoneRead;
+use big_endian::write_f64s_be;
+use zone::State;
 
 // Bytes of its head, of an hour's conditions and of an entry.
 pub const HEAD: usize = 351;
@@ -16,16 +18,11 @@ pub const LIMITED_ENTRY: usize = ENTRY + LIMITS;
 // Five of the wall, two of the window, and the air.
 pub const NODES: usize = 8;
 
-// More entries than these books have.
-const MANY: usize = 10000;
-
-// The used length of a book with so many entries.
-pub fn used_of(entries: usize) -> usize {
-    if entries < MANY {
-        HEAD + ENTRY * entries
-    } else {
-        0
-    }
+// The room, and its state after start-up.
+#[derive(Drop)]
+pub struct Room<'a> {
+    pub zone: ZoneRead<'a>,
+    pub start: State,
 }
 
 // What the ceiling gives to the air, the rest going to the surfaces by radiation.
@@ -41,40 +38,29 @@ pub const COOLING_SETPOINT: f64 = 24.0;
 const NO_CONTROL: f64 = 1.4e32;
 
 // An element's part of an hour: external temperature, sun, shading.
-fn put_part(b: &mut [u8], at: usize, outside: f64, sun: f64) {
-    let part = [outside, sun, 0.5 * sun, 1.0, 1.0];
-    write_f64s_be(b, at, &part, 5);
+fn part(outside: f64, sun: f64) -> [f64; 5] {
+    [outside, sun, 0.5 * sun, 1.0, 1.0]
 }
 
 fn put_wall(b: &mut [u8; HEAD]) {
-    let values = [12.0, 90.0, 20.0, 4.14, 5.13, 0.6, 15.0];
-    let chain = [0.0, 0.0, 0.0, 0.0, 90000.0, 6.0, 3.0, 3.0, 6.0];
-    write_f64s_be(b, 59, &values, 7);
-    write_f64s_be(b, 115, &chain, 9);
-    put_part(b, 187, 20.0, 0.0);
+    write_f64s_be(b, 59, &[12.0, 90.0, 20.0, 4.14, 5.13, 0.6, 15.0]);
+    write_f64s_be(b, 115, &[0.0, 0.0, 0.0, 0.0, 90000.0, 6.0, 3.0, 3.0, 6.0]);
+    write_f64s_be(b, 187, &part(20.0, 0.0));
 }
 
 fn put_window(b: &mut [u8; HEAD]) {
-    let values = [4.0, 90.0, 20.0, 4.14, 5.13, 0.0, 20.0];
-    let chain = [0.0, 0.0, 1.5];
-    put_byte(b, 228, 4);
-    write_f64s_be(b, 230, &values, 7);
-    write_f64s_be(b, 286, &chain, 3);
-    put_part(b, 310, 20.0, 0.0);
+    b[228] = 4;
+    write_f64s_be(b, 230, &[4.0, 90.0, 20.0, 4.14, 5.13, 0.0, 20.0]);
+    write_f64s_be(b, 286, &[0.0, 0.0, 1.5]);
+    write_f64s_be(b, 310, &part(20.0, 0.0));
 }
 
 // Length 347, version 1, operative basis, two elements, limit 1,000.
 pub fn head() -> [u8; HEAD] {
-    let mut b = [0u8; HEAD];
-    let values = [20.0, 50.0, 2.0, 20.0, 22.0, NO_CONTROL];
-    put_byte(&mut b, 2, 1);
-    put_byte(&mut b, 3, 91);
-    put_byte(&mut b, 4, 1);
-    put_byte(&mut b, 5, 1);
-    put_byte(&mut b, 6, 2);
-    put_byte(&mut b, 7, 3);
-    put_byte(&mut b, 8, 232);
-    write_f64s_be(&mut b, 9, &values, 6);
+    let mut b = [0; HEAD];
+    let numbers = [0, 0, 1, 91, 1, 1, 2, 3, 232];
+    b[..9].copy_from_slice(&numbers);
+    write_f64s_be(&mut b, 9, &[20.0, 50.0, 2.0, 20.0, 22.0, NO_CONTROL]);
     put_wall(&mut b);
     put_window(&mut b);
     b
@@ -82,8 +68,8 @@ pub fn head() -> [u8; HEAD] {
 
 // An hour with this temperature outside, sun on the elements and gains inside; the target of the rates is that of open windows.
 fn conditions(outside: f64, sun: f64, gains: f64) -> [u8; CONDITIONS] {
-    let mut b = [0u8; CONDITIONS];
-    let values = [
+    let mut b = [0; CONDITIONS];
+    let front = [
         1.0,
         outside,
         gains,
@@ -97,12 +83,11 @@ fn conditions(outside: f64, sun: f64, gains: f64) -> [u8; CONDITIONS] {
         0.0,
         0.0,
     ];
-    let rates = [0.5, 0.5];
-    write_f64s_be(&mut b, 0, &values, 12);
-    put_byte(&mut b, 96, 1);
-    write_f64s_be(&mut b, 97, &rates, 2);
-    put_part(&mut b, 113, outside, sun);
-    put_part(&mut b, 154, outside, sun);
+    write_f64s_be(&mut b, 0, &front);
+    b[96] = 1;
+    write_f64s_be(&mut b, 97, &[0.5, 0.5]);
+    write_f64s_be(&mut b, 113, &part(outside, sun));
+    write_f64s_be(&mut b, 154, &part(outside, sun));
     b
 }
 

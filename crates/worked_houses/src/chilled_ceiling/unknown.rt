@@ -1,170 +1,72 @@
 // Versions that no hour has: refused at an hour step and at an append, and nothing is changed.
-use crate::bytes::{differing, write_f64s_be};
-use crate::chilled_ceiling::books::{FALSE_ENTRY, ROOM, one_hour, print_reply};
-use crate::chilled_ceiling::room::{HEAD, NODES, warm_hour};
-use crate::limits::not_looked_at;
-use crate::replies::{verdict_index, verdict_number};
-use crate::table::{number, text};
+use crate::chilled_ceiling::books::{BUFFER, counts_of};
+use crate::chilled_ceiling::differing::{differing, unlike_anywhere};
+use crate::chilled_ceiling::room::{Room, warm_hour};
+use crate::limits::Meeting;
+use crate::refusal::{Cause, Refusal};
+use crate::replies::print_outcome;
+use crate::table::row;
+use crate::zone_read::ZoneRead;
 use book::BookState;
 use std::io;
-use zone::{HourAnswer, State, Verdict, ZoneFront};
+use zone::State;
 
-// One more than the newest.
-const NEXT: u64 = 4;
-
-// 1 in its lowest byte, as an entry would hold it.
-const LOW_BYTE_ONE: u64 = 257;
-
-const GREATEST: u64 = 18446744073709551615;
-
-// Bytes of every temperature that a state has room for.
-const STATE: usize = 8 * 121;
-
-// Of the room's own.
-const ROOM_STATE: usize = 8 * NODES;
-
-fn state_bytes(s: State) -> [u8; STATE] {
-    let temps = s.temps;
-    let mut b = [0u8; STATE];
-    write_f64s_be(&mut b, 0, &temps, 121);
-    b
-}
-
-// Bytes in which the room's temperatures in two states differ.
-pub fn unlike(a: State, b: State) -> u64 {
-    let x = a.temps;
-    let y = b.temps;
-    let mut p = [0u8; ROOM_STATE];
-    let mut q = [0u8; ROOM_STATE];
-    write_f64s_be(&mut p, 0, &x, NODES);
-    write_f64s_be(&mut q, 0, &y, NODES);
-    differing(&p, &q, 0, ROOM_STATE)
-}
+// One less than the oldest, one more than the newest, one with 1 in its lowest byte, as an entry would hold it, and the greatest.
+const UNKNOWN: [(&str, u64); 4] = [("0", 0), ("4", 4), ("257", 257), ("2 ^ 64 - 1", u64::MAX)];
 
 // Whether a state is the one that was given.
 fn print_kept(rt: &impl Print, came: State, given: State) -> io::Result<()> {
-    let a = state_bytes(came);
-    let b = state_bytes(given);
-    number(
-        rt,
-        b"  nodes                          ",
-        came.nodes as u64,
-        given.nodes as u64,
-    )?;
-    number(
-        rt,
-        b"  bytes of temperatures changed  ",
-        differing(&a, &b, 0, STATE),
-        0,
-    )
+    row(rt, "  nodes", came.nodes, given.nodes)?;
+    let changed = unlike_anywhere(came, given);
+    row(rt, "  bytes of temperatures changed", changed, 0)
 }
 
-pub fn verdict_of(a: HourAnswer) -> Verdict {
-    match a {
-        HourAnswer::Refused { number, index } => Verdict::Refused { number, index },
-        HourAnswer::Accepted(_, _) => Verdict::Accepted,
+fn print_steps(rt: &impl Print, room: &Room) -> io::Result<()> {
+    for (name, version) in UNKNOWN {
+        println!(rt; "an hour step in version {name}")?;
+        let meeting = Meeting::unlimited(version);
+        let step = room.zone.hour_step(room.start, &warm_hour(), meeting);
+        let answer = step.answer.map_err(Refusal::from);
+        print_outcome(rt, &answer, Err(Cause::FalseEntry.at(0)))?;
+        print_kept(rt, step.state, room.start)?;
     }
+    Ok(())
 }
 
-fn print_step(
-    rt: &impl Print,
-    z: ZoneFront,
-    codes: &[u8; 72],
-    values: &[f64; 600],
-    s: State,
-    version: u64,
-) -> io::Result<()> {
-    let c = warm_hour();
-    let x = s.hour_step(z, codes, values, &c, version, not_looked_at());
-    let answer = x.answer;
-    let verdict = verdict_of(answer);
-    number(
-        rt,
-        b"  refusal                        ",
-        verdict_number(verdict),
-        FALSE_ENTRY,
-    )?;
-    number(
-        rt,
-        b"  index                          ",
-        verdict_index(verdict),
-        0,
-    )?;
-    print_kept(rt, x.state, s)
-}
-
-// An append behind one entry of version 1, which `b` holds.
+// An append behind one entry of version 1, which the book holds.
 fn print_append(
     rt: &impl Print,
-    z: ZoneFront,
-    codes: &[u8; 72],
-    values: &[f64; 600],
+    zone: &ZoneRead,
     given: BookState,
     version: u64,
-    b: &mut [u8; ROOM],
+    book: &mut [u8; BUFFER],
 ) -> io::Result<()> {
-    let c = warm_hour();
-    let before = *b;
-    let r = book::append(z, codes, values, given, &c, version, not_looked_at(), b);
-    let after = r.values;
-    print_reply(rt, r, FALSE_ENTRY, 1, 1, 1)?;
-    print_kept(rt, after.state, given.state)?;
-    number(
+    let before = *book;
+    let reply = zone.append(given, &warm_hour(), Meeting::unlimited(version), book);
+    let expected = counts_of(1, 1).refused(Cause::FalseEntry, 1);
+    expected.print(rt, reply)?;
+    print_kept(rt, reply.values.state, given.state)?;
+    row(
         rt,
-        b"  bytes of the buffer changed    ",
-        differing(b, &before, 0, ROOM),
+        "  bytes of the buffer changed",
+        differing(book, &before),
         0,
     )
 }
 
-fn print_steps(
-    rt: &impl Print,
-    z: ZoneFront,
-    codes: &[u8; 72],
-    values: &[f64; 600],
-    s: State,
-) -> io::Result<()> {
-    text(rt, b"an hour step in version 0\n")?;
-    print_step(rt, z, codes, values, s, 0)?;
-    text(rt, b"an hour step in version 4\n")?;
-    print_step(rt, z, codes, values, s, NEXT)?;
-    text(rt, b"an hour step in version 257\n")?;
-    print_step(rt, z, codes, values, s, LOW_BYTE_ONE)?;
-    text(rt, b"an hour step in version 2 ^ 64 - 1\n")?;
-    print_step(rt, z, codes, values, s, GREATEST)
+fn print_appends(rt: &impl Print, zone: &ZoneRead) -> io::Result<()> {
+    let mut book = [0; BUFFER];
+    let one = zone.book_of_one(&warm_hour(), Meeting::unlimited(1), &mut book);
+    print!(rt; "behind one entry of version 1 an append ")?;
+    for (name, version) in UNKNOWN {
+        println!(rt; "in version {name}")?;
+        print_append(rt, zone, one.values, version, &mut book)?;
+    }
+    Ok(())
 }
 
-fn print_appends(
-    rt: &impl Print,
-    z: ZoneFront,
-    codes: &[u8; 72],
-    values: &[f64; 600],
-    h: &[u8],
-) -> io::Result<()> {
-    let c = warm_hour();
-    let mut b = [0u8; ROOM];
-    let one = one_hour(z, codes, values, h, &c, 1, not_looked_at(), &mut b);
-    text(
-        rt,
-        b"behind one entry of version 1 an append in version 0\n",
-    )?;
-    print_append(rt, z, codes, values, one.values, 0, &mut b)?;
-    text(rt, b"in version 4\n")?;
-    print_append(rt, z, codes, values, one.values, NEXT, &mut b)?;
-    text(rt, b"in version 257\n")?;
-    print_append(rt, z, codes, values, one.values, LOW_BYTE_ONE, &mut b)?;
-    text(rt, b"in version 2 ^ 64 - 1\n")?;
-    print_append(rt, z, codes, values, one.values, GREATEST, &mut b)
-}
-
-pub fn print_unknown(
-    rt: &impl Print,
-    z: ZoneFront,
-    codes: &[u8; 72],
-    values: &[f64; 600],
-    h: &[u8; HEAD],
-    start: State,
-) -> io::Result<()> {
-    print_steps(rt, z, codes, values, start)?;
-    print_appends(rt, z, codes, values, h)
+pub fn print_unknown(rt: &impl Print, room: &Room) -> anyhow::Result<()> {
+    print_steps(rt, room)?;
+    print_appends(rt, &room.zone)?;
+    Ok(())
 }

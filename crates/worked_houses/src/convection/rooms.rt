@@ -1,7 +1,7 @@
 // The rooms, each with what its air gives to its surfaces. On the way some sums with 0.7 round, but every temperature after the
 // hour comes out as it is said here, and each term is exact: in none is 0.7 multiplied by anything but a power of 2. Each sum is
 // the float next to the decimal that is written.
-use crate::convection::room::{K_DOWNWARDS, K_HORIZONTAL, K_UPWARDS, Room};
+use crate::convection::room::{K_DOWNWARDS, K_HORIZONTAL, K_UPWARDS, Room, Surface};
 
 // What the air gives to all surfaces, and by direction of heat flow, W.
 #[derive(Clone, Copy)]
@@ -18,16 +18,13 @@ pub fn level() -> Room {
     Room {
         bridges: 34.55,
         air: 0.0,
-        surface: [0.0; 6],
-        pitch: [90.0, 0.0, 180.0, 60.0, 120.0, 59.9],
-        area: [1.0, 1.0, 2.0, 2.0, 1.0, 0.5],
-        k: [
-            K_HORIZONTAL,
-            K_UPWARDS,
-            K_DOWNWARDS,
-            K_HORIZONTAL,
-            K_HORIZONTAL,
-            K_UPWARDS,
+        surfaces: [
+            Surface::new(0.0, 90.0, 1.0, K_HORIZONTAL),
+            Surface::new(0.0, 0.0, 1.0, K_UPWARDS),
+            Surface::new(0.0, 180.0, 2.0, K_DOWNWARDS),
+            Surface::new(0.0, 60.0, 2.0, K_HORIZONTAL),
+            Surface::new(0.0, 120.0, 1.0, K_HORIZONTAL),
+            Surface::new(0.0, 59.9, 0.5, K_UPWARDS),
         ],
     }
 }
@@ -50,16 +47,13 @@ pub fn turned() -> Room {
     Room {
         bridges: 35.8,
         air: -16.0,
-        surface: [0.0; 6],
-        pitch: [90.0, 0.0, 180.0, 60.0, 120.0, 59.9],
-        area: [1.0, 1.0, 1.0, 2.0, 1.0, 1.0],
-        k: [
-            K_HORIZONTAL,
-            K_DOWNWARDS,
-            K_UPWARDS,
-            K_HORIZONTAL,
-            K_HORIZONTAL,
-            K_DOWNWARDS,
+        surfaces: [
+            Surface::new(0.0, 90.0, 1.0, K_HORIZONTAL),
+            Surface::new(0.0, 0.0, 1.0, K_DOWNWARDS),
+            Surface::new(0.0, 180.0, 1.0, K_UPWARDS),
+            Surface::new(0.0, 60.0, 2.0, K_HORIZONTAL),
+            Surface::new(0.0, 120.0, 1.0, K_HORIZONTAL),
+            Surface::new(0.0, 59.9, 1.0, K_DOWNWARDS),
         ],
     }
 }
@@ -81,16 +75,13 @@ pub fn either_sign() -> Room {
     Room {
         bridges: 34.1,
         air: 0.0,
-        surface: [0.0, 48.0, 48.0, 48.0, -16.0, -16.0],
-        pitch: [90.0, 180.0, 0.0, 60.0, 0.0, 180.0],
-        area: [2.0, 0.5, 1.0, 0.5, 2.0, 0.5],
-        k: [
-            K_HORIZONTAL,
-            K_UPWARDS,
-            K_DOWNWARDS,
-            K_HORIZONTAL,
-            K_UPWARDS,
-            K_DOWNWARDS,
+        surfaces: [
+            Surface::new(0.0, 90.0, 2.0, K_HORIZONTAL),
+            Surface::new(48.0, 180.0, 0.5, K_UPWARDS),
+            Surface::new(48.0, 0.0, 1.0, K_DOWNWARDS),
+            Surface::new(48.0, 60.0, 0.5, K_HORIZONTAL),
+            Surface::new(-16.0, 0.0, 2.0, K_UPWARDS),
+            Surface::new(-16.0, 180.0, 0.5, K_DOWNWARDS),
         ],
     }
 }
@@ -115,16 +106,13 @@ pub fn in_order() -> Room {
     Room {
         bridges: 36.5,
         air: 0.0,
-        surface: [-16.0, 0.0, 0.0, 48.0, 0.0, 0.0],
-        pitch: [90.0, 0.0, 0.0, 90.0, 0.0, 90.0],
-        area: [2.0, TINY, TINY, 2.0, 1.0, TINY],
-        k: [
-            K_HORIZONTAL,
-            K_UPWARDS,
-            K_UPWARDS,
-            K_HORIZONTAL,
-            K_UPWARDS,
-            K_HORIZONTAL,
+        surfaces: [
+            Surface::new(-16.0, 90.0, 2.0, K_HORIZONTAL),
+            Surface::new(0.0, 0.0, TINY, K_UPWARDS),
+            Surface::new(0.0, 0.0, TINY, K_UPWARDS),
+            Surface::new(48.0, 90.0, 2.0, K_HORIZONTAL),
+            Surface::new(0.0, 0.0, 1.0, K_UPWARDS),
+            Surface::new(0.0, 90.0, TINY, K_HORIZONTAL),
         ],
     }
 }
@@ -146,10 +134,7 @@ pub fn walls() -> Room {
     Room {
         bridges: 36.5,
         air: 0.0,
-        surface: [0.0; 6],
-        pitch: [90.0; 6],
-        area: [1.0; 6],
-        k: [K_HORIZONTAL; 6],
+        surfaces: [Surface::new(0.0, 90.0, 1.0, K_HORIZONTAL); 6],
     }
 }
 

@@ -1,5 +1,19 @@
 // House P and its hours, in bytes.
-use crate::bytes::{put_byte, write_f64s_be};
+use big_endian::write_f64s_be;
+use zone::State;
+
+pub const HEAD: usize = 180;
+
+pub const CONDITIONS: usize = 154;
+
+// An entry of version 1 or 2.
+pub const ENTRY: usize = 216;
+
+// No ventilation setpoint.
+const NO_CONTROL: f64 = 1.4e32;
+
+// An element's part of an hour: external temperature 20, no sun, shading 1.
+const PART: [f64; 5] = [20.0, 0.0, 0.0, 1.0, 1.0];
 
 // What the rows change of House P.
 #[derive(Clone, Copy)]
@@ -10,51 +24,52 @@ pub struct House {
     pub useful_area: f64,
 }
 
-pub fn house_p() -> House {
-    House {
-        k_inner: 3600.0,
-        h_ce: 1.0,
-        bridges: 43.0625,
-        useful_area: 36.0,
-    }
-}
+pub const HOUSE_P: House = House {
+    k_inner: 3600.0,
+    h_ce: 1.0,
+    bridges: 43.0625,
+    useful_area: 36.0,
+};
 
 // No capacity, no loss, hardly any useful area.
-pub fn singular() -> House {
-    House {
-        k_inner: 0.0,
-        h_ce: 0.0,
-        bridges: 0.0,
-        useful_area: 1e-20,
+pub const SINGULAR: House = House {
+    k_inner: 0.0,
+    h_ce: 0.0,
+    bridges: 0.0,
+    useful_area: 1e-20,
+};
+
+impl House {
+    // Length 176, version 1, air basis, one element, limit 10.
+    pub fn head(self) -> [u8; HEAD] {
+        let mut b = [0; HEAD];
+        b[3] = 176;
+        b[4] = 1;
+        b[6] = 1;
+        b[8] = 10;
+        let front = [
+            self.useful_area,
+            100.0,
+            self.bridges,
+            20.0,
+            20.0,
+            NO_CONTROL,
+        ];
+        write_f64s_be(&mut b, 9, &front);
+        b[57] = 4;
+        write_f64s_be(&mut b, 59, &[1.0, 90.0, self.h_ce]);
+        write_f64s_be(&mut b, 115, &[0.0, self.k_inner, 1.0]);
+        write_f64s_be(&mut b, 139, &PART);
+        b
     }
 }
 
-// An element's part of an hour: external temperature 20, no sun, shading 1.
-fn put_part(b: &mut [u8], at: usize) {
-    let part = [20.0, 0.0, 0.0, 1.0, 1.0];
-    write_f64s_be(b, at, &part, 5);
-}
-
-fn put_element(b: &mut [u8; 180], p: House) {
-    put_byte(b, 57, 4);
-    let values = [1.0, 90.0, p.h_ce, 0.0, 0.0, 0.0, 0.0];
-    let chain = [0.0, p.k_inner, 1.0];
-    write_f64s_be(b, 59, &values, 7);
-    write_f64s_be(b, 115, &chain, 3);
-    put_part(b, 139);
-}
-
-// Length 176, version 1, air basis, one element, limit 10.
-pub fn head_of(p: House) -> [u8; 180] {
-    let mut b = [0u8; 180];
-    let values = [p.useful_area, 100.0, p.bridges, 20.0, 20.0, 1.4e32];
-    put_byte(&mut b, 3, 176);
-    put_byte(&mut b, 4, 1);
-    put_byte(&mut b, 6, 1);
-    put_byte(&mut b, 8, 10);
-    write_f64s_be(&mut b, 9, &values, 6);
-    put_element(&mut b, p);
-    b
+// Every temperature 20.
+pub fn start() -> State {
+    State {
+        nodes: 3,
+        temps: [20.0; 121],
+    }
 }
 
 // What the rows change of its hours: setpoints, convective fractions of heating and cooling, and what other systems give.
@@ -68,35 +83,37 @@ pub struct Hour {
     pub radiative: f64,
 }
 
-pub fn hour_of(h: Hour) -> [u8; 154] {
-    let mut b = [0u8; 154];
-    let values = [
-        1.0,
-        20.0,
-        0.0,
-        0.0,
-        h.heating_fraction,
-        h.cooling_fraction,
-        h.heat,
-        h.cool,
-        1.4e32,
-        20.0,
-        h.convective,
-        h.radiative,
-    ];
-    write_f64s_be(&mut b, 0, &values, 12);
-    put_part(&mut b, 113);
-    b
-}
+impl Hour {
+    // With these heating and cooling setpoints, all power by convection, and nothing from other systems.
+    pub fn of(heat: f64, cool: f64) -> Hour {
+        Hour {
+            heat,
+            cool,
+            heating_fraction: 1.0,
+            cooling_fraction: 1.0,
+            convective: 0.0,
+            radiative: 0.0,
+        }
+    }
 
-// An hour of House P with these heating and cooling setpoints.
-pub fn conditions_of(heat: f64, cool: f64) -> [u8; 154] {
-    hour_of(Hour {
-        heat,
-        cool,
-        heating_fraction: 1.0,
-        cooling_fraction: 1.0,
-        convective: 0.0,
-        radiative: 0.0,
-    })
+    pub fn conditions(self) -> [u8; CONDITIONS] {
+        let mut b = [0; CONDITIONS];
+        let front = [
+            1.0,
+            20.0,
+            0.0,
+            0.0,
+            self.heating_fraction,
+            self.cooling_fraction,
+            self.heat,
+            self.cool,
+            NO_CONTROL,
+            20.0,
+            self.convective,
+            self.radiative,
+        ];
+        write_f64s_be(&mut b, 0, &front);
+        write_f64s_be(&mut b, 113, &PART);
+        b
+    }
 }

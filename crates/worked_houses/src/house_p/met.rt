@@ -1,11 +1,13 @@
 // What is expected of an hour of House P from balance, and what came, row by row.
-use crate::house_p::rows::start;
-use crate::table::{decimals, number};
+use crate::house_p::house::start;
+use crate::limits::Meeting;
+use crate::refusal::Refusal;
+use crate::table::decimals;
+use crate::zone_read::ZoneRead;
 use std::io;
-use zone::{Demand, HeatBalance, HourAnswer, Limits, State, ZoneFront};
+use zone::{Demand, HeatBalance, State};
 
-// What is expected of an hour: the demand in kWh, the temperatures above 20, the total gains and what of them goes to the
-// air.
+// The demand in kWh, the temperatures above 20, the total gains and what of them goes to the air.
 #[derive(Clone, Copy)]
 pub struct Met {
     pub heating: f64,
@@ -17,129 +19,84 @@ pub struct Met {
     pub to_air: f64,
 }
 
-fn print_temps(rt: &impl Print, s: State, e: Met) -> io::Result<()> {
-    let temps = s.temps;
-    decimals(
-        rt,
-        b"  external surface               ",
-        temps[0],
-        20.0 + e.outer,
-    )?;
-    decimals(
-        rt,
-        b"  internal surface               ",
-        temps[1],
-        20.0 + e.inner,
-    )?;
-    decimals(
-        rt,
-        b"  air                            ",
-        temps[2],
-        20.0 + e.air,
-    )
+// Row by row, since each value is in a field of its own: a table of them would be longer.
+impl Met {
+    // "demand is reported uncut"
+    fn print_demand(self, rt: &impl Print, came: Demand) -> io::Result<()> {
+        decimals(rt, "  heating, kWh", came.space_heat_demand, self.heating)?;
+        decimals(rt, "  cooling, kWh", came.space_cool_demand, self.cooling)
+    }
+
+    fn print_temperatures(self, rt: &impl Print, came: State) -> io::Result<()> {
+        decimals(rt, "  external surface", came.temps[0], 20.0 + self.outer)?;
+        decimals(rt, "  internal surface", came.temps[1], 20.0 + self.inner)?;
+        decimals(rt, "  air", came.temps[2], 20.0 + self.air)
+    }
+
+    // The balance is that of the limited power.
+    fn print_gains(self, rt: &impl Print, came: HeatBalance) -> io::Result<()> {
+        decimals(
+            rt,
+            "  total gains, W",
+            came.external_boundary.heating_or_cooling_system_gains,
+            self.gains,
+        )?;
+        decimals(
+            rt,
+            "  of them to the air",
+            came.air_node.heating_or_cooling_system_gains,
+            self.to_air,
+        )
+    }
+
+    // Where the air's part of the gains goes, by the temperatures above 20.
+    fn print_losses(self, rt: &impl Print, came: HeatBalance) -> io::Result<()> {
+        decimals(
+            rt,
+            "  to warm the air",
+            came.air_node.energy_to_change_internal_temperature,
+            -100.0 * self.air,
+        )?;
+        decimals(
+            rt,
+            "  by the bridges",
+            came.air_node.thermal_bridges,
+            -43.0625 * self.air,
+        )?;
+        decimals(
+            rt,
+            "  by the fabric",
+            came.air_node.fabric_heat_loss,
+            -2.5 * (self.air - self.inner),
+        )
+    }
 }
 
-// "demand is reported uncut"
-pub fn print_demand(rt: &impl Print, d: Demand, e: Met) -> io::Result<()> {
-    decimals(
-        rt,
-        b"  heating, kWh                   ",
-        d.space_heat_demand,
-        e.heating,
-    )?;
-    decimals(
-        rt,
-        b"  cooling, kWh                   ",
-        d.space_cool_demand,
-        e.cooling,
-    )
-}
-
-// The balance is that of the limited power.
-pub fn print_gains(rt: &impl Print, b: HeatBalance, e: Met) -> io::Result<()> {
-    let boundary = b.external_boundary;
-    let air_node = b.air_node;
-    decimals(
-        rt,
-        b"  total gains, W                 ",
-        boundary.heating_or_cooling_system_gains,
-        e.gains,
-    )?;
-    decimals(
-        rt,
-        b"  of them to the air             ",
-        air_node.heating_or_cooling_system_gains,
-        e.to_air,
-    )
-}
-
-// Where the air's part of the gains goes, by the temperatures above 20.
-fn print_losses(rt: &impl Print, b: HeatBalance, e: Met) -> io::Result<()> {
-    let air_node = b.air_node;
-    decimals(
-        rt,
-        b"  to warm the air                ",
-        air_node.energy_to_change_internal_temperature,
-        -100.0 * e.air,
-    )?;
-    decimals(
-        rt,
-        b"  by the bridges                 ",
-        air_node.thermal_bridges,
-        -43.0625 * e.air,
-    )?;
-    decimals(
-        rt,
-        b"  by the fabric                  ",
-        air_node.fabric_heat_loss,
-        -2.5 * (e.air - e.inner),
-    )
+// What is printed of an hour beside its demand and its gains.
+#[derive(Clone, Copy, PartialEq, Eq)]
+pub enum Detail {
+    NoMore,
+    Temperatures,
+    TemperaturesAndLosses,
 }
 
 pub fn print_hour(
     rt: &impl Print,
-    z: ZoneFront,
-    codes: &[u8; 72],
-    values: &[f64; 600],
-    conditions: &[u8; 154],
-    version: u64,
-    l: Limits,
-    e: Met,
-) -> io::Result<()> {
-    let x = start().hour_step(z, codes, values, conditions, version, l);
-    let answer = x.answer;
-    match answer {
-        HourAnswer::Refused {
-            number: n,
-            index: _,
-        } => number(rt, b"  hour step, refusal             ", n as u64, 0),
-        HourAnswer::Accepted(d, balance) => {
-            print_demand(rt, d, e)?;
-            print_temps(rt, x.state, e)?;
-            print_gains(rt, balance, e)
-        }
+    zone: &ZoneRead,
+    conditions: &[u8],
+    meeting: Meeting,
+    expected: Met,
+    detail: Detail,
+) -> anyhow::Result<()> {
+    let step = zone.hour_step(start(), conditions, meeting);
+    let (demand, balance) = step.answer.map_err(Refusal::from)?;
+    expected.print_demand(rt, demand)?;
+    if detail != Detail::NoMore {
+        expected.print_temperatures(rt, step.state)?;
     }
-}
-
-// The same, with the air's losses.
-pub fn print_whole_hour(
-    rt: &impl Print,
-    z: ZoneFront,
-    codes: &[u8; 72],
-    values: &[f64; 600],
-    conditions: &[u8; 154],
-    version: u64,
-    l: Limits,
-    e: Met,
-) -> io::Result<()> {
-    print_hour(rt, z, codes, values, conditions, version, l, e)?;
-    let x = start().hour_step(z, codes, values, conditions, version, l);
-    let answer = x.answer;
-    match answer {
-        HourAnswer::Refused {
-            number: _,
-            index: _,
-        } => { Ok(()) }
-        HourAnswer::Accepted(_, balance) => print_losses(rt, balance, e),
+    expected.print_gains(rt, balance)?;
+    if detail == Detail::TemperaturesAndLosses {
+        expected.print_losses(rt, balance)?;
     }
+    Ok(())
 }

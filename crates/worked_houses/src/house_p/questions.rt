@@ -4,19 +4,14 @@
 // x0 above 20, the gains A lead to 144 y = 100 y0 + 0.625 x0 + A and x = 0.625 y + 0.25 x0 (house_p/limited.rt has the
 // equations from balance). The surface's area is all there is, so the operative temperature is the mean of y and x. Every
 // number here is a float, and so is every step to it.
-use crate::answers::{NONE, above, nearest, refused, within};
-use crate::bytes::part;
-use crate::house_p::house::{Hour, head_of, hour_of, house_p};
-use crate::limits::{not_a_number, wide};
-use crate::replies::nothing;
-use crate::table::text;
+use crate::answers::Answer::{self, Hours, NoHour};
+use crate::answers::{above, nearest, within};
+use crate::house_p::house::{ENTRY, HEAD, HOUSE_P, Hour};
+use crate::limits::{MOST as MOST_POWER, Meeting};
+use crate::refusal::Cause;
+use crate::zone_read::ZoneRead;
 use book::BookState;
 use std::io;
-use zone::ZoneFront;
-
-const HEAD: usize = 180;
-
-const ENTRY: usize = 216;
 
 const LONG_ENTRY: usize = 232;
 
@@ -32,10 +27,8 @@ const DAMAGED: usize = HEAD + 4 * ENTRY - 1;
 
 const TWO_HOURS: usize = HEAD + 2 * ENTRY;
 
-// The greatest value that may be asked for, and the float above it.
+// The greatest value that may be asked for.
 const MOST: f64 = 1e6;
-
-const TOO_MUCH: f64 = 1000000.0000000001;
 
 // The air of hour 7, 2 ^ -36 above 22, and the operative temperature then, 13 * 2 ^ -40 above that of hour 4. Next to a
 // million floats lie 2 ^ -33 apart: the distances of the two hours from there are one float.
@@ -43,259 +36,202 @@ const AIR: f64 = 22.000000000014552;
 
 const WARMEST: f64 = 21.625000000011823;
 
-// The numbers of a short head, a false entry and a value turned away.
-const SHORT: u64 = 1;
-
-const FALSE_ENTRY: u64 = 18;
-
-const VALUE: u64 = 20;
-
 // An hour behind the book's last, which brings the air to this temperature.
 fn hour_to(
-    z: ZoneFront,
-    codes: &[u8; 72],
-    values: &[f64; 600],
+    zone: &ZoneRead,
     given: BookState,
     air: f64,
     version: u64,
-    b: &mut [u8],
+    book: &mut [u8],
 ) -> BookState {
-    let state = given.state;
-    let temps = state.temps;
+    let temps = given.state.temps;
     let before = 100.0 * (temps[2] - 20.0) + 0.625 * (temps[1] - 20.0);
-    let c = hour_of(Hour {
-        heat: -100.0,
-        cool: 100.0,
-        heating_fraction: 1.0,
-        cooling_fraction: 1.0,
+    let hour = Hour {
         convective: 144.0 * (air - 20.0) - before,
-        radiative: 0.0,
-    });
-    let r = book::append(z, codes, values, given, &c, version, wide(), b);
-    r.values
+        ..Hour::of(-100.0, 100.0)
+    };
+    let meeting = Meeting::with(version, MOST_POWER, MOST_POWER);
+    zone.append(given, &hour.conditions(), meeting, book).values
+}
+
+// A book of hours, each with the air's temperature after it and its version.
+fn write_hours(zone: &ZoneRead, hours: &[(f64, u64)], book: &mut [u8]) {
+    let mut last = zone.begin(book).values;
+    for (air, version) in hours {
+        last = hour_to(zone, last, *air, *version, book);
+    }
 }
 
 // The inner surface, and so the operative temperature, in the order of the hours: 20.625 and 20.8125, 20 and 19.875, the
 // same two again, 21.25 and 21.625, 20 and 19.75, 20 and 20, and for hour 7 a little above those of hour 4.
-fn write_eight(z: ZoneFront, codes: &[u8; 72], values: &[f64; 600], h: &[u8], b: &mut [u8; ROOM]) {
-    let begun = book::begin(nothing(), h, b);
-    let h0 = hour_to(z, codes, values, begun.values, 21.0, 1, b);
-    let h1 = hour_to(z, codes, values, h0, 19.75, 1, b);
-    let h2 = hour_to(z, codes, values, h1, 21.0, 2, b);
-    let h3 = hour_to(z, codes, values, h2, 19.75, 2, b);
-    let h4 = hour_to(z, codes, values, h3, 22.0, 2, b);
-    let h5 = hour_to(z, codes, values, h4, 19.5, 3, b);
-    let h6 = hour_to(z, codes, values, h5, 20.0, 3, b);
-    hour_to(z, codes, values, h6, AIR, 3, b);
-}
+const EIGHT: [(f64, u64); 8] = [
+    (21.0, 1),
+    (19.75, 1),
+    (21.0, 2),
+    (19.75, 2),
+    (22.0, 2),
+    (19.5, 3),
+    (20.0, 3),
+    (AIR, 3),
+];
 
 // "from at or below a given value to above it"; start-up is at 20.
-fn print_above(rt: &impl Print, b: &[u8; ROOM]) -> io::Result<()> {
-    above(rt, b"  first above 20.5               ", b, 20.5, 0)?;
-    above(rt, b"  20, start-up's own             ", b, 20.0, 0)?;
-    above(rt, b"  19.9, below start-up's         ", b, 19.9, 2)?;
-    above(rt, b"  20.9, below the air's          ", b, 20.9, 4)?;
-    above(rt, b"  19.875, that of hours 1 and 3  ", b, 19.875, 2)?;
-    above(rt, b"  20.8125, that of hours 0 and 2 ", b, 20.8125, 4)?;
-    above(rt, b"  19.75, that of hour 5          ", b, 19.75, 6)?;
-    above(rt, b"  21.625, that of hour 4         ", b, 21.625, 7)?;
-    above(rt, b"  that of hour 7, the greatest   ", b, WARMEST, NONE)?;
-    above(rt, b"  19.7, below all                ", b, 19.7, NONE)?;
-    above(rt, b"  1e6                            ", b, MOST, NONE)?;
-    above(rt, b"  -1e6                           ", b, -MOST, NONE)
+fn print_above(rt: &impl Print, book: &[u8]) -> io::Result<()> {
+    for (asked, value, expected) in [
+        ("  first above 20.5", 20.5, Answer::Hour(0)),
+        ("  20, start-up's own", 20.0, Answer::Hour(0)),
+        ("  19.9, below start-up's", 19.9, Answer::Hour(2)),
+        ("  20.9, below the air's", 20.9, Answer::Hour(4)),
+        ("  19.875, that of hours 1 and 3", 19.875, Answer::Hour(2)),
+        ("  20.8125, that of hours 0 and 2", 20.8125, Answer::Hour(4)),
+        ("  19.75, that of hour 5", 19.75, Answer::Hour(6)),
+        ("  21.625, that of hour 4", 21.625, Answer::Hour(7)),
+        ("  that of hour 7, the greatest", WARMEST, NoHour),
+        ("  19.7, below all", 19.7, NoHour),
+        ("  1e6", MOST, NoHour),
+        ("  -1e6", -MOST, NoHour),
+    ] {
+        above(rt, asked, book, value, expected)?;
+    }
+    Ok(())
 }
 
 // "within an inclusive band"
-fn print_within(rt: &impl Print, b: &[u8; ROOM]) -> io::Result<()> {
-    within(
-        rt,
-        b"  hours at 20.8125               ",
-        b,
-        20.8125,
-        20.8125,
-        2,
-    )?;
-    within(rt, b"  at 20, also start-up's         ", b, 20.0, 20.0, 1)?;
-    within(
-        rt,
-        b"  19.875 to 20.8125              ",
-        b,
-        19.875,
-        20.8125,
-        5,
-    )?;
-    within(rt, b"  20.9 to 21.5, only of the air  ", b, 20.9, 21.5, 0)?;
-    within(
-        rt,
-        b"  19.75 to hour 7's              ",
-        b,
-        19.75,
-        WARMEST,
-        8,
-    )?;
-    within(
-        rt,
-        b"  19.75 to hour 4's              ",
-        b,
-        19.75,
-        21.625,
-        7,
-    )?;
-    within(rt, b"  -1e6 to 1e6                    ", b, -MOST, MOST, 8)?;
-    within(rt, b"  0.0 to -0.0                    ", b, 0.0, -0.0, 0)
+fn print_within(rt: &impl Print, book: &[u8]) -> io::Result<()> {
+    for (asked, lower, upper, hours) in [
+        ("  hours at 20.8125", 20.8125, 20.8125, 2),
+        ("  at 20, also start-up's", 20.0, 20.0, 1),
+        ("  19.875 to 20.8125", 19.875, 20.8125, 5),
+        ("  20.9 to 21.5, only of the air", 20.9, 21.5, 0),
+        ("  19.75 to hour 7's", 19.75, WARMEST, 8),
+        ("  19.75 to hour 4's", 19.75, 21.625, 7),
+        ("  -1e6 to 1e6", -MOST, MOST, 8),
+        ("  0.0 to -0.0", 0.0, -0.0, 0),
+    ] {
+        within(rt, asked, book, lower, upper, Hours(hours))?;
+    }
+    Ok(())
 }
 
 // "the distance rounded once, the earlier on a tie"
-fn print_nearest(rt: &impl Print, b: &[u8; ROOM]) -> io::Result<()> {
-    nearest(rt, b"  nearest 20.8125, hours 0 and 2 ", b, 20.8125, 0)?;
-    nearest(rt, b"  21.21875, between hours 0 and 4", b, 21.21875, 0)?;
-    nearest(rt, b"  20.40625, between hours 0 and 6", b, 20.40625, 0)?;
-    nearest(rt, b"  19.9375, between hours 1 and 6 ", b, 19.9375, 1)?;
-    nearest(rt, b"  20, start-up's own             ", b, 20.0, 6)?;
-    nearest(rt, b"  21.5, between the air's        ", b, 21.5, 4)?;
-    nearest(rt, b"  22                             ", b, 22.0, 7)?;
-    nearest(rt, b"  1e6, hours 4 and 7 when rounded", b, MOST, 4)?;
-    nearest(rt, b"  -1e6                           ", b, -MOST, 5)
+fn print_nearest(rt: &impl Print, book: &[u8]) -> io::Result<()> {
+    for (asked, value, hour) in [
+        ("  nearest 20.8125, hours 0 and 2", 20.8125, 0),
+        ("  21.21875, between hours 0 and 4", 21.21875, 0),
+        ("  20.40625, between hours 0 and 6", 20.40625, 0),
+        ("  19.9375, between hours 1 and 6", 19.9375, 1),
+        ("  20, start-up's own", 20.0, 6),
+        ("  21.5, between the air's", 21.5, 4),
+        ("  22", 22.0, 7),
+        ("  1e6, hours 4 and 7 when rounded", MOST, 4),
+        ("  -1e6", -MOST, 5),
+    ] {
+        nearest(rt, asked, book, value, Answer::Hour(hour))?;
+    }
+    Ok(())
 }
 
 // A value that no question takes.
-fn print_value(rt: &impl Print, b: &[u8], said: &[u8], x: f64, expected: u64) -> io::Result<()> {
-    text(rt, said)?;
-    above(rt, b"  first above                    ", b, x, expected)?;
-    within(
-        rt,
-        b"  hours from there to 1e6        ",
-        b,
-        x,
-        MOST,
-        expected,
-    )?;
-    within(
-        rt,
-        b"  from -1e6 to there             ",
-        b,
-        -MOST,
-        x,
-        expected,
-    )?;
-    nearest(rt, b"  nearest                        ", b, x, expected)
+fn print_value(
+    rt: &impl Print,
+    book: &[u8],
+    title: &str,
+    x: f64,
+    expected: Answer,
+) -> io::Result<()> {
+    println!(rt; "{title}")?;
+    above(rt, "  first above", book, x, expected)?;
+    within(rt, "  hours from there to 1e6", book, x, MOST, expected)?;
+    within(rt, "  from -1e6 to there", book, -MOST, x, expected)?;
+    nearest(rt, "  nearest", book, x, expected)
 }
 
 // Of a book that is refused, and of one whose values are turned away.
-fn print_each(rt: &impl Print, b: &[u8], expected: u64) -> io::Result<()> {
-    print_value(
-        rt,
-        b,
-        b"a value that is no number\n",
-        not_a_number(),
-        expected,
-    )?;
-    within(
-        rt,
-        b"  hours from 21 to 20            ",
-        b,
-        21.0,
-        20.0,
-        expected,
-    )
+fn print_each(rt: &impl Print, book: &[u8], expected: Answer) -> io::Result<()> {
+    print_value(rt, book, "a value that is no number", f64::NAN, expected)?;
+    within(rt, "  hours from 21 to 20", book, 21.0, 20.0, expected)
 }
+
+const TURNED_AWAY: Cause = Cause::QuestionValue;
 
 // An empty book has no hour, and its values are tested too.
-fn print_empty(rt: &impl Print, b: &[u8]) -> io::Result<()> {
-    let turned_away = refused(VALUE, 0);
-    let infinite = 1.0 / 0.0;
-    above(rt, b"  first above 19                 ", b, 19.0, NONE)?;
-    within(rt, b"  hours from -1e6 to 1e6         ", b, -MOST, MOST, 0)?;
-    nearest(rt, b"  nearest 20                     ", b, 20.0, NONE)?;
-    print_each(rt, b, turned_away)?;
-    print_value(rt, b, b"infinite\n", infinite, turned_away)?;
-    print_value(rt, b, b"infinite below 0\n", -infinite, turned_away)?;
-    print_value(rt, b, b"the float above 1e6\n", TOO_MUCH, turned_away)?;
-    print_value(rt, b, b"the float below -1e6\n", -TOO_MUCH, turned_away)
+fn print_empty(rt: &impl Print, book: &[u8]) -> io::Result<()> {
+    let turned_away = Answer::Refused(TURNED_AWAY.at(0));
+    above(rt, "  first above 19", book, 19.0, NoHour)?;
+    within(rt, "  hours from -1e6 to 1e6", book, -MOST, MOST, Hours(0))?;
+    nearest(rt, "  nearest 20", book, 20.0, NoHour)?;
+    print_each(rt, book, turned_away)?;
+    for (title, x) in [
+        ("infinite", f64::INFINITY),
+        ("infinite below 0", f64::NEG_INFINITY),
+        ("the float above 1e6", MOST.next_up()),
+        ("the float below -1e6", -MOST.next_up()),
+    ] {
+        print_value(rt, book, title, x, turned_away)?;
+    }
+    Ok(())
 }
 
-fn print_cuts(rt: &impl Print, b: &[u8; ROOM]) -> io::Result<()> {
-    text(rt, b"without the last byte: hour 7 is dropped\n")?;
-    let seven = part(b, 0, USED - 1);
-    above(
+fn print_cuts(rt: &impl Print, book: &[u8; ROOM]) -> io::Result<()> {
+    let seven = &book[..USED - 1];
+    println!(rt; "without the last byte: hour 7 is dropped")?;
+    above(rt, "  first above 21.625", seven, 21.625, NoHour)?;
+    within(rt, "  hours from -1e6 to 1e6", seven, -MOST, MOST, Hours(7))?;
+    nearest(rt, "  nearest 22", seven, 22.0, Answer::Hour(4))?;
+    println!(rt; "the head alone")?;
+    print_empty(rt, &book[..HEAD])?;
+    println!(rt; "the head without its last byte: 1 before 20")?;
+    print_each(
         rt,
-        b"  first above 21.625             ",
-        seven,
-        21.625,
-        NONE,
-    )?;
-    within(
-        rt,
-        b"  hours from -1e6 to 1e6         ",
-        seven,
-        -MOST,
-        MOST,
-        7,
-    )?;
-    nearest(rt, b"  nearest 22                     ", seven, 22.0, 4)?;
-    text(rt, b"the head alone\n")?;
-    print_empty(rt, part(b, 0, HEAD))?;
-    text(rt, b"the head without its last byte: 1 before 20\n")?;
-    print_each(rt, part(b, 0, HEAD - 1), refused(SHORT, 0))
+        &book[..HEAD - 1],
+        Answer::Refused(Cause::HeadShort.at(0)),
+    )
 }
 
 // Of air and surface at 0 the mean is 0. Two hours of version 1: the air at -28 leads to the surface at -10 and the mean of
 // both at -19, then the air at 0 to the surface at 0.
-fn print_frozen(
-    rt: &impl Print,
-    z: ZoneFront,
-    codes: &[u8; 72],
-    values: &[f64; 600],
-    h: &[u8; HEAD],
-) -> io::Result<()> {
-    let mut b = [0u8; TWO_HOURS];
-    let begun = book::begin(nothing(), h, &mut b);
-    let cold = hour_to(z, codes, values, begun.values, -28.0, 1, &mut b);
-    hour_to(z, codes, values, cold, 0.0, 1, &mut b);
-    text(rt, b"two hours, at -19 and 0\n")?;
-    within(rt, b"  hours from 0.0 to -0.0         ", &b, 0.0, -0.0, 1)?;
-    within(rt, b"  from -0.0 to 0.0               ", &b, -0.0, 0.0, 1)?;
-    above(rt, b"  first above -0.0               ", &b, -0.0, NONE)?;
-    above(rt, b"  first above -19                ", &b, -19.0, 1)?;
-    nearest(rt, b"  nearest -9.5, between both     ", &b, -9.5, 0)?;
-    nearest(rt, b"  20, start-up's own             ", &b, 20.0, 1)
-}
-
-fn print_whole(rt: &impl Print, b: &[u8; ROOM]) -> io::Result<()> {
-    text(
+fn print_frozen(rt: &impl Print, zone: &ZoneRead) -> io::Result<()> {
+    let mut book = [0; TWO_HOURS];
+    write_hours(zone, &[(-28.0, 1), (0.0, 1)], &mut book);
+    println!(rt; "two hours, at -19 and 0")?;
+    within(rt, "  hours from 0.0 to -0.0", &book, 0.0, -0.0, Hours(1))?;
+    within(rt, "  from -0.0 to 0.0", &book, -0.0, 0.0, Hours(1))?;
+    above(rt, "  first above -0.0", &book, -0.0, NoHour)?;
+    above(rt, "  first above -19", &book, -19.0, Answer::Hour(1))?;
+    nearest(
         rt,
-        b"eight hours of versions 1, 2 and 3 with 4 bytes behind them\n",
+        "  nearest -9.5, between both",
+        &book,
+        -9.5,
+        Answer::Hour(0),
     )?;
-    print_above(rt, b)?;
-    print_within(rt, b)?;
-    print_nearest(rt, b)?;
-    print_each(rt, b, refused(VALUE, 0))?;
-    print_cuts(rt, b)
+    nearest(rt, "  20, start-up's own", &book, 20.0, Answer::Hour(1))
 }
 
-fn print_damaged(rt: &impl Print, b: &[u8; ROOM]) -> io::Result<()> {
-    let false_entry = refused(FALSE_ENTRY, 3);
-    text(rt, b"hour 3 damaged: 18 before 20\n")?;
-    above(
-        rt,
-        b"  first above 20.5               ",
-        b,
-        20.5,
-        false_entry,
-    )?;
-    print_each(rt, b, false_entry)
+fn print_whole(rt: &impl Print, book: &[u8; ROOM]) -> io::Result<()> {
+    println!(rt; "eight hours of versions 1, 2 and 3 with 4 bytes behind them")?;
+    print_above(rt, book)?;
+    print_within(rt, book)?;
+    print_nearest(rt, book)?;
+    print_each(rt, book, Answer::Refused(TURNED_AWAY.at(0)))?;
+    print_cuts(rt, book)
 }
 
-pub fn print_questions(rt: &impl Print) -> io::Result<()> {
-    let p = head_of(house_p());
-    let mut codes = [0; 72];
-    let mut values = [0.0; 600];
-    let h = zone::read_head(&p, &mut codes, &mut values);
-    let z = h.zone;
-    let mut b = [0u8; ROOM];
-    write_eight(z, &codes, &values, &p, &mut b);
-    print_whole(rt, &b)?;
-    b[DAMAGED] = 1;
-    print_damaged(rt, &b)?;
-    print_frozen(rt, z, &codes, &values, &p)
+fn print_damaged(rt: &impl Print, book: &[u8]) -> io::Result<()> {
+    let false_entry = Answer::Refused(Cause::FalseEntry.at(3));
+    println!(rt; "hour 3 damaged: 18 before 20")?;
+    above(rt, "  first above 20.5", book, 20.5, false_entry)?;
+    print_each(rt, book, false_entry)
+}
+
+pub fn print_questions(rt: &impl Print) -> anyhow::Result<()> {
+    let head = HOUSE_P.head();
+    let zone = ZoneRead::read(&head)?;
+    let mut book = [0; ROOM];
+    write_hours(&zone, &EIGHT, &mut book);
+    print_whole(rt, &book)?;
+    book[DAMAGED] = 1;
+    print_damaged(rt, &book)?;
+    print_frozen(rt, &zone)?;
+    Ok(())
 }

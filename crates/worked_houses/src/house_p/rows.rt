@@ -1,297 +1,125 @@
 // The rows of document 01's section "House P".
-use crate::house_p::house::{conditions_of, head_of, house_p, singular};
-use crate::replies::verdict_number;
-use crate::table::{number, value};
+use crate::house_p::house::{HOUSE_P, Hour, SINGULAR, start};
+use crate::refusal::Cause;
+use crate::replies::number_of;
+use crate::table::{row, value};
+use crate::zone_read::ZoneRead;
 use std::io;
-use zone::{DemandAnswer, Head, State, UpdateAnswer, Verdict, ZoneFront};
+use zone::State;
 
-// Every temperature 20.
-pub fn start() -> State {
-    State {
-        nodes: 3,
-        temps: [20.0; 121],
-    }
+fn print_temps(rt: &impl Print, state: State) -> io::Result<()> {
+    value(rt, "  external surface", state.temps[0], 20.0, "20")?;
+    value(rt, "  internal surface", state.temps[1], 20.0, "20")?;
+    value(rt, "  air", state.temps[2], 20.0, "20")
 }
 
-// A head's refusal, and where it has none that of its values.
-fn head_number(h: Head, codes: &[u8; 72], values: &[f64; 600]) -> u64 {
-    let verdict = h.verdict;
-    match verdict {
-        Verdict::Refused { number, index: _ } => number as u64,
-        Verdict::Accepted => verdict_number(zone::zone_test(h.zone, codes, values)),
-    }
+fn print_start_up(rt: &impl Print, zone: &ZoneRead) -> anyhow::Result<()> {
+    let start = zone.start_up();
+    row(rt, "start-up, refusal", number_of(&start), 0)?;
+    print_temps(rt, start?)?;
+    Ok(())
 }
 
-fn print_temps(rt: &impl Print, s: State) -> io::Result<()> {
-    let temps = s.temps;
-    value(
+fn print_free(rt: &impl Print, zone: &ZoneRead) -> anyhow::Result<()> {
+    let conditions = Hour::of(20.0, 24.0).conditions();
+    let (after, _) = zone.update(start(), &conditions, 0.0, 0.0, 0.0)?;
+    row(rt, "free temperatures, nodes", after.nodes, 3)?;
+    print_temps(rt, after)?;
+    Ok(())
+}
+
+// What is asked, what is expected, and that in words.
+type Expected = (&'static str, f64, &'static str);
+
+// The demand of an hour with these setpoints.
+fn print_demand(
+    rt: &impl Print,
+    zone: &ZoneRead,
+    hour: Hour,
+    heating: Expected,
+    cooling: Expected,
+) -> anyhow::Result<()> {
+    let demand = zone.demand(start(), &hour.conditions())?;
+    let (asked, expected, words) = heating;
+    value(rt, asked, demand.space_heat_demand, expected, words)?;
+    let (asked, expected, words) = cooling;
+    value(rt, asked, demand.space_cool_demand, expected, words)?;
+    Ok(())
+}
+
+fn print_demands(rt: &impl Print, zone: &ZoneRead) -> anyhow::Result<()> {
+    print_demand(
         rt,
-        b"  external surface               ",
-        temps[0],
-        20.0,
-        b"  20         ",
+        zone,
+        Hour::of(20.0, 24.0),
+        ("setpoints 20/24, heating", 0.0, "0"),
+        ("setpoints 20/24, cooling", 0.0, "0"),
     )?;
-    value(
+    print_demand(
         rt,
-        b"  internal surface               ",
-        temps[1],
-        20.0,
-        b"  20         ",
+        zone,
+        Hour::of(21.0, 24.0),
+        ("setpoints 21/24, heating", 144.0 / 1000.0, "144/1000"),
+        ("setpoints 21/24, cooling", 0.0, "0"),
     )?;
-    value(
+    print_demand(
         rt,
-        b"  air                            ",
-        temps[2],
-        20.0,
-        b"  20         ",
+        zone,
+        Hour::of(15.0, 19.0),
+        ("setpoints 15/19, heating", 0.0, "0"),
+        ("setpoints 15/19, cooling", -144.0 / 1000.0, "-144/1000"),
     )
-}
-
-fn print_free(
-    rt: &impl Print,
-    z: ZoneFront,
-    codes: &[u8; 72],
-    values: &[f64; 600],
-) -> io::Result<()> {
-    let c = conditions_of(20.0, 24.0);
-    let x = start().update_temperatures(z, codes, values, &c, 0.0, 0.0, 0.0);
-    let answer = x.answer;
-    match answer {
-        UpdateAnswer::Refused {
-            number: n,
-            index: _,
-        } => number(rt, b"free temperatures, refusal       ", n as u64, 0),
-        UpdateAnswer::Accepted(_) => {
-            number(
-                rt,
-                b"free temperatures, nodes         ",
-                x.state.nodes as u64,
-                3,
-            )?;
-            print_temps(rt, x.state)
-        }
-    }
-}
-
-fn print_start_up(
-    rt: &impl Print,
-    z: ZoneFront,
-    codes: &[u8; 72],
-    values: &[f64; 600],
-) -> io::Result<()> {
-    let x = zone::init_node_temps(z, codes, values);
-    let verdict = x.verdict;
-    number(
-        rt,
-        b"start-up, refusal                ",
-        verdict_number(verdict),
-        0,
-    )?;
-    print_temps(rt, x.state)
-}
-
-fn no_demand(rt: &impl Print, n: u32) -> io::Result<()> {
-    number(rt, b"demand, refusal                  ", n as u64, 0)
-}
-
-fn print_none(
-    rt: &impl Print,
-    z: ZoneFront,
-    codes: &[u8; 72],
-    values: &[f64; 600],
-) -> io::Result<()> {
-    let c = conditions_of(20.0, 24.0);
-    let x = start().space_heat_cool_demand(z, codes, values, &c);
-    let answer = x.answer;
-    match answer {
-        DemandAnswer::Refused {
-            number: n,
-            index: _,
-        } => no_demand(rt, n),
-        DemandAnswer::Accepted(d) => {
-            value(
-                rt,
-                b"setpoints 20/24, heating         ",
-                d.space_heat_demand,
-                0.0,
-                b"  0          ",
-            )?;
-            value(
-                rt,
-                b"setpoints 20/24, cooling         ",
-                d.space_cool_demand,
-                0.0,
-                b"  0          ",
-            )
-        }
-    }
-}
-
-fn print_heating(
-    rt: &impl Print,
-    z: ZoneFront,
-    codes: &[u8; 72],
-    values: &[f64; 600],
-) -> io::Result<()> {
-    let c = conditions_of(21.0, 24.0);
-    let x = start().space_heat_cool_demand(z, codes, values, &c);
-    let answer = x.answer;
-    match answer {
-        DemandAnswer::Refused {
-            number: n,
-            index: _,
-        } => no_demand(rt, n),
-        DemandAnswer::Accepted(d) => {
-            value(
-                rt,
-                b"setpoints 21/24, heating         ",
-                d.space_heat_demand,
-                144.0 / 1000.0,
-                b"  144/1000   ",
-            )?;
-            value(
-                rt,
-                b"setpoints 21/24, cooling         ",
-                d.space_cool_demand,
-                0.0,
-                b"  0          ",
-            )
-        }
-    }
-}
-
-fn print_cooling(
-    rt: &impl Print,
-    z: ZoneFront,
-    codes: &[u8; 72],
-    values: &[f64; 600],
-) -> io::Result<()> {
-    let c = conditions_of(15.0, 19.0);
-    let x = start().space_heat_cool_demand(z, codes, values, &c);
-    let answer = x.answer;
-    match answer {
-        DemandAnswer::Refused {
-            number: n,
-            index: _,
-        } => no_demand(rt, n),
-        DemandAnswer::Accepted(d) => {
-            value(
-                rt,
-                b"setpoints 15/19, heating         ",
-                d.space_heat_demand,
-                0.0,
-                b"  0          ",
-            )?;
-            value(
-                rt,
-                b"setpoints 15/19, cooling         ",
-                d.space_cool_demand,
-                -144.0 / 1000.0,
-                b"  -144/1000  ",
-            )
-        }
-    }
-}
-
-fn refusal(a: DemandAnswer) -> u64 {
-    match a {
-        DemandAnswer::Refused { number, index: _ } => number as u64,
-        DemandAnswer::Accepted(_) => 0,
-    }
 }
 
 fn print_refused(
     rt: &impl Print,
-    z: ZoneFront,
-    codes: &[u8; 72],
-    values: &[f64; 600],
+    asked: &str,
+    zone: &ZoneRead,
+    hour: Hour,
+    expected: Cause,
 ) -> io::Result<()> {
-    let c = conditions_of(22.0, 21.0);
-    let x = start().space_heat_cool_demand(z, codes, values, &c);
-    let answer = x.answer;
-    number(
-        rt,
-        b"setpoints 22/21, refusal         ",
-        refusal(answer),
-        10,
-    )
+    let demand = zone.demand(start(), &hour.conditions());
+    row(rt, asked, number_of(&demand), expected as u32)
 }
 
-fn print_singular(rt: &impl Print) -> io::Result<()> {
-    let p = head_of(singular());
-    let mut codes = [0; 72];
-    let mut values = [0.0; 600];
-    let h = zone::read_head(&p, &mut codes, &mut values);
-    let c = conditions_of(20.0, 24.0);
-    let x = start().space_heat_cool_demand(h.zone, &codes, &values, &c);
-    let answer = x.answer;
-    number(
+pub fn print_zone(rt: &impl Print) -> anyhow::Result<()> {
+    let head = HOUSE_P.head();
+    let read = ZoneRead::read(&head);
+    row(rt, "head, refusal", number_of(&read), 0)?;
+    let zone = read?;
+    row(rt, "head, bytes", zone.length, head.len())?;
+    print_start_up(rt, &zone)?;
+    print_free(rt, &zone)?;
+    print_demands(rt, &zone)?;
+    print_refused(
         rt,
-        b"no capacity, no loss, refusal    ",
-        refusal(answer),
-        12,
-    )
-}
-
-pub fn print_zone(rt: &impl Print) -> io::Result<()> {
-    let p = head_of(house_p());
-    let mut codes = [0; 72];
-    let mut values = [0.0; 600];
-    let h = zone::read_head(&p, &mut codes, &mut values);
-    let z = h.zone;
-    number(
-        rt,
-        b"head, refusal                    ",
-        head_number(h, &codes, &values),
-        0,
+        "setpoints 22/21, refusal",
+        &zone,
+        Hour::of(22.0, 21.0),
+        Cause::CoolingBelowHeating,
     )?;
-    number(
+    print_refused(
         rt,
-        b"head, bytes                      ",
-        h.length as u64,
-        180,
+        "no capacity, no loss, refusal",
+        &ZoneRead::read(&SINGULAR.head())?,
+        Hour::of(20.0, 24.0),
+        Cause::Divisor,
     )?;
-    print_start_up(rt, z, &codes, &values)?;
-    print_free(rt, z, &codes, &values)?;
-    print_none(rt, z, &codes, &values)?;
-    print_heating(rt, z, &codes, &values)?;
-    print_cooling(rt, z, &codes, &values)?;
-    print_refused(rt, z, &codes, &values)?;
-    print_singular(rt)
+    Ok(())
 }
 
 // Operative and air temperature both 24 at the lower rate and 16 at the upper, supply 8.
-fn rate(target: f64, ach_min: f64, ach_max: f64) -> f64 {
-    zone::ach_req_to_reach_temperature(target, ach_min, ach_max, 24.0, 16.0, 24.0, 16.0, 8.0)
-}
-
 pub fn print_rates(rt: &impl Print) -> io::Result<()> {
-    value(
-        rt,
-        b"rates 1 to 5, target 24          ",
-        rate(24.0, 1.0, 5.0),
-        1.0,
-        b"  1          ",
-    )?;
-    value(
-        rt,
-        b"rates 1 to 5, target 16          ",
-        rate(16.0, 1.0, 5.0),
-        5.0,
-        b"  5          ",
-    )?;
-    value(
-        rt,
-        b"rates 1 to 5, target 8           ",
-        rate(8.0, 1.0, 5.0),
-        5.0,
-        b"  5          ",
-    )?;
-    value(
-        rt,
-        b"rates 2 to 1, target 24          ",
-        rate(24.0, 2.0, 1.0),
-        1.0,
-        b"  1          ",
-    )
+    for (asked, target, ach_min, ach_max, expected, words) in [
+        ("rates 1 to 5, target 24", 24.0, 1.0, 5.0, 1.0, "1"),
+        ("rates 1 to 5, target 16", 16.0, 1.0, 5.0, 5.0, "5"),
+        ("rates 1 to 5, target 8", 8.0, 1.0, 5.0, 5.0, "5"),
+        ("rates 2 to 1, target 24", 24.0, 2.0, 1.0, 1.0, "1"),
+    ] {
+        let rate = zone::ach_req_to_reach_temperature(
+            target, ach_min, ach_max, 24.0, 16.0, 24.0, 16.0, 8.0,
+        );
+        value(rt, asked, rate, expected, words)?;
+    }
+    Ok(())
 }

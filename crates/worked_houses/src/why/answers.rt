@@ -1,103 +1,102 @@
-// A row for an hour of a room: its reason and its load, and those expected. Both stand in one number, so that two answers are
-// compared at once; a refusal with its number above its index.
-use crate::answers::refused;
-use crate::table::{refusal_column, text, verdict};
-use crate::why::room::{Hour, Room, before, conditions_of, head_of};
+// A row for an hour of a room: its reason and its load, and those expected.
+use crate::refusal::Refusal;
+use crate::table::row;
+use crate::why::room::{Hour, Room};
+use crate::zone_read::ZoneRead;
+use std::fmt::{self, Display};
 use std::io;
-use zone::{Load, Reason, WhyReply};
+use zone::{Load, Reason, State};
 
-// The reasons of document 02 (e), in the paper's order.
-pub const NO_CHOICE: u64 = 1;
+#[derive(Clone, Copy, PartialEq, Eq)]
+pub enum Answer {
+    Because(Reason, Load),
+    Demand,
+    Refused(Refusal),
+}
 
-pub const NOT_ABOVE_SETPOINT: u64 = 2;
-
-pub const NOT_ABOVE_SUPPLY: u64 = 3;
-
-pub const WINDOWS_DO_NOT_COOL: u64 = 4;
-
-pub const STILL_ABOVE: u64 = 5;
-
-pub const WINDOWS_ENOUGH: u64 = 6;
-
-pub const NEITHER: u64 = 0;
-
-pub const HEATING: u64 = 1;
-
-pub const COOLING: u64 = 2;
-
-fn reason_number(r: Reason) -> u64 {
-    match r {
-        Reason::NoChoice => NO_CHOICE,
-        Reason::NotAboveVentilationSetpoint => NOT_ABOVE_SETPOINT,
-        Reason::NotAboveSupply => NOT_ABOVE_SUPPLY,
-        Reason::WindowsDoNotCool => WINDOWS_DO_NOT_COOL,
-        Reason::StillAboveCoolingSetpoint => STILL_ABOVE,
-        Reason::WindowsEnough => WINDOWS_ENOUGH,
+// As document 02 (e) counts them.
+fn number_of(reason: Reason) -> u8 {
+    match reason {
+        Reason::NoChoice => 1,
+        Reason::NotAboveVentilationSetpoint => 2,
+        Reason::NotAboveSupply => 3,
+        Reason::WindowsDoNotCool => 4,
+        Reason::StillAboveCoolingSetpoint => 5,
+        Reason::WindowsEnough => 6,
     }
 }
 
-fn load_number(l: Load) -> u64 {
-    match l {
-        Load::Neither => NEITHER,
-        Load::Heating => HEATING,
-        Load::Cooling => COOLING,
-    }
-}
-
-pub fn both(reason: u64, load: u64) -> u64 {
-    reason << 8 | load
-}
-
-pub fn of_why(r: WhyReply) -> u64 {
-    match r {
-        WhyReply::Accepted(reason, load) => both(reason_number(reason), load_number(load)),
-        WhyReply::Refused { number, index } => refused(number as u64, index as u64),
-    }
-}
-
-fn print_load(rt: &impl Print, load: u64) -> io::Result<()> {
+fn name_of(load: Load) -> &'static str {
     match load {
-        0 => text(rt, b" neither"),
-        1 => text(rt, b" heating"),
-        _ => text(rt, b" cooling"),
+        Load::Neither => "neither",
+        Load::Heating => "heating",
+        Load::Cooling => "cooling",
     }
 }
 
-// In a column of eighteen.
-fn print_answer(rt: &impl Print, x: u64) -> io::Result<()> {
-    let number = x >> 32;
-    if number != 0 {
-        return refusal_column(rt, number, x % 4294967296);
+// Reason and load fill all but two columns of eighteen.
+impl Display for Answer {
+    fn fmt<W: fmt::Write>(&self, f: &mut fmt::Formatter<W>) -> fmt::Result {
+        match self {
+            Answer::Because(reason, load) => write!(
+                f,
+                "  reason {} {}",
+                number_of(*reason),
+                name_of(*load)
+            ),
+            Answer::Demand => f.pad("a demand"),
+            Answer::Refused(refusal) => Display::fmt(refusal, f),
+        }
     }
-    text(rt, b"  reason ")?;
-    rt.print(x >> 8)?;
-    print_load(rt, x % 256)
 }
 
-pub fn row(rt: &impl Print, asked: &[u8], came: u64, expected: u64) -> io::Result<()> {
-    text(rt, asked)?;
-    print_answer(rt, came)?;
-    print_answer(rt, expected)?;
-    text(rt, b"             ")?;
-    verdict(rt, came == expected)
-}
-
-fn why(r: Room, h: Hour) -> WhyReply {
-    let head = head_of(r);
-    let c = conditions_of(h);
-    let mut codes = [0; 72];
-    let mut values = [0.0; 600];
-    let read = zone::read_head(&head, &mut codes, &mut values);
-    before(r).why(read.zone, &codes, &values, &c)
+pub fn why(
+    rt: &impl Print,
+    asked: &str,
+    zone: &ZoneRead,
+    before: State,
+    conditions: &[u8],
+    expected: Answer,
+) -> io::Result<()> {
+    let came = match zone.why(before, conditions) {
+        Ok((reason, load)) => Answer::Because(reason, load),
+        Err(refusal) => Answer::Refused(refusal),
+    };
+    row(rt, asked, came, expected)
 }
 
 pub fn print_why(
     rt: &impl Print,
-    asked: &[u8],
-    r: Room,
-    h: Hour,
-    reason: u64,
-    load: u64,
-) -> io::Result<()> {
-    row(rt, asked, of_why(why(r, h)), both(reason, load))
+    asked: &str,
+    room: Room,
+    hour: Hour,
+    reason: Reason,
+    load: Load,
+) -> anyhow::Result<()> {
+    let head = room.head();
+    let zone = ZoneRead::read(&head)?;
+    let expected = Answer::Because(reason, load);
+    why(
+        rt,
+        asked,
+        &zone,
+        room.before(),
+        &hour.conditions(),
+        expected,
+    )?;
+    Ok(())
+}
+
+// Hours of a room, each with its reason and its load.
+pub fn print_hours(
+    rt: &impl Print,
+    title: &str,
+    room: Room,
+    rows: &[(&str, Hour, Reason, Load)],
+) -> anyhow::Result<()> {
+    println!(rt; "{title}")?;
+    for (asked, hour, reason, load) in rows {
+        print_why(rt, asked, room, *hour, *reason, *load)?;
+    }
+    Ok(())
 }

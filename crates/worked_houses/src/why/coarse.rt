@@ -5,11 +5,12 @@
 // Its capacity over the hour is one unit, and each air change an hour is one: y = y0 / n, where n is 1 + the rate in whole units. From
 // 32, with a supply at 0, it is free at 32, and with the windows open, rate 3, at 8. Half of the way is 20, for which the rate found is
 // 0.6: 1.6 units are counted as 2, and found is 16.
-use crate::table::text;
-use crate::why::answers::{HEATING, NEITHER, WINDOWS_ENOUGH, print_why};
-use crate::why::room::{BY_AIR, Hour, Room, hour_of, with_rates, with_supply};
-use crate::why::temperatures::print_air;
-use std::io;
+use crate::why::answers::print_hours;
+use crate::why::room::{Hour, Room};
+use crate::why::temperatures::print_rows;
+use zone::Load::{Heating, Neither};
+use zone::Reason::WindowsEnough;
+use zone::ZoneTemperatureControlBasis::Air;
 
 // 2 to the power -35 W/K.
 const UNIT: f64 = 2.9103830456733704e-11;
@@ -21,7 +22,7 @@ const VOLUME: f64 = 3600.0 / 1211.224 * UNIT;
 
 fn huge_surface(air: f64) -> Room {
     Room {
-        basis: BY_AIR,
+        basis: Air,
         surface: air,
         air,
         area: 65536.0,
@@ -32,41 +33,38 @@ fn huge_surface(air: f64) -> Room {
 }
 
 fn windows(heat: f64, cool: f64, vent: f64) -> Hour {
-    with_rates(with_supply(hour_of(heat, cool, vent), 0.0), 0.0, 3.0)
+    Hour::of(heat, cool, vent)
+        .with_supply(0.0)
+        .with_rates(0.0, 3.0)
 }
 
-pub fn print_coarse(rt: &impl Print) -> io::Result<()> {
-    let r = huge_surface(32.0);
-    text(
+pub fn print_coarse(rt: &impl Print) -> anyhow::Result<()> {
+    let room = huge_surface(32.0);
+    print_rows(
         rt,
-        b"a room with a huge surface at 32, supply 0, without demand\n",
+        "a room with a huge surface at 32, supply 0, without demand",
+        room,
+        0.0,
+        &[
+            ("  air, no ventilation", Air, 0.0, 32.0),
+            ("  with three air changes", Air, 3.0, 8.0),
+            ("  with 0.6, found for 20", Air, 0.6, 16.0),
+        ],
     )?;
-    print_air(rt, b"  air, no ventilation            ", r, 0.0, 0.0, 32.0)?;
-    print_air(rt, b"  with three air changes         ", r, 0.0, 3.0, 8.0)?;
-    print_air(rt, b"  with 0.6, found for 20         ", r, 0.0, 0.6, 16.0)?;
-    text(rt, b"free 32, found 16\n")?;
-    print_why(
+    print_hours(
         rt,
-        b"  setpoints 20/30                ",
-        r,
-        windows(20.0, 30.0, 20.0),
-        WINDOWS_ENOUGH,
-        HEATING,
+        "free 32, found 16",
+        room,
+        &[
+            (
+                "  setpoints 20/30",
+                windows(20.0, 30.0, 20.0),
+                WindowsEnough,
+                Heating,
+            ),
+            ("  20/20", windows(20.0, 20.0, 20.0), WindowsEnough, Heating),
+            ("  16/30", windows(16.0, 30.0, 20.0), WindowsEnough, Neither),
+        ],
     )?;
-    print_why(
-        rt,
-        b"  20/20                          ",
-        r,
-        windows(20.0, 20.0, 20.0),
-        WINDOWS_ENOUGH,
-        HEATING,
-    )?;
-    print_why(
-        rt,
-        b"  16/30                          ",
-        r,
-        windows(16.0, 30.0, 20.0),
-        WINDOWS_ENOUGH,
-        NEITHER,
-    )
+    Ok(())
 }

@@ -1,121 +1,119 @@
 // The last two reasons, which go by the temperature at the rate found. More of them: close.rt, coarse.rt.
-use crate::table::text;
-use crate::why::answers::{COOLING, NEITHER, STILL_ABOVE, WINDOWS_ENOUGH, print_why};
-use crate::why::room::{BY_AIR, Room, hour_of, room_at, warm, with_gains};
-use std::io;
+use crate::why::answers::print_hours;
+use crate::why::room::{Hour, Room};
+use zone::Load::{Cooling, Neither};
+use zone::Reason::{StillAboveCoolingSetpoint, WindowsEnough};
+use zone::ZoneTemperatureControlBasis::Air;
 
 // With 1600 W of other systems: the same temperatures.
 fn heated() -> Room {
-    room_at(BY_AIR, 17.0, 17.0)
+    Room::at(Air, 17.0, 17.0)
 }
 
 // By the rate that triggers heating, at 21, the windows would be enough in the second row.
-fn print_still_above(rt: &impl Print) -> io::Result<()> {
-    text(rt, b"free 27, found 23\n")?;
-    print_why(
+fn print_still_above(rt: &impl Print) -> anyhow::Result<()> {
+    print_hours(
         rt,
-        b"  setpoints 18/22                ",
-        warm(),
-        hour_of(18.0, 22.0, 23.0),
-        STILL_ABOVE,
-        COOLING,
+        "free 27, found 23",
+        Room::warm(),
+        &[
+            (
+                "  setpoints 18/22",
+                Hour::of(18.0, 22.0, 23.0),
+                StillAboveCoolingSetpoint,
+                Cooling,
+            ),
+            (
+                "  21/22",
+                Hour::of(21.0, 22.0, 23.0),
+                StillAboveCoolingSetpoint,
+                Cooling,
+            ),
+        ],
     )?;
-    print_why(
+    print_hours(
         rt,
-        b"  21/22                          ",
-        warm(),
-        hour_of(21.0, 22.0, 23.0),
-        STILL_ABOVE,
-        COOLING,
-    )?;
-    text(
-        rt,
-        b"ventilation setpoint 18.5, found 19 with the windows open\n",
-    )?;
-    print_why(
-        rt,
-        b"  18/18.75                       ",
-        warm(),
-        hour_of(18.0, 18.75, 18.5),
-        STILL_ABOVE,
-        COOLING,
+        "ventilation setpoint 18.5, found 19 with the windows open",
+        Room::warm(),
+        &[(
+            "  18/18.75",
+            Hour::of(18.0, 18.75, 18.5),
+            StillAboveCoolingSetpoint,
+            Cooling,
+        )],
     )
 }
 
 // Free is above each of these cooling setpoints but the last: the load is that of the demand.
-fn print_windows_enough(rt: &impl Print) -> io::Result<()> {
-    text(rt, b"free 27, found 23\n")?;
-    print_why(
+fn print_windows_enough(rt: &impl Print) -> anyhow::Result<()> {
+    print_hours(
         rt,
-        b"  setpoints 18/25                ",
-        warm(),
-        hour_of(18.0, 25.0, 23.0),
-        WINDOWS_ENOUGH,
-        NEITHER,
+        "free 27, found 23",
+        Room::warm(),
+        &[
+            (
+                "  setpoints 18/25",
+                Hour::of(18.0, 25.0, 23.0),
+                WindowsEnough,
+                Neither,
+            ),
+            (
+                "  18/23",
+                Hour::of(18.0, 23.0, 23.0),
+                WindowsEnough,
+                Neither,
+            ),
+            (
+                "  23/25",
+                Hour::of(23.0, 25.0, 23.0),
+                WindowsEnough,
+                Neither,
+            ),
+            (
+                "  18/28",
+                Hour::of(18.0, 28.0, 23.0),
+                WindowsEnough,
+                Neither,
+            ),
+        ],
     )?;
-    print_why(
+    print_hours(
         rt,
-        b"  18/23                          ",
-        warm(),
-        hour_of(18.0, 23.0, 23.0),
-        WINDOWS_ENOUGH,
-        NEITHER,
-    )?;
-    print_why(
-        rt,
-        b"  23/25                          ",
-        warm(),
-        hour_of(23.0, 25.0, 23.0),
-        WINDOWS_ENOUGH,
-        NEITHER,
-    )?;
-    print_why(
-        rt,
-        b"  18/28                          ",
-        warm(),
-        hour_of(18.0, 28.0, 23.0),
-        WINDOWS_ENOUGH,
-        NEITHER,
-    )?;
-    text(
-        rt,
-        b"ventilation setpoint 18.5, found 19 with the windows open\n",
-    )?;
-    print_why(
-        rt,
-        b"  18/25                          ",
-        warm(),
-        hour_of(18.0, 25.0, 18.5),
-        WINDOWS_ENOUGH,
-        NEITHER,
+        "ventilation setpoint 18.5, found 19 with the windows open",
+        Room::warm(),
+        &[(
+            "  18/25",
+            Hour::of(18.0, 25.0, 18.5),
+            WindowsEnough,
+            Neither,
+        )],
     )
 }
 
 // The gains are those of the demand: without them free would be 17, below the ventilation setpoint.
-fn print_gains(rt: &impl Print) -> io::Result<()> {
-    text(
+fn print_gains(rt: &impl Print) -> anyhow::Result<()> {
+    print_hours(
         rt,
-        b"the room at 17, with 1600 W of other systems: free 27, found 23\n",
-    )?;
-    print_why(
-        rt,
-        b"  setpoints 18/25                ",
+        "the room at 17, with 1600 W of other systems: free 27, found 23",
         heated(),
-        with_gains(hour_of(18.0, 25.0, 23.0), 1600.0),
-        WINDOWS_ENOUGH,
-        NEITHER,
-    )?;
-    print_why(
-        rt,
-        b"  18/22                          ",
-        heated(),
-        with_gains(hour_of(18.0, 22.0, 23.0), 1600.0),
-        STILL_ABOVE,
-        COOLING,
+        &[
+            (
+                "  setpoints 18/25",
+                Hour::of(18.0, 25.0, 23.0).with_gains(1600.0),
+                WindowsEnough,
+                Neither,
+            ),
+            (
+                "  18/22",
+                Hour::of(18.0, 22.0, 23.0).with_gains(1600.0),
+                StillAboveCoolingSetpoint,
+                Cooling,
+            ),
+        ],
     )
 }
 
-pub fn print_found(rt: &impl Print) -> io::Result<()> {
+pub fn print_found(rt: &impl Print) -> anyhow::Result<()> {
     print_still_above(rt)?;
     print_windows_enough(rt)?;
     print_gains(rt)

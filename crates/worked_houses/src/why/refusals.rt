@@ -1,14 +1,13 @@
 // Hours that the demand refuses, each asked for its demand and for its reason: the same number and index, before any reason.
-use crate::answers::refused;
-use crate::bytes::{part, put_byte, write_f64s_be};
-use crate::table::text;
-use crate::why::answers::{of_why, row};
-use crate::why::room::{
-    BY_AIR, CONDITIONS, Hour, Room, before, conditions_of, head_of, hour_of, room_at, warm,
-    with_fixed_rate, with_gains, with_rates, with_supply,
-};
+use crate::refusal::{Cause, Refusal};
+use crate::table::row;
+use crate::why::answers::{Answer, why};
+use crate::why::room::{CONDITIONS, Hour, Room};
+use crate::zone_read::ZoneRead;
+use big_endian::write_f64_be;
 use std::io;
-use zone::{DemandAnswer, DemandReply, State, ZoneFront};
+use zone::State;
+use zone::ZoneTemperatureControlBasis::Air;
 
 // A node less than the room has.
 const TOO_FEW: usize = 2;
@@ -20,204 +19,245 @@ const SECOND_RATE: usize = 105;
 
 const EXTERNAL: usize = 113;
 
-// 0 for none.
-fn of_demand(r: DemandReply) -> u64 {
-    let answer = r.answer;
-    match answer {
-        DemandAnswer::Refused { number, index } => refused(number as u64, index as u64),
-        DemandAnswer::Accepted(_) => 0,
-    }
-}
-
 fn print_both(
     rt: &impl Print,
-    z: ZoneFront,
-    codes: &[u8; 72],
-    values: &[f64; 600],
-    s: State,
-    c: &[u8],
-    expected: u64,
+    title: &str,
+    zone: &ZoneRead,
+    before: State,
+    conditions: &[u8],
+    expected: Refusal,
 ) -> io::Result<()> {
-    let demand = s.space_heat_cool_demand(z, codes, values, c);
-    row(
-        rt,
-        b"  demand                         ",
-        of_demand(demand),
-        expected,
-    )?;
-    row(
-        rt,
-        b"  reason                         ",
-        of_why(s.why(z, codes, values, c)),
-        expected,
-    )
-}
-
-// A room's hour.
-fn print_hour(rt: &impl Print, r: Room, h: Hour, expected: u64) -> io::Result<()> {
-    let c = conditions_of(h);
-    print_conditions(rt, r, &c, expected)
+    let demand = match zone.demand(before, conditions) {
+        Ok(_) => Answer::Demand,
+        Err(refusal) => Answer::Refused(refusal),
+    };
+    let expected = Answer::Refused(expected);
+    println!(rt; "{title}")?;
+    row(rt, "  demand", demand, expected)?;
+    why(rt, "  reason", zone, before, conditions, expected)
 }
 
 // A room with these bytes as its conditions.
-fn print_conditions(rt: &impl Print, r: Room, c: &[u8], expected: u64) -> io::Result<()> {
-    let head = head_of(r);
-    let mut codes = [0; 72];
-    let mut values = [0.0; 600];
-    let read = zone::read_head(&head, &mut codes, &mut values);
-    print_both(rt, read.zone, &codes, &values, before(r), c, expected)
+fn print_conditions(
+    rt: &impl Print,
+    title: &str,
+    room: Room,
+    conditions: &[u8],
+    expected: Refusal,
+) -> anyhow::Result<()> {
+    let head = room.head();
+    let zone = ZoneRead::read(&head)?;
+    print_both(rt, title, &zone, room.before(), conditions, expected)?;
+    Ok(())
 }
 
 fn usual() -> Hour {
-    hour_of(18.0, 25.0, 23.0)
+    Hour::of(18.0, 25.0, 23.0)
 }
 
-// The room's zone with this useful area and so many elements, and a node too few.
-fn print_record(rt: &impl Print, useful_area: f64, count: usize, expected: u64) -> io::Result<()> {
-    let head = head_of(warm());
-    let c = conditions_of(usual());
-    let mut codes = [0; 72];
-    let mut values = [0.0; 600];
-    let read = zone::read_head(&head, &mut codes, &mut values);
-    let mut z = read.zone;
-    z.useful_area = useful_area;
-    z.count = count;
-    let s = State {
+// The room's zone with another useful area and so many elements, and a node too few. A zone that its record makes bad is
+// tested before the state.
+fn print_records(rt: &impl Print) -> anyhow::Result<()> {
+    let room = Room::warm();
+    let head = room.head();
+    let conditions = usual().conditions();
+    let before = State {
         nodes: TOO_FEW,
         temps: [0.0; 121],
     };
-    print_both(rt, z, &codes, &values, s, &c, expected)
+    for (title, useful_area, count, cause) in [
+        (
+            "a zone without useful area, and a node too few",
+            0.0,
+            1,
+            Cause::ZoneValue,
+        ),
+        ("and without elements", 0.0, 0, Cause::Structure),
+        (
+            "the zone as it is, a node too few",
+            room.useful_area,
+            1,
+            Cause::StateInvalid,
+        ),
+    ] {
+        let mut zone = ZoneRead::read(&head)?;
+        zone.zone.useful_area = useful_area;
+        zone.zone.count = count;
+        print_both(rt, title, &zone, before, &conditions, cause.at(0))?;
+    }
+    Ok(())
 }
 
-// A zone that its record makes bad is tested before the state.
-fn print_zone(rt: &impl Print) -> io::Result<()> {
-    let r = warm();
-    text(rt, b"a zone without useful area, and a node too few\n")?;
-    print_record(rt, 0.0, 1, refused(5, 0))?;
-    text(rt, b"and without elements\n")?;
-    print_record(rt, 0.0, 0, refused(4, 0))?;
-    text(rt, b"the zone as it is, a node too few\n")?;
-    print_record(rt, r.useful_area, 1, refused(6, 0))
-}
-
-fn print_state(rt: &impl Print) -> io::Result<()> {
-    text(rt, b"the surface above a million\n")?;
-    print_hour(rt, room_at(BY_AIR, 1000000.5, 27.0), usual(), refused(6, 0))
-}
-
-fn print_short(rt: &impl Print) -> io::Result<()> {
-    let c = conditions_of(usual());
-    text(rt, b"a byte too few\n")?;
-    print_conditions(rt, warm(), part(&c, 0, CONDITIONS - 1), refused(7, 0))
-}
-
-fn print_supply(rt: &impl Print) -> io::Result<()> {
-    text(rt, b"a supply at 101\n")?;
-    print_hour(rt, warm(), with_supply(usual(), 101.0), refused(9, 0))
+fn print_hours(rt: &impl Print, rows: &[(&str, Room, Hour, Cause)]) -> anyhow::Result<()> {
+    for (title, room, hour, cause) in rows {
+        print_conditions(rt, title, *room, &hour.conditions(), cause.at(0))?;
+    }
+    Ok(())
 }
 
 // The element's external temperature is 101, the rate code this.
-fn print_hot_element(rt: &impl Print, code: u8, expected: u64) -> io::Result<()> {
-    let mut c = conditions_of(usual());
-    let hot = [101.0];
-    write_f64s_be(&mut c, EXTERNAL, &hot, 1);
-    put_byte(&mut c, RATE_CODE, code);
-    print_conditions(rt, warm(), &c, expected)
+fn with_hot_element(code: u8) -> [u8; CONDITIONS] {
+    let mut conditions = usual().conditions();
+    write_f64_be(&mut conditions, EXTERNAL, 101.0);
+    conditions[RATE_CODE] = code;
+    conditions
 }
 
-fn print_element(rt: &impl Print) -> io::Result<()> {
-    text(rt, b"the element at 101\n")?;
-    print_hot_element(rt, 1, refused(9, 1))?;
-    text(rt, b"and rate code 2\n")?;
-    print_hot_element(rt, 2, refused(8, 0))
+// Bytes that no hour gives.
+fn print_bytes(rt: &impl Print) -> anyhow::Result<()> {
+    let warm = Room::warm();
+    let mut fixed = usual().with_fixed_rate(0.0).conditions();
+    fixed[SECOND_RATE] = 128;
+    print_conditions(
+        rt,
+        "the element at 101",
+        warm,
+        &with_hot_element(1),
+        Cause::ConditionsValue.at(1),
+    )?;
+    print_conditions(
+        rt,
+        "and rate code 2",
+        warm,
+        &with_hot_element(2),
+        Cause::ConditionsCode.at(0),
+    )?;
+    print_conditions(
+        rt,
+        "a fixed rate, and -0.0 behind it",
+        warm,
+        &fixed,
+        Cause::ConditionsCode.at(0),
+    )
 }
 
-fn print_fixed_rate(rt: &impl Print) -> io::Result<()> {
-    let mut c = conditions_of(with_fixed_rate(usual(), 0.0));
-    put_byte(&mut c, SECOND_RATE, 128);
-    text(rt, b"a fixed rate, and -0.0 behind it\n")?;
-    print_conditions(rt, warm(), &c, refused(8, 0))
+fn print_short(rt: &impl Print, conditions: &[u8; CONDITIONS]) -> anyhow::Result<()> {
+    let short = &conditions[..CONDITIONS - 1];
+    let expected = Cause::ConditionsSize.at(0);
+    print_conditions(rt, "a byte too few", Room::warm(), short, expected)
+}
+
+fn print_state_and_conditions(rt: &impl Print) -> anyhow::Result<()> {
+    let too_hot = Room::at(Air, 1000000.5, 27.0);
+    let supply = usual().with_supply(101.0);
+    print_hours(
+        rt,
+        &[(
+            "the surface above a million",
+            too_hot,
+            usual(),
+            Cause::StateInvalid,
+        )],
+    )?;
+    print_short(rt, &usual().conditions())?;
+    print_hours(
+        rt,
+        &[(
+            "a supply at 101",
+            Room::warm(),
+            supply,
+            Cause::ConditionsValue,
+        )],
+    )?;
+    print_bytes(rt)
 }
 
 // Each with a fixed rate too, where there is no choice whatever the temperatures are.
-fn print_setpoints(rt: &impl Print) -> io::Result<()> {
-    text(rt, b"setpoints 26/25\n")?;
-    print_hour(rt, warm(), hour_of(26.0, 25.0, 26.0), refused(10, 0))?;
-    text(rt, b"with a fixed rate\n")?;
-    print_hour(
+fn print_setpoints(rt: &impl Print) -> anyhow::Result<()> {
+    let warm = Room::warm();
+    let crossed = Hour::of(26.0, 25.0, 26.0);
+    let vent_below = Hour::of(24.0, 25.0, 23.0);
+    print_hours(
         rt,
-        warm(),
-        with_fixed_rate(hour_of(26.0, 25.0, 26.0), 0.0),
-        refused(10, 0),
-    )?;
-    text(rt, b"24/25, ventilation 23\n")?;
-    print_hour(rt, warm(), hour_of(24.0, 25.0, 23.0), refused(11, 0))?;
-    text(rt, b"with a fixed rate\n")?;
-    print_hour(
-        rt,
-        warm(),
-        with_fixed_rate(hour_of(24.0, 25.0, 23.0), 0.0),
-        refused(11, 0),
+        &[
+            ("setpoints 26/25", warm, crossed, Cause::CoolingBelowHeating),
+            (
+                "with a fixed rate",
+                warm,
+                crossed.with_fixed_rate(0.0),
+                Cause::CoolingBelowHeating,
+            ),
+            (
+                "24/25, ventilation 23",
+                warm,
+                vent_below,
+                Cause::VentilationBelowHeating,
+            ),
+            (
+                "with a fixed rate",
+                warm,
+                vent_below.with_fixed_rate(0.0),
+                Cause::VentilationBelowHeating,
+            ),
+        ],
     )
 }
 
 // A surface that holds nothing and hardly any useful area: beside 2.5 W/K no capacity is left, and gains have no place to go.
 fn bare(useful_area: f64) -> Room {
-    let mut r = warm();
-    r.area = 1.0;
-    r.k = 0.0;
-    r.useful_area = useful_area;
-    r
+    Room {
+        area: 1.0,
+        k: 0.0,
+        useful_area,
+        ..Room::warm()
+    }
 }
 
-fn print_solves(rt: &impl Print) -> io::Result<()> {
-    text(rt, b"no capacity, no loss\n")?;
-    print_hour(rt, bare(1e-20), usual(), refused(12, 0))?;
-    text(rt, b"hardly any, and 1e7 W of other systems\n")?;
-    print_hour(rt, bare(0.001), with_gains(usual(), 1e7), refused(13, 0))
-}
-
-// Hardly any useful area: the greatest heating and cooling do not move the temperature. With a fixed rate of 1 free is 21.
-fn print_no_effect(rt: &impl Print) -> io::Result<()> {
-    let mut r = warm();
-    r.useful_area = 1e-12;
-    text(rt, b"heating without effect: no choice of rates\n")?;
-    print_hour(
+fn print_solves(rt: &impl Print) -> anyhow::Result<()> {
+    print_hours(
         rt,
-        r,
-        with_fixed_rate(hour_of(22.0, 25.0, 23.0), 1.0),
-        refused(14, 0),
-    )?;
-    text(rt, b"cooling without effect: no choice of rates\n")?;
-    print_hour(
-        rt,
-        r,
-        with_fixed_rate(hour_of(18.0, 20.0, 23.0), 1.0),
-        refused(14, 0),
-    )?;
-    text(rt, b"free not above ventilation setpoint\n")?;
-    print_hour(
-        rt,
-        r,
-        with_rates(hour_of(18.0, 20.0, 23.0), 1.0, 4.0),
-        refused(14, 0),
-    )?;
-    text(rt, b"still above\n")?;
-    print_hour(
-        rt,
-        r,
-        with_rates(hour_of(10.0, 17.0, 20.0), 1.0, 4.0),
-        refused(14, 0),
+        &[
+            ("no capacity, no loss", bare(1e-20), usual(), Cause::Divisor),
+            (
+                "hardly any, and 1e7 W of other systems",
+                bare(0.001),
+                usual().with_gains(1e7),
+                Cause::Temperature,
+            ),
+        ],
     )
 }
 
-pub fn print_refusals(rt: &impl Print) -> io::Result<()> {
-    print_zone(rt)?;
-    print_state(rt)?;
-    print_short(rt)?;
-    print_supply(rt)?;
-    print_element(rt)?;
-    print_fixed_rate(rt)?;
+// Hardly any useful area: the greatest heating and cooling do not move the temperature. With a fixed rate of 1 free is 21.
+fn print_no_effect(rt: &impl Print) -> anyhow::Result<()> {
+    let room = Room {
+        useful_area: 1e-12,
+        ..Room::warm()
+    };
+    print_hours(
+        rt,
+        &[
+            (
+                "heating without effect: no choice of rates",
+                room,
+                Hour::of(22.0, 25.0, 23.0).with_fixed_rate(1.0),
+                Cause::NoEffect,
+            ),
+            (
+                "cooling without effect: no choice of rates",
+                room,
+                Hour::of(18.0, 20.0, 23.0).with_fixed_rate(1.0),
+                Cause::NoEffect,
+            ),
+            (
+                "free not above ventilation setpoint",
+                room,
+                Hour::of(18.0, 20.0, 23.0).with_rates(1.0, 4.0),
+                Cause::NoEffect,
+            ),
+            (
+                "still above",
+                room,
+                Hour::of(10.0, 17.0, 20.0).with_rates(1.0, 4.0),
+                Cause::NoEffect,
+            ),
+        ],
+    )
+}
+
+pub fn print_refusals(rt: &impl Print) -> anyhow::Result<()> {
+    print_records(rt)?;
+    print_state_and_conditions(rt)?;
     print_setpoints(rt)?;
     print_solves(rt)?;
     print_no_effect(rt)

@@ -9,8 +9,8 @@
 //
 // In the rooms of these rows x0 + y0 + g / 80 is 54, if nothing else is said. With a supply at 15 their air is at 27 after an hour
 // without ventilation, at 23 with one air change, at 21 with two and at 19 with four.
-use crate::bytes::{put_byte, write_f64s_be};
-use zone::State;
+use big_endian::write_f64s_be;
+use zone::{AirChangesPerHourArgument as Rates, State, ZoneTemperatureControlBasis as Basis};
 
 pub const HEAD: usize = 180;
 
@@ -24,17 +24,13 @@ pub const AIR: usize = 2;
 // No ventilation setpoint.
 pub const NO_CONTROL: f64 = 1.4e32;
 
-pub const BY_AIR: u8 = 0;
-
-pub const BY_OPERATIVE: u8 = 1;
-
 // Of which 80 W/K go with an air change an hour, by the float that is found for it.
 const VOLUME: f64 = 237.7760017965298;
 
 // The temperatures of surface and air are those before the hour.
 #[derive(Clone, Copy)]
 pub struct Room {
-    pub basis: u8,
+    pub basis: Basis,
     pub surface: f64,
     pub air: f64,
     pub area: f64,
@@ -43,112 +39,127 @@ pub struct Room {
     pub volume: f64,
 }
 
-pub fn room_at(basis: u8, surface: f64, air: f64) -> Room {
-    Room {
-        basis,
-        surface,
-        air,
-        area: 64.0,
-        k: 9000.0,
-        useful_area: 28.8,
-        volume: VOLUME,
+impl Room {
+    pub fn at(basis: Basis, surface: f64, air: f64) -> Room {
+        Room {
+            basis,
+            surface,
+            air,
+            area: 64.0,
+            k: 9000.0,
+            useful_area: 28.8,
+            volume: VOLUME,
+        }
+    }
+
+    // At 27, by its air.
+    pub fn warm() -> Room {
+        Room::at(Basis::Air, 27.0, 27.0)
+    }
+
+    // Length 176, version 1, one element, limit 10. Of the element: kind, area, pitch 90, the chain; all else is 0.
+    pub fn head(self) -> [u8; HEAD] {
+        let mut b = [0; HEAD];
+        let numbers = [0, 0, 0, 176, 1, self.basis as u8, 1, 0, 10];
+        b[..9].copy_from_slice(&numbers);
+        let front = [self.useful_area, self.volume, 0.0, 0.0, 0.0, NO_CONTROL];
+        write_f64s_be(&mut b, 9, &front);
+        b[57] = 4;
+        write_f64s_be(&mut b, 59, &[self.area, 90.0]);
+        write_f64s_be(&mut b, 115, &[0.0, self.k, 1.0]);
+        b
+    }
+
+    // The outer surface has the inner one's temperature.
+    pub fn before(self) -> State {
+        let mut temps = [0.0; 121];
+        temps[0] = self.surface;
+        temps[1] = self.surface;
+        temps[AIR] = self.air;
+        State {
+            nodes: NODES,
+            temps,
+        }
     }
 }
 
-// At 27, by its air.
-pub fn warm() -> Room {
-    room_at(BY_AIR, 27.0, 27.0)
-}
-
-// Rate code 0 has the target alone.
 #[derive(Clone, Copy)]
 pub struct Hour {
-    pub heat: f64,
-    pub cool: f64,
-    pub vent: f64,
-    pub supply: f64,
-    pub code: u8,
-    pub target: f64,
-    pub open: f64,
-    pub gains: f64,
+    heat: f64,
+    cool: f64,
+    vent: f64,
+    supply: f64,
+    rates: Rates,
+    gains: f64,
 }
 
-// Supply at 15, no ventilation or, with the windows open, four air changes.
-pub fn hour_of(heat: f64, cool: f64, vent: f64) -> Hour {
-    Hour {
-        heat,
-        cool,
-        vent,
-        supply: 15.0,
-        code: 1,
-        target: 0.0,
-        open: 4.0,
-        gains: 0.0,
+impl Hour {
+    // Supply at 15, no ventilation or, with the windows open, four air changes.
+    pub fn of(heat: f64, cool: f64, vent: f64) -> Hour {
+        Hour {
+            heat,
+            cool,
+            vent,
+            supply: 15.0,
+            rates: Rates::TargetAndWindowsOpen(0.0, 4.0),
+            gains: 0.0,
+        }
     }
-}
 
-pub fn with_supply(mut h: Hour, supply: f64) -> Hour {
-    h.supply = supply;
-    h
-}
+    // The cooling setpoint lower by so much.
+    pub fn cooled_below(self, difference: f64) -> Hour {
+        Hour {
+            cool: self.cool - difference,
+            ..self
+        }
+    }
 
-pub fn with_rates(mut h: Hour, target: f64, open: f64) -> Hour {
-    h.target = target;
-    h.open = open;
-    h
-}
+    pub fn with_supply(self, supply: f64) -> Hour {
+        Hour { supply, ..self }
+    }
 
-pub fn with_fixed_rate(mut h: Hour, rate: f64) -> Hour {
-    h.code = 0;
-    h.target = rate;
-    h.open = 0.0;
-    h
-}
+    pub fn with_rates(self, target: f64, open: f64) -> Hour {
+        Hour {
+            rates: Rates::TargetAndWindowsOpen(target, open),
+            ..self
+        }
+    }
 
-pub fn with_gains(mut h: Hour, gains: f64) -> Hour {
-    h.gains = gains;
-    h
-}
+    pub fn with_fixed_rate(self, rate: f64) -> Hour {
+        Hour {
+            rates: Rates::Cooling(rate),
+            ..self
+        }
+    }
 
-// Length 176, version 1, one element, limit 10. Of the element: kind, area, pitch 90, the chain; all else is 0.
-pub fn head_of(r: Room) -> [u8; HEAD] {
-    let mut b = [0u8; HEAD];
-    let front = [r.useful_area, r.volume, 0.0, 0.0, 0.0, NO_CONTROL];
-    let values = [r.area, 90.0];
-    let chain = [0.0, r.k, 1.0];
-    put_byte(&mut b, 3, 176);
-    put_byte(&mut b, 4, 1);
-    put_byte(&mut b, 5, r.basis);
-    put_byte(&mut b, 6, 1);
-    put_byte(&mut b, 8, 10);
-    write_f64s_be(&mut b, 9, &front, 6);
-    put_byte(&mut b, 57, 4);
-    write_f64s_be(&mut b, 59, &values, 2);
-    write_f64s_be(&mut b, 115, &chain, 3);
-    b
-}
+    pub fn with_gains(self, gains: f64) -> Hour {
+        Hour { gains, ..self }
+    }
 
-// All power by convection; no gains but those of other systems, no sun.
-pub fn conditions_of(h: Hour) -> [u8; CONDITIONS] {
-    let mut b = [0u8; CONDITIONS];
-    let values = [
-        1.0, 0.0, 0.0, 0.0, 1.0, 1.0, h.heat, h.cool, h.vent, h.supply, h.gains, 0.0,
-    ];
-    let rates = [h.target, h.open];
-    write_f64s_be(&mut b, 0, &values, 12);
-    put_byte(&mut b, 96, h.code);
-    write_f64s_be(&mut b, 97, &rates, 2);
-    b
-}
-
-// The outer surface has the inner one's temperature.
-pub fn before(r: Room) -> State {
-    let mut temps = [0.0; 121];
-    temps[0] = r.surface;
-    temps[1] = r.surface;
-    temps[AIR] = r.air;
-    State {
-        nodes: NODES,
-        temps,
+    // All power by convection; no gains but those of other systems, no sun.
+    pub fn conditions(self) -> [u8; CONDITIONS] {
+        let mut b = [0; CONDITIONS];
+        let front = [
+            1.0,
+            0.0,
+            0.0,
+            0.0,
+            1.0,
+            1.0,
+            self.heat,
+            self.cool,
+            self.vent,
+            self.supply,
+            self.gains,
+            0.0,
+        ];
+        let (code, rates) = match self.rates {
+            Rates::Cooling(rate) => (0, [rate, 0.0]),
+            Rates::TargetAndWindowsOpen(target, open) => (1, [target, open]),
+        };
+        write_f64s_be(&mut b, 0, &front);
+        b[96] = code;
+        write_f64s_be(&mut b, 97, &rates);
+        b
     }
 }

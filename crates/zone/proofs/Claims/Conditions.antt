@@ -11,7 +11,6 @@ use Rattle.solver.proofs.Laws.Result.{bind_ok, require_ok, ok_inj}
 use Rattle.zone.specs.Format.Conditions.{conditions_at, conditions_test, rate_code_valid, open_bits_valid, conditions_of}
 use Rattle.zone.specs.Format.Layout.{conditions_length, first_element_hour}
 use Rattle.zone.specs.Record.Numbers.{conditions_size, conditions_code}
-use Rattle.zone.specs.Inner.Format.{tested_at, conditions_for}
 use Rattle.solver.proofs.Laws.Tests.{and_true}
 use Rattle.zone.specs.declared.record.zone_record.Zone.{Zone}
 use Rattle.zone.specs.declared.format.conditions.Conditions.{Conditions}
@@ -24,9 +23,11 @@ pub record Accepted (n : ℕ) (ts bs : List ℕ) (c : Conditions) : Type 0 where
   pub values : conditions_test n c ≡ ok tt
   pub decoded : c ≡ conditions_at bs n
 
-pub accepted : (n : ℕ) (ts bs : List ℕ) (c : Conditions) → conditions_for n ts bs ≡ ok c → Accepted n ts bs c
-unfolding conditions_for tested_at
-accepted n ts bs c e =
+pub accepted : (z : Zone) (bs : List ℕ) (c : Conditions) → conditions_of z bs ≡ ok c → Accepted z.count (map (λ e. e.treatments) z.building_elements) bs c
+unfolding conditions_of
+accepted z bs c e =
+    let n = z.count in
+    let ts = map (λ e. e.treatments) z.building_elements in
     let x = bind_ok (require (leb n 24 && eqb (length bs) (conditions_length n)) conditions_size) _ c e in
     let y = and_true (leb n 24) (eqb (length bs) (conditions_length n)) (require_ok (leb n 24 && eqb (length bs) (conditions_length n)) conditions_size 0 x.0 x.1) in
     let v = bind_ok (require (rate_code_valid bs && open_bits_valid bs (take n ts) first_element_hour) conditions_code) _ c x.2 in
@@ -41,5 +42,4 @@ accepted n ts bs c e =
     }
 
 pub conditions_length_lem : (z : Zone) (bs : List ℕ) (c : Conditions) → conditions_of z bs ≡ ok c → length bs ≡ conditions_length z.count
-unfolding conditions_of conditions_for tested_at
-conditions_length_lem z bs c e = (accepted z.count (map (λ e. e.treatments) z.building_elements) bs c e).size
+conditions_length_lem z bs c e = (accepted z bs c e).size

@@ -17,7 +17,6 @@ use Rattle.zone.specs.Format.Bytes.{Bytes, num_at, float_at}
 use Rattle.zone.specs.Format.Decode.{floats_at, element_hour_at, no_element_hour}
 use Rattle.zone.specs.Check.Ranges.{hour_length_range, temperature_range, gains_range, fraction_range, heating_setpoint_range, setpoint_range, rate_range, irradiance_range}
 use Rattle.zone.specs.Check.ZoneTest.{element_hour_in_range, all_required}
-use Rattle.zone.specs.Inner.Format.{conditions_for, tested_at}
 use Rattle.zone.specs.Format.Conditions.{ach_args_at, element_hours_at, conditions_at, rate_code_valid, open_bits_valid, hour_and_gains_in_range, setpoints_in_range, ach_args_in_range, conditions_test, conditions_of}
 use Rattle.zone.specs.Format.Encode.{row_bytes}
 use Rattle.zone.specs.Claims.Encode.{element_hour_bytes, element_hours_bytes, ach_args_bytes, conditions_bytes}
@@ -177,9 +176,8 @@ bytes_of s n b h g e =
 
 -- accepted conditions are the bytes of what they decode to
 pub conditions_bytes_lem : (z : Zone) (bs : List ℕ) (c : Conditions) → Bytes bs → conditions_of z bs ≡ ok c → bs ≡ conditions_bytes z.count c
-unfolding conditions_of conditions_for tested_at
 conditions_bytes_lem z bs c b e =
-    let a = accepted z.count (map (λ e. e.treatments) z.building_elements) bs c e in
+    let a = accepted z bs c e in
     let ts = map (λ e. e.treatments) z.building_elements in
     let v : conditions_test z.count (conditions_at bs z.count) ≡ ok tt = rw (← a.decoded) a.values in
     sym (ap (conditions_bytes z.count) a.decoded ∙ bytes_of bs z.count b a.size (and_true (rate_code_valid bs) (open_bits_valid bs (take z.count ts) first_element_hour) a.code).0 v)

@@ -7,6 +7,7 @@ use native.Mathlib.Omega.{arith}
 use lib.Ieee.{Float}
 use Rattle.solver.specs.Result.{Result, ok, refused}
 use Rattle.solver.specs.Refusals.{SolveRefusal, RefusesOnly, accepts, refuses, solve_divisor, solve_temperature}
+use Rattle.solver.proofs.Laws.Result.{ok_not_refused}
 use Rattle.solver.proofs.Laws.Refusals.{bind_refuses, cond_refuses, test_refuses, refuses_also}
 use Rattle.zone.specs.declared.record.building_element.Coefficients.{Coefficients}
 use Rattle.zone.specs.declared.record.zone_record.Zone.{Zone}
@@ -17,8 +18,6 @@ use Rattle.zone.proofs.Claims.HeadRefusals.{zone_below, conditions_below, zone_r
 use Rattle.zone.specs.declared.physics.balance.HeatBalance.{HeatBalance}
 use Rattle.zone.specs.declared.calls.state.State.{State}
 use Rattle.zone.specs.declared.calls.state.Demand.{Demand}
-use Rattle.zone.specs.declared.calls.state.UpdateAnswer.TheVariants as UpdateAnswer
-use Rattle.zone.specs.declared.calls.state.HourAnswer.TheVariants as HourAnswer
 use Rattle.zone.specs.Calls.State.{slots_of, operative}
 use Rattle.zone.specs.Hour.Demand.{space_heat_cool_demand}
 use Rattle.zone.specs.Calls.Hour.{HourResult, hour_version, tested, tested_step, update_temperatures, demand, hour_step}
@@ -136,16 +135,15 @@ module _ (c : Coefficients) (z : Zone) where
       bind_refuses _ (settle_refuses z.start_up_limit (slots_of z (start_state z))) λ t _.
       accepts _
 
-pub demand_keeps : (s : State) (x : Result Demand) → (demand_reply s x).state ≡ s
-demand_keeps s (ok d) = refl
-demand_keeps s (refused n i) = refl
+pub demand_keeps : (s : State) (x : Result Demand) → (demand_reply s x).1 ≡ s
+demand_keeps s x = refl
 
-pub update_keeps : (s : State) (x : Result (State × HeatBalance)) (n i : ℕ) → (update_reply s x).answer ≡ UpdateAnswer.Refused n i → (update_reply s x).state ≡ s
-update_keeps s (ok r) n i e = let w : ◌≡◌ {A = ℕ} 0 1 = cc in absurd (omega arith)
+pub update_keeps : (s : State) (x : Result (State × HeatBalance)) (n i : ℕ) → (update_reply s x).0 ≡ refused n i → (update_reply s x).1 ≡ s
+update_keeps s (ok r) n i e = ok_not_refused r.1 n i e
 update_keeps s (refused k j) n i e = refl
 
-pub hour_keeps : (s : State) (x : Result HourResult) (n i : ℕ) → (hour_step_reply s x).answer ≡ HourAnswer.Refused n i → (hour_step_reply s x).state ≡ s
-hour_keeps s (ok r) n i e = let w : ◌≡◌ {A = ℕ} 0 1 = cc in absurd (omega arith)
+pub hour_keeps : (s : State) (x : Result HourResult) (n i : ℕ) → (hour_step_reply s x).0 ≡ refused n i → (hour_step_reply s x).1 ≡ s
+hour_keeps s (ok r) n i e = ok_not_refused (r.demand, r.balance) n i e
 hour_keeps s (refused k j) n i e = refl
 
 pub call_refusals : (c : Coefficients) (z : Zone) → CallRefusals c z

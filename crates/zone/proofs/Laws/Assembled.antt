@@ -15,13 +15,12 @@ use Rattle.zone.specs.declared.record.zone_record.Zone.{Zone}
 use Rattle.zone.specs.declared.record.zone_record.ZoneTemperatureControlBasis.{ZoneTemperatureControlBasis}
 use Rattle.zone.specs.declared.record.zone_record.ZoneTemperatureControlBasis.TheVariants.{Air, Operative}
 use Rattle.zone.specs.declared.format.conditions.Conditions.{Conditions}
-use Rattle.zone.specs.declared.hour.time_step.ZoneTerms.{ZoneTerms}
 use Rattle.zone.specs.Record.BuildingElement.{standard_coefficients}
 use Rattle.zone.specs.Physics.Slots.{element, element_hour, element_slots, set_slot, set_slots, with_terms}
 use Rattle.zone.specs.Physics.Equations.{right_sides_of}
 use Rattle.zone.specs.Physics.System.{area_of, area_el_total, h_ci_at, share_of, two_nodes_of}
 use Rattle.zone.specs.Inner.Assembly.{Chains, chains, couple, couple_row, element_right_sides}
-use Rattle.zone.specs.Inner.Assembled.{h_ri_of, element_chains, couplings_of, element_sides, zone_terms_of, Assembled, assembled, assembled_with, assemble, assemble_step}
+use Rattle.zone.specs.Inner.Assembled.{ZoneTerms, h_ri_of, element_chains, couplings_of, element_sides, zone_terms_of, Assembled, assembled, assembled_with, assemble, assemble_step}
 use Rattle.zone.specs.Inner.Operative.{areas_of, control_by}
 use Rattle.zone.specs.Hour.Demand.{delta_t, temperature_by, control_temperature}
 use Rattle.zone.specs.Inner.Solves.{hour_system}

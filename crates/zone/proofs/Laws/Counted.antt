@@ -4,28 +4,15 @@ use mathlib.Core.Path.{◌≡◌, refl, sym, ap, ◌∙◌}
 use mathlib.Core.List.{List, ◌∷◌}
 use native.Mathlib.Omega.{arith}
 use native.Mathlib.Numerals.{add-one}
-use lib.ListN.{length, take, drop, get_or, set, replicate}
+use lib.ListN.{length, take, drop, get_or}
 use lib.Seq.{drop-cons}
-use Rattle.zone.specs.Inner.Lent.{counted}
+use Rattle.zone.specs.Inner.Counted.{counted}
 
 module _ {A : Type 0} (f g : ℕ → A) where
   pub counted_same : (a n : ℕ) → ((j : ℕ) → a ≤ j → j < a + n → g j ≡ f j) → counted g a n ≡ counted f a n
   unfolding counted
   counted_same a zero h = refl
   counted_same a (suc n) h = rw (h a (omega arith) (omega arith), counted_same (a + 1) n (λ j r l. h j (omega arith) (omega arith)))
-
-  -- one place is changed
-  pub counted_set : (a n i : ℕ) (x : A) → i < n → g (a + i) ≡ x → ((j : ℕ) → j < a + n → (j ≡ a + i → ⊥) → g j ≡ f j) → counted g a n ≡ set (counted f a n) i x
-  unfolding counted
-  counted_set a zero i x h e o = absurd (omega arith)
-  counted_set a (suc n) zero x h e o =
-      let z : a + 0 ≡ a = omega arith in
-      let e' : g a ≡ x = rw z at e in
-      rw (e', counted_same (a + 1) n (λ j r l. o j (omega arith) (λ q. omega arith)))
-  counted_set a (suc n) (suc i) x h e o =
-      let z : a + suc i ≡ a + 1 + i = omega arith in
-      let e' : g (a + 1 + i) ≡ x = rw z at e in
-      rw (o a (omega arith) (λ q. omega arith), counted_set (a + 1) n i x (omega arith) e' (λ j l r. o j (omega arith) (λ q. r (q ∙ z))))
 
 module _ {A : Type 0} (f : ℕ → A) where
   pub counted_length : (a n : ℕ) → length (counted f a n) ≡ n
@@ -48,8 +35,3 @@ pub run : {A : Type 0} (l : List A) (d : A) (m n : ℕ) → m + n ≤ length l �
 unfolding counted
 run l d m zero h = refl
 run l d m (suc n) h = rw (drop-cons l m d (omega arith), ← add-one m) (ap (λ r. get_or l m d ∷ r) (run l d (m + 1) n (omega arith)))
-
-pub counted_constant : {A : Type 0} (f : ℕ → A) (x : A) (a n : ℕ) → ((j : ℕ) → j < a + n → f j ≡ x) → counted f a n ≡ replicate n x
-unfolding counted
-counted_constant f x a zero h = refl
-counted_constant f x a (suc n) h = rw (h a (omega arith), counted_constant f x (a + 1) n (λ j l. h j (omega arith)))

@@ -1,28 +1,29 @@
 -- The treatments and the nodes of elements, one by one.
-use mathlib.Core.Path.{◌≡◌}
+use mathlib.Core.Path.{◌≡◌, sym, ◌∙◌}
 use mathlib.Core.Bool.{Bool, true, false, cond}
 use mathlib.Core.List.{List}
 use Prim.Native.Nat.{ℕ, ◌+◌, ◌≤◌, ◌<◌, ◌/◌, ◌%◌}
 use native.Mathlib.Omega.{arith}
-use lib.ListN.{length, take, drop, get_or}
+use lib.ListN.{length, drop, get_or, drop_of_length-le}
 use lib.Dec.{eqb}
-use lib.Ieee.{Float, nan}
+use lib.Ieee.{Float}
 use Rattle.solver.specs.F64.{◌+ᶠ◌}
+use Rattle.solver.proofs.Laws.Parts.{drop_next}
 use Rattle.zone.specs.Record.BuildingElement.{add_closed, is_two_nodes, number_of_nodes, nodes_of}
 use Rattle.zone.specs.declared.record.building_element.Kind.{Kind}
 use Rattle.zone.specs.declared.record.building_element.Element.{Element}
-use Rattle.zone.proofs.Laws.Lists.{from, none_left}
 
-module _ (bits : ℕ) (r : Float) (delta : List Float) (n j : ℕ) where
-  pub closed_next : n ≤ length delta → j < n
-      → add_closed bits r (drop j (take n delta))
-      ≡ add_closed (bits / 2) (cond (eqb (bits % 2) 0) (r +ᶠ get_or delta j nan) r) (drop (j + 1) (take n delta))
+-- a loop over the treatments' resistances, whose invariant is that those that are left, added to r, give what all of them give
+module _ (bits : ℕ) (r : Float) (l : List Float) (i : ℕ) (w : Float) (inv : add_closed bits r (drop i l) ≡ w) where
+  pub closed_next : (d r' : Float) → i < length l → r' ≡ cond (eqb (bits % 2) 0) (r +ᶠ get_or l i d) r → add_closed (bits / 2) r' (drop (i + 1) l) ≡ w
   unfolding add_closed
-  closed_next hn hj = rw (from delta j n nan hj hn)
+  closed_next d r' h e =
+      let turn : add_closed bits r (drop i l) ≡ add_closed (bits / 2) (cond (eqb (bits % 2) 0) (r +ᶠ get_or l i d) r) (drop (i + 1) l) = rw (drop_next l i d h) in
+      rw e (sym turn ∙ inv)
 
-  pub closed_end : n ≤ j → add_closed bits r (drop j (take n delta)) ≡ r
+  pub closed_end : length l ≤ i → r ≡ w
   unfolding add_closed
-  closed_end hj = rw (none_left delta j n hj)
+  closed_end h = let turn : add_closed bits r (drop i l) ≡ r = rw (drop_of_length-le l h) in sym turn ∙ inv
 
 two_or_five : (b : Bool) → cond b 2 5 ≤ 5
 two_or_five true = omega arith
@@ -32,11 +33,16 @@ pub nodes_few : (k : Kind) (n : ℕ) → n ≡ number_of_nodes k → n ≤ 5
 unfolding number_of_nodes
 nodes_few k n e = rw e (two_or_five (is_two_nodes k))
 
-module _ (es : List Element) (n i : ℕ) where
-  pub nodes_next : (d : Element) → n ≤ length es → i < n → nodes_of (drop i (take n es)) ≡ number_of_nodes (get_or es i d).kind + nodes_of (drop (i + 1) (take n es))
+-- a loop over elements, whose invariant is that the nodes that are counted, with those of the elements that are left, are all
+module _ (es : List Element) (i total w : ℕ) (inv : total + nodes_of (drop i es) ≡ w) where
+  pub nodes_next : (d : Element) (k : ℕ) → i < length es → k ≡ number_of_nodes (get_or es i d).kind → total + k + nodes_of (drop (i + 1) es) ≡ w
   unfolding nodes_of
-  nodes_next d hn hi = rw (from es i n d hi hn)
+  nodes_next d k h e =
+      let turn : nodes_of (drop i es) ≡ number_of_nodes (get_or es i d).kind + nodes_of (drop (i + 1) es) = rw (drop_next es i d h) in
+      omega (arith, turn, inv, e)
 
-  pub nodes_end : n ≤ i → nodes_of (drop i (take n es)) ≡ 0
+  pub nodes_end : length es ≤ i → total ≡ w
   unfolding nodes_of
-  nodes_end hi = rw (none_left es i n hi)
+  nodes_end h =
+      let none : nodes_of (drop i es) ≡ 0 = rw (drop_of_length-le es h) in
+      omega (arith, none, inv)

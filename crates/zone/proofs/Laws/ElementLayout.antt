@@ -2,14 +2,16 @@
 use Prim.Native.Nat.{ℕ, ◌+◌, ◌*◌, ◌≤◌}
 use mathlib.Core.Path.{◌≡◌}
 use mathlib.Core.Bool.{Bool, true, false, cond}
+use mathlib.Core.List.{List}
 use native.Mathlib.Omega.{arith}
 use borrow.Author.Tests.{leb-true}
 use lib.Dec.{leb}
+use lib.ListN.{length, get_or}
 use Rattle.solver.proofs.Laws.Tests.{and_true}
 use Rattle.zone.specs.Format.Bytes.{float_size}
 use Rattle.zone.specs.Format.Layout.{element_arrays, element_hour_size, five_nodes_size, transparent_size}
 use Rattle.zone.specs.Record.BuildingElement.{is_two_nodes, number_of_nodes}
-use Rattle.zone.specs.Format.ElementLayout.{h_count, kind_of, max_treatments, element_size}
+use Rattle.zone.specs.Format.ElementLayout.{h_count, kind_of, max_treatments, element_size, kind_at, treatments_at, kind_valid_at, size_at}
 use Rattle.zone.specs.Inner.Format.{kind_valid}
 use Rattle.zone.specs.declared.record.building_element.Kind.{Kind}
 
@@ -30,3 +32,10 @@ shaped k t e = shaped_by (is_two_nodes k) t e
 
 pub treatments_few : (k t : ℕ) → kind_valid k t ≡ true → t ≤ max_treatments (kind_of k)
 treatments_few k t e = leb-true t (max_treatments (kind_of k)) (and_true (leb k 5) (leb t (max_treatments (kind_of k))) e).1
+
+-- of an element at p that is whole, whose counts are kc, hc and t: the counts are few, and its bytes are there
+pub fits : (s : List ℕ) (p : ℕ) {k : Kind} {kc hc : ℕ} → kind_valid_at s p ≡ true → k ≡ kind_at s p → kc ≡ number_of_nodes k → hc ≡ h_count k → p + size_at s p ≤ length s
+    → (p + (element_arrays + 8 * kc + 8 * hc + 8 * treatments_at s p + element_hour_size) ≤ length s) × (kc ≤ 5) × (hc ≤ 4) × (treatments_at s p ≤ 4)
+fits s p right of_k of_kc of_hc there =
+    let f = shaped (kind_at s p) (treatments_at s p) (treatments_few (get_or s p 0) (treatments_at s p) right) in
+    rw (of_hc, of_kc, of_k) (omega (arith, f.sized, there), f.few_k, f.few_h, f.few_t)

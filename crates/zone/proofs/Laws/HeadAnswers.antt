@@ -1,27 +1,18 @@
--- What a verdict, and the answer on a head, tell of the definition that they meet.
+-- What the answer on a head tells of the definition that it meets.
 use Prim.Native.Nat.{ℕ}
 use mathlib.Core.Path.{◌≡◌, sym, ap, ◌∙◌}
-use mathlib.Core.List.{List}
-use native.Mathlib.Omega.{arith}
-use lib.Ieee.{Float}
+use Rattle.std.specs.Prelude.{Ok, Err}
+use Rattle.std.specs.Prelude as Rust
 use Rattle.solver.specs.Result.{Result, ok, refused}
-use Rattle.zone.specs.declared.record.zone_record.Zone.{Zone}
-use Rattle.zone.specs.declared.record.zone_record.Verdict.TheVariants.{Accepted, Refused}
-use Rattle.zone.specs.declared.format.head.Head.{Head}
-use Rattle.zone.specs.Inner.Lent.{zone_in}
-use Rattle.zone.specs.Inner.Verdict.{verdict_res}
+use Rattle.zone.specs.Answers.{number_of, index_of}
 use Rattle.zone.specs.Format.Head.{ReadHead}
-use Rattle.zone.specs.Inner.Head.{head_in}
+use Rattle.zone.specs.Inner.Head.{head_read}
+use Rattle.zone.specs.declared.record.refusal.Refusal.{Refusal}
+use Rattle.zone.specs.declared.record.zone_record.Zone.{Zone}
 
-pub apart : {A : Type 0} (n j : ℕ) → Accepted ≡ Refused n j → A
-apart n j e = absurd (let z : ◌≡◌ {A = ℕ} 0 1 = cc in omega arith)
+module _ (d : Result (ReadHead Zone)) (x : Rust.Result ℕ Refusal) (z : Zone) (e : head_read x z ≡ d) where
+  pub head_no : (r : Refusal) → x ≡ Err r → d ≡ refused (number_of r) (index_of r)
+  head_no r f = sym e ∙ ap (λ y. head_read y z) f
 
-pub same_refusal : {A : Type 0} (m k n j : ℕ) → Refused m k ≡ Refused n j → ◌≡◌ {A = Result A} (refused m k) (refused n j)
-same_refusal m k n j e = let p : m ≡ n = cc in let q : k ≡ j = cc in λ i. refused (p i) (q i)
-
-module _ (d : Result (ReadHead Zone)) (h : Head) (codes : List ℕ) (values : List Float) (e : head_in h codes values ≡ d) where
-  pub head_no : (n j : ℕ) → h.verdict ≡ Refused n j → d ≡ refused n j
-  head_no n j f = sym e ∙ ap (λ v. verdict_res v (record { zone = zone_in h.zone codes values; length = h.length })) f
-
-  pub head_yes : h.verdict ≡ Accepted → d ≡ ok (record { zone = zone_in h.zone codes values; length = h.length })
-  head_yes f = sym e ∙ ap (λ v. verdict_res v (record { zone = zone_in h.zone codes values; length = h.length })) f
+  pub head_yes : (n : ℕ) → x ≡ Ok n → d ≡ ok (record { zone = z; length = n })
+  head_yes n f = sym e ∙ ap (λ y. head_read y z) f

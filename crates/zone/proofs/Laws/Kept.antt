@@ -21,8 +21,6 @@ use Rattle.zone.specs.declared.record.building_element.HeatFlowDirection.{HeatFl
 use Rattle.zone.specs.declared.record.building_element.HeatFlowDirection.TheVariants.{Horizontal, Upwards, Downwards}
 use Rattle.zone.specs.declared.record.zone_record.Zone.{Zone}
 use Rattle.zone.specs.Record.BuildingElement.{heat_flow_direction, direction_code, h_ci_of, h_ci, standard_coefficients}
-use Rattle.zone.specs.Inner.Lent.{element_hour_in, element_hours_in}
-use Rattle.zone.specs.Format.Decode.{no_element_hour}
 use Rattle.zone.specs.Physics.Slots.{air, inner_surface, element, element_hour, with_terms}
 use Rattle.zone.specs.Physics.System.{area_of, area_el_total, share_of, h_ci_at, two_nodes_of}
 use Rattle.zone.specs.Inner.Record.{h_ci_by_code}
@@ -31,9 +29,8 @@ use Rattle.zone.specs.Inner.Assembled.{h_ri_of, convective_sum, element_chains, 
 use Rattle.zone.specs.Inner.Kept.{direction_code_at, h_ci_in, rows_by, chains_by, couplings_by, convective_by_sum, Factors, factors, factors_in, factors_by, FactorsOf, Arrays, arrays, zeros, Held, held, none_held, factors_held, numbers_held, numbers_by, key_of, same_key, emptied, held_with, keep_factors, Kept}
 use borrow.Author.Tests.{eqb-true}
 use Rattle.solver.proofs.Laws.Tests.{and_true}
-use Rattle.zone.proofs.Laws.Key.{elements_same, elements_agree, key_direction, key_open, key_agree}
+use Rattle.zone.proofs.Laws.Key.{elements_same, key_direction, key_open}
 use Rattle.zone.proofs.Laws.Terms.{repeat_same, terms_at}
-use Rattle.zone.proofs.Laws.Counted.{counted_at}
 use Rattle.zone.proofs.Laws.Nodes.{at_most_24_le}
 use Rattle.zone.proofs.Laws.Agree.{Agree, sum2_same, convective_agree, couplings_same}
 
@@ -73,11 +70,7 @@ module _ (n : ℕ) (es : List Element) (f g : ℕ → Float) (p : Agree n f g) w
   unfolding convective_by_sum
   sum_agree = sum2_same n (convective_by (area_of es) f) (convective_by (area_of es) g) (convective_agree n (area_of es) (area_of es) f g (λ e h. refl) p)
 
--- of an hour they are the system's; `open_in`: of one that stands in arrays
-pub open_in : (parts : List Float) (opens : List ℕ) (e : ℕ) → e < 24 → get_or opens e 0 ≡ (element_hour (element_hours_in parts opens) e).treatments_open
-unfolding element_hour_in
-open_in parts opens e h = sym (ap (λ (x : ElementHour). x.treatments_open) (counted_at (element_hour_in parts opens) 24 e no_element_hour h))
-
+-- of an hour they are the system's
 module _ (n : ℕ) (small : n ≤ 24) (es : List Element) (t : List Float) where
   abbrev own : ℕ → Float
   own = h_ci_at standard_coefficients es t
@@ -177,17 +170,7 @@ module _ (z : Zone) (d o : List ℕ) (dt : Float) (f : T (fits binary64 dt)) whe
       by true e = (k, held_same flags numbers key a column e k)
       by false e = held_anew (factors_in z d o dt (emptied (get_or flags 0 false) a)) (factored (emptied (get_or flags 0 false) a) (emptied_zeros (get_or flags 0 false) a k.when_empty))
 
--- open treatments that agree keep the same
-factors_agree : (z : Zone) (d o o' : List ℕ) (dt : Float) → ((e : ℕ) → e < at_most24 z.count → get_or o e 0 ≡ get_or o' e 0) → (a : Arrays) → factors_in z d o dt a ≡ factors_in z d o' dt a
-factors_agree z d o o' dt p (arrays two_nodes diag next prev dense interchanges) =
-    rw (chains_agree (at_most24 z.count) z.building_elements (h_ci_in d) (h_ci_in d) (λ e h. refl) o o' p dt (chains diag next prev)) refl
-
-pub keep_agree : (z : Zone) (d o o' : List ℕ) (dt : Float) → ((e : ℕ) → e < 24 → get_or o e 0 ≡ get_or o' e 0) → (k : Held) → keep_factors z d o dt k ≡ keep_factors z d o' dt k
-unfolding keep_factors same_key
-keep_agree z d o o' dt p (held flags numbers key a column) =
-    rw (elements_agree key d o o' (at_most24 z.count) (λ e h. p e (few_elements z e h)), key_agree d o o' p, factors_agree z d o o' dt (λ e h. p e (few_elements z e h)) (emptied (get_or flags 0 false) a)) refl
-
--- ---- what `keep_factors` leaves in the arrays
+-- ---- what `keep_factors` leaves
 
 module _ (z : Zone) (d o : List ℕ) (dt : Float) (flags : List Bool) (numbers : List Float) (key : List ℕ) (a : Arrays) (column : List Float)
     (n : ℕ) (n_is : n ≡ at_most24 z.count) (test : Bool) (test_is : test ≡ same_key (get_or flags 0 false) (get_or numbers 2 nan) dt n key d o) where

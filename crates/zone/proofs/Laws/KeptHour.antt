@@ -1,9 +1,11 @@
--- An hour from what the lent arrays hold; and where that is the zone's own, it is what `prepare` makes of the hour's system.
+-- An hour from what is held; and where that is the zone's own, it is what `prepare` makes of the hour's system.
+use Rattle.std.specs.Prelude.{Option, Some, None}
 use mathlib.Core.Path.{◌≡◌, refl, sym, ap, ◌∙◌}
 use mathlib.Core.Bool.{Bool, false}
-use mathlib.Core.List.{List, []}
-use Prim.Native.Nat.{ℕ, ◌<◌}
-use lib.ListN.{get_or, replicate}
+use mathlib.Core.List.{List}
+use Prim.Native.Nat.{ℕ, ◌<◌, ◌≤◌}
+use native.Mathlib.Omega.{arith}
+use lib.ListN.{length, get_or, replicate}
 use lib.Ieee.{Float, nan, binary64}
 use lib.Ieee.Fits.{mul-fits}
 use Rattle.solver.specs.F64.{zero64, decimal}
@@ -11,30 +13,33 @@ use Rattle.solver.specs.FastSolver.{at_most24}
 use Rattle.solver.specs.Result.{Result}
 use Rattle.solver.specs.Inner.Columns.{column_of}
 use Rattle.solver.specs.Inner.Reduced.{reduce_chains, inner_shares}
-use Rattle.solver.specs.Inner.Apart.{Columns, columns, factor_apart}
+use Rattle.solver.specs.Inner.Apart.{Columns, columns, factor_apart, reduced_base}
+use Rattle.solver.specs.declared.dense_part.RightSide.{RightSide}
 use Rattle.zone.specs.declared.record.building_element.Element.{Element}
 use Rattle.zone.specs.declared.record.building_element.ElementHour.{ElementHour}
 use Rattle.zone.specs.declared.record.building_element.Coefficients.{Coefficients}
 use Rattle.zone.specs.declared.record.zone_record.Zone.{Zone}
-use Rattle.zone.specs.declared.record.zone_record.ZoneFront.{ZoneFront}
 use Rattle.zone.specs.declared.format.conditions.Conditions.{Conditions}
-use Rattle.zone.specs.declared.format.conditions.HourFront.{HourFront}
-use Rattle.zone.specs.declared.hour.time_step.ZoneTerms.{ZoneTerms}
 use Rattle.zone.specs.declared.hour.hour.Asked.{Asked}
+use Rattle.zone.specs.declared.hour.kept.Key.{Key}
+use Rattle.zone.specs.declared.hour.kept.KeptMatrix.{KeptMatrix}
+use Rattle.zone.specs.declared.hour.time_step.ZoneTerms as Rust
 use Rattle.zone.specs.declared.calls.state.Demand.{Demand}
 use Rattle.zone.specs.Record.BuildingElement.{standard_coefficients}
-use Rattle.zone.specs.Inner.Lent.{zone_of, hour_of}
 use Rattle.zone.specs.Physics.Slots.{with_terms, element_hour}
 use Rattle.zone.specs.Physics.System.{h_ci_at, two_nodes_of}
 use Rattle.zone.specs.Hour.Demand.{delta_t}
 use Rattle.zone.specs.Inner.Assembly.{Chains, chains}
-use Rattle.zone.specs.Inner.Assembled.{convective_sum, element_chains, couplings_of, element_sides, zone_terms_of, assembled_with, assemble, assemble_step}
+use Rattle.zone.specs.Inner.Assembled.{ZoneTerms, convective_sum, element_chains, couplings_of, element_sides, zone_terms_of, assembled_with, assemble, assemble_step}
 use Rattle.zone.specs.Inner.Solves.{hour_system}
 use Rattle.zone.specs.Inner.Prepared.{Prepared, prepared, prepared_with, prepare}
 use Rattle.zone.specs.Inner.Operative.{areas_of, control_by}
 use Rattle.zone.specs.Inner.Hour.{answer_in, hour_solved}
-use Rattle.zone.specs.Inner.Kept.{h_ci_in, chains_by, couplings_by, convective_by_sum, terms_by, Factors, factors, factors_from, factors_with, factors_by, Held, factors_held, numbers_held, keep_factors, directions_of, prepared_from, hour_from, hour_held, FactorsOf, Kept}
+use Rattle.zone.specs.Inner.Kept.{h_ci_in, chains_by, couplings_by, convective_by_sum, terms_by, Factors, factors, factors_from, factors_with, factors_by, Held, factors_held, numbers_held, keep_factors, directions_of, treatments_open_at, opens_of, prepared_from, hour_from, hour_held, FactorsOf, Kept}
+use Rattle.zone.specs.Inner.KeptMatrix.{numbers_with, held_with_key, held_in}
+use Rattle.zone.specs.Inner.PreparedHour.{sums_in, terms_with}
 use Rattle.zone.proofs.Laws.Agree.{Agree}
+use Rattle.zone.proofs.Laws.Terms.{terms_at}
 use Rattle.zone.proofs.Laws.Nodes.{at_most_24_le}
 use Rattle.zone.proofs.Laws.PreparedDemand.{answer_solved}
 use Rattle.zone.proofs.Laws.Kept.{h_ci_in_lem, chains_agree, couplings_agree, sum_agree, chains_own, couplings_own, sum_own, factors_kept}
@@ -49,40 +54,40 @@ from_chains s two_nodes (chains diag next prev) dense b =
     let n = at_most24 s.n in
     from_columns s two_nodes next prev (column_of n dense) b (factor_apart n two_nodes diag next prev dense (replicate 25 0))
 
-module _ (zf : ZoneFront) (es : List Element) (t : List Float) (h : HourFront) (hours : List ElementHour) (o : List ℕ) where
-  abbrev z : Zone
-  z = zone_of zf es
+module _ (z : Zone) (t : List Float) (h : Conditions) where
+  abbrev es : List Element
+  es = z.building_elements
 
-  abbrev hour : Conditions
-  hour = hour_of h hours
+  abbrev hours : List ElementHour
+  hours = h.elements
 
   abbrev m : ℕ
-  m = at_most24 zf.count
+  m = at_most24 z.count
 
   abbrev dt : Float
-  dt = delta_t (hour_of h [])
+  dt = delta_t h
 
   abbrev d : List ℕ
   d = directions_of z t
+
+  abbrev o : List ℕ
+  o = opens_of h
 
   abbrev right : List Float
   right = element_sides m es hours dt t (replicate 121 zero64)
 
   -- ---- an hour from what is held
 
-  pub keeps_hour : (d' : List ℕ) (dt' : Float) → d' ≡ d → dt' ≡ dt → (x x' : Held) → x' ≡ keep_factors z d' o dt' x → x' ≡ keep_factors z d o dt x
-  keeps_hour d' dt' d_is dt_is x x' e = e ∙ rw (d_is, dt_is) refl
-
   module _ (valid : Bool) (numbers : List Float) (two : List Bool) (diag next prev dense : List Float)
       (interchanges : List ℕ) (column : List Float) (c : Coefficients) (dt' : Float) (n : ℕ)
       (c_is : c ≡ standard_coefficients) (dt_is : dt' ≡ dt) (n_is : n ≡ m) (s : ZoneTerms)
-      (s_is : s ≡ terms_by c (zone_of zf []) (hour_of h []) dt' t numbers) (b b' inner : List Float)
+      (s_is : s ≡ terms_by c z h dt' t numbers) (b b' inner : List Float)
       (b_is : b ≡ element_sides n es hours dt' t (replicate 121 zero64)) (b'_is : b' ≡ reduce_chains (at_most24 n) two diag prev b)
       (inner_is : inner ≡ inner_shares (at_most24 n) diag prev b' (replicate 24 zero64)) where
     abbrev k : Factors
     k = factors valid two diag next prev dense interchanges column
 
-    terms_from : s ≡ terms_by standard_coefficients z (hour_of h []) dt t numbers
+    terms_from : s ≡ terms_by standard_coefficients z h dt t numbers
     terms_from = s_is ∙ rw (c_is, dt_is) refl
 
     sides_from : b ≡ right
@@ -93,77 +98,122 @@ module _ (zf : ZoneFront) (es : List Element) (t : List Float) (h : HourFront) (
         let same : at_most24 s.n ≡ at_most24 n = rw (s_is, n_is) refl in
         rw (inner_is, b'_is, same) refl
 
-    pub hour_from_lem : (area : List Float) → area ≡ areas_of z → (asked : Asked) (before : List Float) (r : Result (Demand × List Float)) →
+    hour_from_lem : (area : List Float) → area ≡ areas_of z → (asked : Asked) (before : List Float) (r : Result (Demand × List Float)) →
         r
         ≡ answer_in (prepared s valid two diag next dense interchanges column b' inner) z.volume
-        (control_by z.temp_setpnt_basis z.count area s.area_el_total) (hour_of h []) z.useful_area asked before →
-        r ≡ hour_from z t h hours asked before numbers k
+        (control_by z.temp_setpnt_basis z.count area (get_or numbers 0 nan)) h z.useful_area asked before →
+        r ≡ hour_from z t h asked before numbers k
     unfolding hour_from
     hour_from_lem area area_is asked before r e =
+        let control = control_by z.temp_setpnt_basis z.count area (get_or numbers 0 nan) in
         e
-        ∙ ap (λ (p : Prepared). answer_in p z.volume (control_by z.temp_setpnt_basis z.count area s.area_el_total) (hour_of h []) z.useful_area asked before) here_prepared
-        ∙ ap (λ (x : ZoneTerms). answer_in (prepared_from x b k) z.volume (control_by z.temp_setpnt_basis z.count area x.area_el_total) (hour_of h []) z.useful_area asked before) terms_from
+        ∙ ap (λ (p : Prepared). answer_in p z.volume control h z.useful_area asked before)
+        (here_prepared ∙ ap (λ (x : ZoneTerms). prepared_from x b k) terms_from)
         ∙ rw (sides_from, area_is) refl
+
+  module _ (x : KeptMatrix) (x_is : x.factors.chains.n ≡ m) (c : Coefficients) (dt' : Float) (c_is : c ≡ standard_coefficients) (dt_is : dt' ≡ dt)
+      (s : Rust.ZoneTerms) (s_is : terms_with m s ≡ terms_by c z h dt' t (sums_in x.sums))
+      (b : List Float) (b_is : b ≡ element_sides m es hours dt' t (replicate 121 zero64))
+      (base : RightSide) (base_is : base ≡ reduced_base x.factors (record { b = b; inner = replicate 24 zero64 })) where
+    terms_here : terms_with x.factors.chains.n s ≡ terms_by c z h dt' t (sums_in x.sums)
+    terms_here = ap (λ (i : ℕ). terms_with i s) x_is ∙ s_is
+
+    sides_here : b ≡ element_sides x.factors.chains.n es hours dt' t (replicate 121 zero64)
+    sides_here = b_is ∙ ap (λ (i : ℕ). element_sides i es hours dt' t (replicate 121 zero64)) (sym x_is)
+
+    reduced_here : base.b ≡ reduce_chains (at_most24 x.factors.chains.n) x.factors.chains.two_nodes x.factors.chains.diag x.factors.chains.prev b
+    reduced_here = ap (λ (y : RightSide). y.b) base_is
+
+    inner_here : base.inner ≡ inner_shares (at_most24 x.factors.chains.n) x.factors.chains.diag x.factors.chains.prev base.b (replicate 24 zero64)
+    inner_here =
+        ap (λ (y : RightSide). y.inner) base_is
+        ∙ ap (λ (y : List Float). inner_shares (at_most24 x.factors.chains.n) x.factors.chains.diag x.factors.chains.prev y (replicate 24 zero64)) (sym reduced_here)
+
+    module _ (area : List Float) (area_is : area ≡ areas_of z) (asked : Asked) (before : List Float) (r : Result (Demand × List Float))
+        (e : r
+        ≡ answer_in
+        (prepared (terms_with x.factors.chains.n s) x.factors.valid x.factors.chains.two_nodes x.factors.chains.diag x.factors.chains.next x.factors.lu.matrix x.factors.lu.interchanges x.column base.b base.inner)
+        z.volume (control_by z.temp_setpnt_basis z.count area x.sums.area_el_total) h z.useful_area asked before) where
+      hour_here : (kept_dt : Float)
+          → r
+          ≡ hour_from z t h asked before (numbers_with x.sums kept_dt)
+          (factors x.factors.valid x.factors.chains.two_nodes x.factors.chains.diag x.factors.chains.next x.factors.chains.prev x.factors.lu.matrix x.factors.lu.interchanges x.column)
+      hour_here kept_dt =
+          hour_from_lem x.factors.valid (numbers_with x.sums kept_dt) x.factors.chains.two_nodes x.factors.chains.diag x.factors.chains.next x.factors.chains.prev
+          x.factors.lu.matrix x.factors.lu.interchanges x.column c dt' x.factors.chains.n c_is dt_is x_is (terms_with x.factors.chains.n s) terms_here
+          b base.b base.inner sides_here reduced_here inner_here area area_is asked before r e
+
+      pub held_hour : r ≡ hour_held z t h asked before (held_in x)
+      held_hour = by x.key
+        where
+          by : (key : Option Key) → r ≡ hour_held z t h asked before (held_with_key x key)
+          by None = hour_here zero64
+          by (Some key) = hour_here key.delta_t
 
   -- ---- an hour from what is kept
 
   own_agree : Agree m (h_ci_in d) (h_ci_at standard_coefficients es t)
-  own_agree = h_ci_in_lem m es t d (at_most_24_le zf.count) refl
+  own_agree = h_ci_in_lem m es t d (at_most_24_le z.count) refl
 
   abbrev empty : Chains
   empty = chains (replicate 120 zero64) (replicate 120 zero64) (replicate 120 zero64)
 
-  module _ (opened : (e : ℕ) → e < 24 → get_or o e 0 ≡ (element_hour hours e).treatments_open) where
-    chains_hour : chains_by m es o dt (h_ci_in d) empty ≡ element_chains standard_coefficients m es hours dt t empty
-    chains_hour =
-        chains_agree m es (h_ci_in d) (h_ci_at standard_coefficients es t) own_agree o o (λ e k. refl) dt empty
-        ∙ chains_own m (at_most_24_le zf.count) es t hours o opened dt empty
+  opened : (e : ℕ) → e < 24 → get_or o e 0 ≡ (element_hour hours e).treatments_open
+  opened e l =
+      let few : 24 ≤ 24 = omega arith in
+      let small : 24 ≤ length {A = ℕ} (replicate 24 0) = few in
+      terms_at (treatments_open_at hours) 0 24 (replicate 24 0) e l small
 
-    couplings_hour : couplings_by m es (h_ci_in d) (replicate 625 zero64) ≡ couplings_of standard_coefficients m es t (replicate 625 zero64)
-    couplings_hour =
-        couplings_agree m es (h_ci_in d) (h_ci_at standard_coefficients es t) own_agree (replicate 625 zero64)
-        ∙ couplings_own m (at_most_24_le zf.count) es t (replicate 625 zero64)
+  chains_hour : chains_by m es o dt (h_ci_in d) empty ≡ element_chains standard_coefficients m es hours dt t empty
+  chains_hour =
+      chains_agree m es (h_ci_in d) (h_ci_at standard_coefficients es t) own_agree o o (λ e k. refl) dt empty
+      ∙ chains_own m (at_most_24_le z.count) es t hours o opened dt empty
 
-    sum_hour : convective_by_sum m es (h_ci_in d) ≡ convective_sum standard_coefficients m es t
-    sum_hour = sum_agree m es (h_ci_in d) (h_ci_at standard_coefficients es t) own_agree ∙ sum_own m (at_most_24_le zf.count) es t
+  couplings_hour : couplings_by m es (h_ci_in d) (replicate 625 zero64) ≡ couplings_of standard_coefficients m es t (replicate 625 zero64)
+  couplings_hour =
+      couplings_agree m es (h_ci_in d) (h_ci_at standard_coefficients es t) own_agree (replicate 625 zero64)
+      ∙ couplings_own m (at_most_24_le z.count) es t (replicate 625 zero64)
 
-    abbrev own : Factors
-    own =
-        factors_with (at_most24 m) (with_terms m (two_nodes_of es) (replicate 24 false)) (element_chains standard_coefficients m es hours dt t empty)
-        (couplings_of standard_coefficients m es t (replicate 625 zero64)) (replicate 25 0)
+  sum_hour : convective_by_sum m es (h_ci_in d) ≡ convective_sum standard_coefficients m es t
+  sum_hour = sum_agree m es (h_ci_in d) (h_ci_at standard_coefficients es t) own_agree ∙ sum_own m (at_most_24_le z.count) es t
 
-    system_prepared : prepare (hour_system z t hour) ≡ prepared_from (zone_terms_of standard_coefficients z hour dt t) right own
-    unfolding hour_system assemble_step assemble
-    system_prepared =
-        from_chains (zone_terms_of standard_coefficients z hour dt t) (with_terms m (two_nodes_of es) (replicate 24 false))
-        (element_chains standard_coefficients m es hours dt t empty)
-        (couplings_of standard_coefficients m es t (replicate 625 zero64)) right
+  abbrev own : Factors
+  own =
+      factors_with (at_most24 m) (with_terms m (two_nodes_of es) (replicate 24 false)) (element_chains standard_coefficients m es hours dt t empty)
+      (couplings_of standard_coefficients m es t (replicate 625 zero64)) (replicate 25 0)
 
-    module _ (k : Factors) (sums : List Float) (f : FactorsOf z d o dt k sums) where
-      factors_hour : k ≡ own
-      unfolding factors_by
-      factors_hour = f.are ∙ rw (chains_hour, couplings_hour) refl
+  system_prepared : prepare (hour_system z t h) ≡ prepared_from (zone_terms_of standard_coefficients z h dt t) right own
+  unfolding hour_system assemble_step assemble
+  system_prepared =
+      from_chains (zone_terms_of standard_coefficients z h dt t) (with_terms m (two_nodes_of es) (replicate 24 false))
+      (element_chains standard_coefficients m es hours dt t empty)
+      (couplings_of standard_coefficients m es t (replicate 625 zero64)) right
 
-      terms_hour : terms_by standard_coefficients z (hour_of h []) dt t sums ≡ zone_terms_of standard_coefficients z hour dt t
-      terms_hour = rw (f.total, f.convective, sum_hour) refl
+  module _ (k : Factors) (sums : List Float) (f : FactorsOf z d o dt k sums) where
+    factors_hour : k ≡ own
+    unfolding factors_by
+    factors_hour = f.are ∙ rw (chains_hour, couplings_hour) refl
 
-      prepared_hour : prepared_from (terms_by standard_coefficients z (hour_of h []) dt t sums) right k ≡ prepare (hour_system z t hour)
-      prepared_hour =
-          ap (λ (x : ZoneTerms). prepared_from x right k) terms_hour
-          ∙ ap (prepared_from (zone_terms_of standard_coefficients z hour dt t) right) factors_hour
-          ∙ sym system_prepared
+    terms_hour : terms_by standard_coefficients z h dt t sums ≡ zone_terms_of standard_coefficients z h dt t
+    terms_hour = rw (f.total, f.convective, sum_hour) refl
 
-    module _ (asked : Asked) (before : List Float) where
-      from_solved : (x : Held) → FactorsOf z d o dt (factors_held x) (numbers_held x) → hour_held z t h hours asked before x ≡ hour_solved z t hour asked before
-      unfolding hour_from
-      from_solved x f =
-          let control = control_by z.temp_setpnt_basis z.count (areas_of z) (get_or (numbers_held x) 0 nan) in
-          ap (λ (p : Prepared). answer_in p z.volume control (hour_of h []) z.useful_area asked before) (prepared_hour (factors_held x) (numbers_held x) f)
-          ∙ answer_solved z t h hours (areas_of z) (get_or (numbers_held x) 0 nan) refl f.total asked before
+    prepared_hour : prepared_from (terms_by standard_coefficients z h dt t sums) right k ≡ prepare (hour_system z t h)
+    prepared_hour =
+        ap (λ (x : ZoneTerms). prepared_from x right k) terms_hour
+        ∙ ap (prepared_from (zone_terms_of standard_coefficients z h dt t) right) factors_hour
+        ∙ sym system_prepared
 
-      -- where the arrays hold the zone's, or nothing, before the hour, they do after it, and the hour is the one that the definitions have
-      pub kept_hour : (x x' : Held) → x' ≡ keep_factors z d o dt x → (r : Result (Demand × List Float)) → r ≡ hour_held z t h hours asked before x' → Kept z x
-          → Kept z x' × (r ≡ hour_solved z t hour asked before)
-      kept_hour x x' x'_is r r_is k =
-          let p = factors_kept z d o dt (mul-fits binary64 h.delta_t_h (decimal 3600 0)) x k in
-          (rw x'_is p.0, r_is ∙ from_solved x' (rw x'_is p.1))
+  module _ (asked : Asked) (before : List Float) where
+    from_solved : (x : Held) → FactorsOf z d o dt (factors_held x) (numbers_held x) → hour_held z t h asked before x ≡ hour_solved z t h asked before
+    unfolding hour_from
+    from_solved x f =
+        let control = control_by z.temp_setpnt_basis z.count (areas_of z) (get_or (numbers_held x) 0 nan) in
+        ap (λ (p : Prepared). answer_in p z.volume control h z.useful_area asked before) (prepared_hour (factors_held x) (numbers_held x) f)
+        ∙ answer_solved z t h (areas_of z) (get_or (numbers_held x) 0 nan) refl f.total asked before
+
+    -- where the zone's are held, or nothing, before the hour, they do after it, and the hour is the one that the definitions have
+    pub kept_hour : (x x' : Held) → x' ≡ keep_factors z d o dt x → (r : Result (Demand × List Float)) → r ≡ hour_held z t h asked before x' → Kept z x
+        → Kept z x' × (r ≡ hour_solved z t h asked before)
+    kept_hour x x' x'_is r r_is k =
+        let p = factors_kept z d o dt (mul-fits binary64 h.delta_t_h (decimal 3600 0)) x k in
+        (rw x'_is p.0, r_is ∙ from_solved x' (rw x'_is p.1))

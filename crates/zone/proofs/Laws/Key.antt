@@ -2,35 +2,55 @@
 use mathlib.Core.Path.{◌≡◌, refl, sym, ap, subst, ◌∙◌}
 use mathlib.Core.Logic.{⊎_elim}
 use mathlib.Core.Bool.{Bool, true, false, cond, ◌&&◌}
-use mathlib.Core.List.{List}
+use mathlib.Core.List.{List, ◌++◌}
 use Prim.Native.Nat.{ℕ, suc, zero, ◌+◌, ◌-◌, ◌<◌, ◌≤◌}
 use native.Mathlib.Nat.{eq-or-lt_of_le}
-use native.Mathlib.Numerals.{add-one}
 use native.Mathlib.Omega.{arith}
-use borrow.Author.Tests.{eqb-true, eq-eqb, ne_eqb, lt-ltb, le-ltb, ltb-true, ltb-false}
+use borrow.Author.Tests.{eqb-true, lt-ltb, le-ltb, ltb-true, ltb-false}
 use lib.Dec.{eqb, ltb}
-use lib.ListN.{length, get_or, set, length-set}
-use lib.Seq.{take_all, get_or-set_same, get_or-set_other}
-use lib.Ieee.{Float, binary64, to_bits}
+use lib.ListN.{length, get_or}
+use lib.Seq.{take_all}
+use Rattle.std.proofs.lemmas.List.{length-append, get_or_append_left, get_or-append-add}
+use Rattle.solver.specs.Repeat.{all_of, all}
 use Rattle.solver.proofs.Laws.Tests.{and_true}
-use Rattle.zone.specs.Inner.Kept.{same_elements, same_key, key_of}
+use Rattle.zone.specs.Inner.Kept.{same_elements, key_of}
 use Rattle.zone.proofs.Laws.Counted.{counted_same, counted_at, run}
 
-off : (b : Bool) → (b && false) ≡ false
-off true = refl
-off false = refl
+-- the test of a range's last number
+and_right : (b : Bool) → (b && true) ≡ b
+and_right true = refl
+and_right false = refl
+
+and_again : (a b c : Bool) → (a && (b && c)) ≡ ((a && b) && c)
+and_again true b c = refl
+and_again false b c = refl
+
+last_of : (test : ℕ → Bool) (k a : ℕ) → all_of (suc k) a test ≡ (all_of k a test && test (a + k))
+unfolding all_of
+last_of test zero a = let e : a ≡ a + 0 = omega arith in and_right (test a) ∙ ap test e
+last_of test (suc k) a =
+    let e : suc a + k ≡ a + suc k = omega arith in
+    ap (λ (b : Bool). test a && b) (last_of test k (suc a))
+    ∙ and_again (test a) (all_of k (suc a) test) (test (suc a + k))
+    ∙ ap (λ (i : ℕ). (test a && all_of k (suc a) test) && test i) e
+
+all_none : (test : ℕ → Bool) → all_of 0 0 test ≡ true
+unfolding all_of
+all_none test = refl
+
+all_last : (test : ℕ → Bool) (n : ℕ) → all 0 (suc n) test ≡ (all 0 n test && test n)
+all_last test n =
+    let some : suc n - 0 ≡ suc n = omega arith in
+    let before : n ≡ n - 0 = omega arith in
+    let last : 0 + n ≡ n = omega arith in
+    ap (λ (m : ℕ). all_of m 0 test) some
+    ∙ last_of test n 0
+    ∙ ap (λ (i : ℕ). all_of n 0 test && test i) last
+    ∙ ap (λ (m : ℕ). all_of m 0 test && test n) before
 
 module _ (key d o : List ℕ) where
   abbrev alike : ℕ → Bool
   alike e = eqb (get_or key e 0) (get_or d e 0) && eqb (get_or key (24 + e) 0) (get_or o e 0)
-
-  -- an element that differs
-  elements_differ : (e n : ℕ) → e < n → alike e ≡ false → same_elements n key d o ≡ false
-  unfolding same_elements
-  elements_differ e zero h p = absurd (omega arith)
-  elements_differ e (suc n) h p =
-      let le : e ≤ n = omega arith in
-      ⊎_elim (λ z. ap (λ (b : Bool). same_elements n key d o && b) (subst (λ (i : ℕ). alike i ≡ false) z p) ∙ off (same_elements n key d o)) (λ z. rw (elements_differ e n z p) refl) (eq-or-lt_of_le le)
 
   -- all are the same
   pub elements_same : (n : ℕ) → same_elements n key d o ≡ true → (e : ℕ) → e < n → (get_or key e 0 ≡ get_or d e 0) × (get_or key (24 + e) 0 ≡ get_or o e 0)
@@ -43,39 +63,23 @@ module _ (key d o : List ℕ) where
       ⊎_elim (λ z. subst (λ (i : ℕ). (get_or key i 0 ≡ get_or d i 0) × (get_or key (24 + i) 0 ≡ get_or o i 0)) (sym z) (eqb-true _ _ last.0, eqb-true _ _ last.1))
       (λ z. elements_same n q.0 e z) (eq-or-lt_of_le le)
 
-  pub one_more_same : (e : ℕ) → same_elements e key d o ≡ true → get_or key e 0 ≡ get_or d e 0 → get_or key (24 + e) 0 ≡ get_or o e 0 → same_elements (e + 1) key d o ≡ true
-  unfolding same_elements
-  one_more_same e p q r = rw (add-one e, p, eq-eqb (get_or key e 0) (get_or d e 0) q, eq-eqb (get_or key (24 + e) 0) (get_or o e 0) r) refl
+-- ---- a key that is two lists, the directions and behind them the open treatments
 
-  pub all_same : (e n : ℕ) → same_elements e key d o ≡ true → e ≤ n → n ≤ e → same_elements n key d o ≡ true
-  all_same e n p h k = let same : e ≡ n = omega arith in rw (← same) p
+direction_in : (kd ko : List ℕ) (e : ℕ) → length kd ≡ 24 → e < 24 → get_or (kd ++ ko) e 0 ≡ get_or kd e 0
+direction_in kd ko e h l = get_or_append_left kd ko 0 e (omega (arith, h, l))
 
-  -- the first of them are, and one is not
-  pub direction_differs : (e n : ℕ) → same_elements e key d o ≡ true → (get_or key e 0 ≡ get_or d e 0 → ⊥) → e < n → same_elements n key d o ≡ false
-  direction_differs e n _ p h = elements_differ e n h (rw (ne_eqb (get_or key e 0) (get_or d e 0) p) refl)
+open_behind : (kd ko : List ℕ) (e : ℕ) → length kd ≡ 24 → get_or (kd ++ ko) (24 + e) 0 ≡ get_or ko e 0
+open_behind kd ko e h = subst (λ (k : ℕ). get_or (kd ++ ko) (k + e) 0 ≡ get_or ko e 0) h (get_or-append-add kd ko e 0)
 
-  pub open_differs : (e n : ℕ) → same_elements e key d o ≡ true → (get_or key (24 + e) 0 ≡ get_or o e 0 → ⊥) → e < n → same_elements n key d o ≡ false
-  open_differs e n _ p h =
-      elements_differ e n h (ap (λ (b : Bool). eqb (get_or key e 0) (get_or d e 0) && b) (ne_eqb (get_or key (24 + e) 0) (get_or o e 0) p) ∙ off (eqb (get_or key e 0) (get_or d e 0)))
-
-  module _ (is_held : Bool) (kept dt : Float) (n : ℕ) where
-    pub key_none : is_held ≡ false → false ≡ same_key is_held kept dt n key d o
-    unfolding same_key
-    key_none e = rw e refl
-
-    pub key_step : is_held ≡ true → (bits bits' : ℕ) → bits ≡ to_bits binary64 kept → bits' ≡ to_bits binary64 dt → (bits ≡ bits' → ⊥) → false ≡ same_key is_held kept dt n key d o
-    unfolding same_key
-    key_step e bits bits' is is' p = rw (e, ← is, ← is', ne_eqb bits bits' p) refl
-
-    pub key_elements : is_held ≡ true → (bits bits' : ℕ) → bits ≡ to_bits binary64 kept → bits' ≡ to_bits binary64 dt → bits ≡ bits' → (test : Bool) → same_elements n key d o ≡ test → test ≡ same_key is_held kept dt n key d o
-    unfolding same_key
-    key_elements e bits bits' is is' p test q = rw (e, ← is, ← is', eq-eqb bits bits' p) (sym q)
-
-  -- open treatments that agree
-  pub elements_agree : (o' : List ℕ) (n : ℕ) → ((e : ℕ) → e < n → get_or o e 0 ≡ get_or o' e 0) → same_elements n key d o ≡ same_elements n key d o'
-  unfolding same_elements
-  elements_agree o' zero p = refl
-  elements_agree o' (suc n) p = rw (elements_agree o' n (λ e h. p e (omega arith)), p n (omega arith)) refl
+-- element by element
+pub elements_all : (kd ko d o : List ℕ) (n : ℕ) → length kd ≡ 24 → n ≤ 24
+    → same_elements n (kd ++ ko) d o ≡ all 0 n (λ e. eqb (get_or kd e 0) (get_or d e 0) && eqb (get_or ko e 0) (get_or o e 0))
+unfolding same_elements
+elements_all kd ko d o zero h small = sym (all_none (λ e. eqb (get_or kd e 0) (get_or d e 0) && eqb (get_or ko e 0) (get_or o e 0)))
+elements_all kd ko d o (suc n) h small =
+    let l : n < 24 = omega arith in
+    rw (direction_in kd ko n h l, open_behind kd ko n h, elements_all kd ko d o n h (omega arith))
+    (sym (all_last (λ e. eqb (get_or kd e 0) (get_or d e 0) && eqb (get_or ko e 0) (get_or o e 0)) n))
 
 -- ---- a key that is made
 
@@ -110,46 +114,15 @@ halves f g p q i h = by (ltb i 24) refl
         let back : 24 + (i - 24) ≡ i = omega (arith, past) in
         subst (λ (j : ℕ). f j ≡ g j) back (q (i - 24) (omega (arith, past)))
 
-pub key_agree : (d o o' : List ℕ) → ((e : ℕ) → e < 24 → get_or o e 0 ≡ get_or o' e 0) → key_of d o ≡ key_of d o'
+pub key_is : (d o : List ℕ) → length d ≡ 24 → length o ≡ 24 → d ++ o ≡ key_of d o
 unfolding key_of
-key_agree d o o' p =
-    counted_same (mark d o') (mark d o) 0 48
-    (λ i _ l. halves (mark d o) (mark d o') (λ e h. mark_direction d o e h ∙ sym (mark_direction d o' e h)) (λ e h. mark_open d o e ∙ p e h ∙ sym (mark_open d o' e)) i l)
-
--- the directions and open treatments of n elements stand in it
-pub record Marked (n : ℕ) (key d o : List ℕ) : Type 0 where
-  pub long : length key ≡ 48
-  pub of_directions : (e : ℕ) → e < n → get_or key e 0 ≡ get_or d e 0
-  pub of_opens : (e : ℕ) → e < n → get_or key (24 + e) 0 ≡ get_or o e 0
-
-pub none_marked : (key d o : List ℕ) → length key ≡ 48 → Marked 0 key d o
-none_marked key d o p = record { long = p; of_directions = λ e h. absurd (omega arith); of_opens = λ e h. absurd (omega arith) }
-
-one_more : (n : ℕ) (f g : ℕ → ℕ) → ((i : ℕ) → i < n → f i ≡ g i) → f n ≡ g n → (i : ℕ) → i < n + 1 → f i ≡ g i
-one_more n f g p q i h =
-    let le : i ≤ n = omega arith in
-    ⊎_elim (λ z. subst (λ (j : ℕ). f j ≡ g j) (sym z) q) (λ z. p i z) (eq-or-lt_of_le le)
-
-pub one_more_marked : (e : ℕ) (key d o : List ℕ) (x y : ℕ) → e < 24 → x ≡ get_or d e 0 → y ≡ get_or o e 0 → Marked e key d o → Marked (e + 1) (set (set key e x) (24 + e) y) d o
-one_more_marked e key d o x y few x_is y_is k =
-    let long' : length (set key e x) ≡ 48 = length-set key e x ∙ k.long in
-    record {
-      long = length-set (set key e x) (24 + e) y ∙ long';
-      of_directions =
-          one_more e (λ i. get_or (set (set key e x) (24 + e) y) i 0) (λ i. get_or d i 0)
-          (λ i h. get_or-set_other (set key e x) (24 + e) i y 0 (λ q. omega (arith, q)) ∙ get_or-set_other key e i x 0 (λ q. omega (arith, q)) ∙ k.of_directions i h)
-          (get_or-set_other (set key e x) (24 + e) e y 0 (λ q. omega (arith, q)) ∙ get_or-set_same key e x 0 (omega (arith, k.long)) ∙ x_is);
-      of_opens =
-          one_more e (λ i. get_or (set (set key e x) (24 + e) y) (24 + i) 0) (λ i. get_or o i 0)
-          (λ i h. get_or-set_other (set key e x) (24 + e) (24 + i) y 0 (λ q. omega (arith, q)) ∙ get_or-set_other key e (24 + i) x 0 (λ q. omega (arith, q)) ∙ k.of_opens i h)
-          (get_or-set_same (set key e x) (24 + e) y 0 (omega (arith, long')) ∙ y_is);
-    }
-
-pub all_marked : (n : ℕ) (key d o : List ℕ) → Marked n key d o → 24 ≤ n → key ≡ key_of d o
-unfolding key_of
-all_marked n key d o k h =
-    let own : ℕ → ℕ = λ i. get_or key i 0 in
-    sym (take_all 48 key (omega (arith, k.long)))
-    ∙ run key 0 0 48 (omega (arith, k.long))
+key_is d o hd ho =
+    let own : ℕ → ℕ = λ i. get_or (d ++ o) i 0 in
+    let long : length (d ++ o) ≡ 48 = omega (arith, length-append d o, hd, ho) in
+    sym (take_all 48 (d ++ o) (omega (arith, long)))
+    ∙ run (d ++ o) 0 0 48 (omega (arith, long))
     ∙ counted_same (mark d o) own 0 48
-    (λ i _ l. halves own (mark d o) (λ e p. k.of_directions e (omega (arith, h, p)) ∙ sym (mark_direction d o e p)) (λ e p. k.of_opens e (omega (arith, h, p)) ∙ sym (mark_open d o e)) i l)
+    (λ i _ l.
+    halves own (mark d o)
+    (λ e p. direction_in d o e hd p ∙ sym (mark_direction d o e p))
+    (λ e p. open_behind d o e hd ∙ sym (mark_open d o e)) i l)

@@ -8,7 +8,7 @@ use lib.Ieee.Bits.{nan_bits_above, nan_bits_is}
 use lib.Ieee.Compare.{differs_from_itself, nan_differs}
 use borrow.Author.Tests.{le-ltb, lt-ltb}
 
-nan_only : (x : Float) → T (is_nan x) → x ≡ nan
+pub nan_only : (x : Float) → T (is_nan x) → x ≡ nan
 unfolding is_nan
 nan_only nan t = refl
 nan_only (inf s) t = absurd t
@@ -34,3 +34,15 @@ unfolding is_nan
 alike_no_nan nan e = absurd (subst T (sym nan_differs ∙ e) tt)
 alike_no_nan (inf s) e = tt
 alike_no_nan (fin s m d) e = tt
+
+false_by : (b : Bool) → T (not b) → false ≡ b
+false_by true t = absurd t
+false_by false t = refl
+
+differs_by : (x : Float) (b : Bool) → ne x x ≡ b → b ≡ is_nan x
+unfolding is_nan
+differs_by x true e = rw (differs_nan x e) refl
+differs_by x false e = false_by (is_nan x) (alike_no_nan x e)
+
+pub differs_is : (x : Float) → ne x x ≡ is_nan x
+differs_is x = differs_by x (ne x x) refl

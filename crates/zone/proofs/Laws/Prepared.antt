@@ -21,13 +21,13 @@ use Rattle.solver.proofs.Laws.Loads.{load_divisor}
 use Rattle.solver.proofs.Laws.Result.{ok_not_refused}
 use Rattle.zone.specs.declared.record.zone_record.Zone.{Zone}
 use Rattle.zone.specs.declared.format.conditions.Conditions.{Conditions}
-use Rattle.zone.specs.declared.hour.time_step.ZoneTerms.{ZoneTerms}
 use Rattle.zone.specs.Record.BuildingElement.{standard_coefficients}
 use Rattle.zone.specs.Physics.Ventilation.{calc_vent_heat_transfer_coeff}
 use Rattle.zone.specs.Physics.CalcTemperatures.{calc_temperatures}
 use Rattle.zone.specs.Hour.Demand.{delta_t, temperatures_with}
 use Rattle.zone.specs.Inner.Assembly.{with_gains}
 use Rattle.zone.specs.Inner.Assembled.{
+  ZoneTerms,
   Assembled,
   assembled,
   zone_diagonal_from,

@@ -1,21 +1,18 @@
 -- The demand of an hour that is prepared (specs/Inner/Demand.antt, Hour.antt) against the definitions: each part hands on the last column of the rate
 -- that it leaves, and that rate is valid.
+use Rattle.std.specs.Prelude.{None, Option, Some}
 use mathlib.Core.Path.{◌≡◌, refl, ap, fun_ext, ◌∙◌}
 use mathlib.Core.Bool.{Bool, true, false, cond, not, ◌&&◌}
-use mathlib.Core.List.{List, []}
+use mathlib.Core.List.{List}
 use Prim.Native.Nat.{ℕ}
 use lib.Ieee.{Float, lt, ne}
 use Rattle.solver.specs.Closeness.{close_in_windows_test}
 use Rattle.solver.specs.Result.{Result, ok, refused, bind, require}
 use Rattle.solver.specs.FastSolver.{at_most24}
-use Rattle.zone.specs.declared.record.building_element.ElementHour.{ElementHour}
 use Rattle.zone.specs.declared.record.zone_record.Zone.{Zone}
 use Rattle.zone.specs.declared.format.conditions.Conditions.{Conditions}
-use Rattle.zone.specs.declared.format.conditions.HourFront.{HourFront}
 use Rattle.zone.specs.declared.format.conditions.AirChangesPerHourArgument.{AirChangesPerHourArgument}
 use Rattle.zone.specs.declared.format.conditions.AirChangesPerHourArgument.TheVariants.{Cooling, TargetAndWindowsOpen}
-use Rattle.zone.specs.declared.calls.state.AchToTriggerHeating.{AchToTriggerHeating}
-use Rattle.zone.specs.declared.calls.state.AchToTriggerHeating.TheVariants.{Absent, At}
 use Rattle.zone.specs.declared.calls.state.Demand.{Demand}
 use Rattle.zone.specs.declared.hour.windows.VentilationChoice.{VentilationChoice}
 use Rattle.zone.specs.declared.hour.load.HeatCoolLoad.{HeatCoolLoad}
@@ -24,7 +21,6 @@ use Rattle.zone.specs.declared.hour.hour.Meeting.{Meeting}
 use Rattle.zone.specs.declared.hour.hour.Asked.{Asked}
 use Rattle.zone.specs.declared.hour.hour.MetLoad.{MetLoad}
 use Rattle.zone.specs.Record.BuildingElement.{standard_coefficients}
-use Rattle.zone.specs.Inner.Lent.{hour_of}
 use Rattle.zone.specs.Physics.Slots.{air}
 use Rattle.zone.specs.Physics.System.{area_el_total}
 use Rattle.zone.specs.Physics.Ventilation.{calc_vent_heat_transfer_coeff}
@@ -46,7 +42,6 @@ use Rattle.zone.specs.Inner.Demand.{
 }
 use Rattle.zone.specs.Inner.Hour.{met_load, update_in, met_in, demand_met_in, answer_in, met_with, demand_solved, update_solved, hour_solved}
 use Rattle.zone.proofs.Laws.Assembled.{control_by_lem}
-use Rattle.zone.proofs.Laws.HourFront.{answer_front}
 use Rattle.zone.proofs.Laws.Prepared.{prepared_is, load_at, accepted_valid}
 use Rattle.zone.proofs.Laws.Demand.{towards_rate}
 
@@ -118,7 +113,7 @@ module _ (z : Zone) (t : List Float) (h : Conditions) where
   abbrev too_warm : List Float → Bool
   too_warm extra = lt h.temp_setpnt_cool (control extra) && not (close_in_windows_test (control extra) h.temp_setpnt_cool)
 
-  cool_at : (target temp_free ach : Float) (trigger : AchToTriggerHeating) → rate_valid p (last target) ≡ true →
+  cool_at : (target temp_free ach : Float) (trigger : Option Float) → rate_valid p (last target) ≡ true →
       Handed chosen (cool_by_windows p z.volume control h target temp_free ach trigger (last target))
       (bind (free_temperatures standard_coefficients z t h ach) λ extra.
       ok (cond (too_warm extra) (ventilated temp_free target trigger) (ventilated (control extra) ach trigger)))
@@ -133,16 +128,16 @@ module _ (z : Zone) (t : List Float) (h : Conditions) where
       Handed chosen (cooling_potential p z.volume control h (zone_temperatures control free) a (last (ach_target a)))
       (calc_cooling_potential_from_ventilation standard_coefficients z t h free a)
   unfolding cooling_potential choose_rate with_choice windows_cool rate_to_reach ach_to_reach calc_cooling_potential_from_ventilation
-  potential_at free (Cooling ach) k = hands (ventilated (control free) ach Absent) k
+  potential_at free (Cooling ach) k = hands (ventilated (control free) ach None) k
   potential_at free (TargetAndWindowsOpen target windows_open) k =
       handed_if chosen (ne windows_open target) _ _ _ _
       (handed_on (λ _. windows_open) chosen _ _ _ _ (free_at_lem windows_open) λ vent_max _.
       let reach = ach_to_reach standard_coefficients z t h target windows_open free vent_max in
-      let trigger = At (reach h.temp_setpnt_heat) in
+      let trigger = Some (reach h.temp_setpnt_heat) in
       handed_if chosen (lt (control vent_max) (control free) && lt h.temp_setpnt_cool_vent (control free) && lt h.avg_air_supply_temp (air free)) _ _ _ _
       (cool_at target (control free) (reach h.temp_setpnt_cool_vent) trigger k)
       (hands (ventilated (control free) target trigger) k))
-      (hands (ventilated (control free) target Absent) k)
+      (hands (ventilated (control free) target None) k)
 
   -- `demand_for_load`, by the last column of the chosen rate
   loaded_at : (v : VentilationChoice) (w : HeatCoolLoad) → rate_valid p (last (chosen v)) ≡ true →
@@ -209,16 +204,14 @@ module _ (z : Zone) (t : List Float) (h : Conditions) where
   asked_solved (Asked.Demand meeting) before = met_solved meeting before
   asked_solved (Asked.Update gains fraction ach) before = update_solved_lem gains fraction ach
 
--- from the areas of its elements, and the front of its conditions
-pub answer_solved : (z : Zone) (t : List Float) (h : HourFront) (hours : List ElementHour) (area : List Float) (total : Float) →
+-- from the areas of its elements
+pub answer_solved : (z : Zone) (t : List Float) (h : Conditions) (area : List Float) (total : Float) →
     area ≡ areas_of z →
     total ≡ area_el_total (at_most24 z.count) z.building_elements →
     (asked : Asked) (before : List Float) →
-    answer_in (prepare (hour_system z t (hour_of h hours))) z.volume (control_by z.temp_setpnt_basis z.count area total) (hour_of h []) z.useful_area asked before
-    ≡ hour_solved z t (hour_of h hours) asked before
-answer_solved z t h hours area total area_is total_is asked before =
-    let p = prepare (hour_system z t (hour_of h hours)) in
+    answer_in (prepare (hour_system z t h)) z.volume (control_by z.temp_setpnt_basis z.count area total) h z.useful_area asked before
+    ≡ hour_solved z t h asked before
+answer_solved z t h area total area_is total_is asked before =
     let control : control_by z.temp_setpnt_basis z.count area total ≡ control_temperature z = rw (area_is, total_is) (fun_ext (control_by_lem z)) in
-    ap (λ (c : List Float → Float). answer_in p z.volume c (hour_of h []) z.useful_area asked before) control
-    ∙ answer_front p z.volume (control_temperature z) h hours z.useful_area asked before
-    ∙ asked_solved z t (hour_of h hours) asked before
+    ap (λ (c : List Float → Float). answer_in (prepare (hour_system z t h)) z.volume c h z.useful_area asked before) control
+    ∙ asked_solved z t h asked before

@@ -1,35 +1,28 @@
--- The tests of lists and elements, one by one.
-use Prim.Native.Nat.{ℕ, ◌+◌, ◌*◌, ◌%◌, ◌^◌, ◌<◌, ◌≤◌}
-use mathlib.Core.Path.{◌≡◌, refl, sym, ap, ◌∙◌}
-use mathlib.Core.Bool.{Bool, true, false, ◌&&◌}
-use mathlib.Core.List.{List}
+-- The tests of lists, of open treatments and of counts.
+use Prim.Native.Nat.{ℕ, ◌*◌, ◌%◌, ◌^◌, ◌<◌, ◌≤◌}
+use mathlib.Core.Path.{◌≡◌, refl, ap}
+use mathlib.Core.Bool.{Bool, true, ◌&&◌}
+use mathlib.Core.List.{List, [], ◌∷◌}
 use native.Mathlib.Omega.{arith}
 use native.Mathlib.Nat.{mod-eq_of_lt, one-mul}
 use borrow.Author.Tests.{leb-true}
 use lib.Pow.{pow_mono}
 use lib.Dec.{leb}
-use lib.ListN.{length, take, drop, get_or}
-use lib.Ieee.{Float, nan}
-use Rattle.solver.specs.Result.{Result, ok, refused, require}
+use lib.Ieee.{Float}
+use Rattle.std.specs.List.{list_all}
+use Rattle.solver.specs.Result.{ok, require}
 use Rattle.solver.proofs.Laws.Result.{bind_ok, require_ok}
 use Rattle.zone.specs.Record.Numbers.{structure}
 use Rattle.zone.specs.Check.Ranges.{all_in}
-use Rattle.zone.specs.Check.ZoneTest.{count_valid, counts_test, verdict_of}
+use Rattle.zone.specs.Check.ZoneTest.{count_valid, counts_test}
 use Rattle.zone.specs.declared.record.zone_record.Zone.{Zone}
-use Rattle.zone.specs.declared.record.zone_record.Verdict.{Verdict}
-use Rattle.zone.specs.declared.record.zone_record.Verdict.TheVariants.{Accepted, Refused}
-use Rattle.zone.specs.Inner.Verdict.{verdict_res}
-use Rattle.zone.proofs.Laws.Lists.{from}
 use Rattle.solver.proofs.Laws.Tests.{and_true}
 
-module _ (range : Float → Bool) (a : List Float) (i n : ℕ) (h : i < n) (r : n ≤ length a) where
-  pub one_out : range (get_or a i nan) ≡ false → all_in range (drop i (take n a)) ≡ false
-  unfolding all_in
-  one_out e = rw (from a i n nan h r, e)
-
-  pub one_in : range (get_or a i nan) ≡ true → all_in range (drop i (take n a)) ≡ all_in range (drop (i + 1) (take n a))
-  unfolding all_in
-  one_in e = rw (from a i n nan h r, e)
+-- a test of each of a list, as an iterator's `all` makes it
+pub all_in_is : (range : Float → Bool) (a : List Float) → list_all range a ≡ all_in range a
+unfolding all_in
+all_in_is range [] = refl
+all_in_is range (x ∷ a) = ap (λ b. range x && b) (all_in_is range a)
 
 pub small_power : (t : ℕ) → t < 8 → (1 * 2 ^ t) % 256 ≡ 2 ^ t
 small_power t h =
@@ -39,23 +32,6 @@ small_power t h =
 -- a byte is below any power from the eighth on
 pub byte_below : (b t : ℕ) → b < 256 → 8 ≤ t → b < 2 ^ t
 byte_below b t h r = omega (arith, pow_mono {i = 8} {j = t} r)
-
--- what a verdict tells of the test that gave it
-pub verdict_accepted : (r : Result (Unit {0})) → verdict_of r ≡ Accepted → r ≡ ok tt
-verdict_accepted (ok tt) e = refl
-verdict_accepted (refused a b) e = absurd (let z : ◌≡◌ {A = ℕ} 0 1 = cc in omega arith)
-
-pub verdict_refused : (r : Result (Unit {0})) (a b : ℕ) → verdict_of r ≡ Refused a b → r ≡ refused a b
-verdict_refused (ok tt) a b e = absurd (let z : ◌≡◌ {A = ℕ} 0 1 = cc in omega arith)
-verdict_refused (refused x y) a b e = cc
-
--- and a verdict with its value
-module _ {A : Type 0} (v : Verdict) (x : A) (r : Result A) (e : verdict_res v x ≡ r) where
-  pub res_accepted : v ≡ Accepted → r ≡ ok x
-  res_accepted p = sym e ∙ ap (λ (w : Verdict). verdict_res w x) p
-
-  pub res_refused : (n i : ℕ) → v ≡ Refused n i → r ≡ refused n i
-  res_refused n i p = sym e ∙ ap (λ (w : Verdict). verdict_res w x) p
 
 pub count_few : (a : Bool) (n : ℕ) → (a && leb n 24) ≡ true → n ≤ 24
 count_few a n e = leb-true n 24 (and_true a (leb n 24) e).1

@@ -1,30 +1,33 @@
 -- A test of each of a list, one by one.
 use Prim.Native.Nat.{ℕ, zero, suc, ◌+◌, ◌<◌, ◌≤◌}
-use mathlib.Core.Path.{◌≡◌}
+use mathlib.Core.Path.{◌≡◌, sym, ◌∙◌}
 use mathlib.Core.Bool.{Bool, true, false}
 use mathlib.Core.List.{List, [], ◌∷◌}
 use native.Mathlib.Omega.{arith}
-use lib.ListN.{length, take, drop, get_or}
-use Rattle.solver.specs.Result.{ok, refused, require_at}
+use lib.ListN.{length, take, drop, get_or, drop_of_length-le}
+use Rattle.solver.specs.Result.{Result, ok, refused, require_at}
 use Rattle.solver.specs.Refusals.{RefusesOnly, accepts}
+use Rattle.solver.proofs.Laws.Parts.{drop_next}
 use Rattle.solver.proofs.Laws.Refusals.{test_refuses}
 use Rattle.solver.proofs.Laws.Result.{bind_ok, require_ok}
 use Rattle.zone.specs.Check.ZoneTest.{all_required}
-use Rattle.zone.proofs.Laws.Lists.{from, none_left}
 
-module _ {A : Type 0} (test : A → Bool) (number : ℕ) (l : List A) (i n : ℕ) where
-  module _ (d : A) (h : i < n) (r : n ≤ length l) where
-    pub required_out : test (get_or l i d) ≡ false → all_required test number (drop i (take n l)) (i + 1) ≡ refused number (i + 1)
+-- a loop over the list, whose invariant is that the answer is that of what is left
+module _ {A : Type 0} (test : A → Bool) (number : ℕ) (l : List A) (i : ℕ) (w : Result (Unit {0})) (inv : all_required test number (drop i l) (i + 1) ≡ w) where
+  module _ (d : A) (h : i < length l) where
+    pub required_out : test (get_or l i d) ≡ false → refused number (i + 1) ≡ w
     unfolding all_required
-    required_out e = rw (from l i n d h r, e)
+    required_out e = let turn : all_required test number (drop i l) (i + 1) ≡ refused number (i + 1) = rw (drop_next l i d h, e) in sym turn ∙ inv
 
-    pub required_in : test (get_or l i d) ≡ true → all_required test number (drop i (take n l)) (i + 1) ≡ all_required test number (drop (i + 1) (take n l)) (i + 1 + 1)
+    pub required_in : test (get_or l i d) ≡ true → all_required test number (drop (i + 1) l) (i + 1 + 1) ≡ w
     unfolding all_required
-    required_in e = rw (from l i n d h r, e)
+    required_in e =
+        let turn : all_required test number (drop i l) (i + 1) ≡ all_required test number (drop (i + 1) l) (i + 1 + 1) = rw (drop_next l i d h, e) in
+        sym turn ∙ inv
 
-  pub required_done : n ≤ i → all_required test number (drop i (take n l)) (i + 1) ≡ ok tt
+  pub required_end : length l ≤ i → ok tt ≡ w
   unfolding all_required
-  required_done h = rw (none_left l i n h)
+  required_end h = let turn : all_required test number (drop i l) (i + 1) ≡ ok tt = rw (drop_of_length-le l h) in sym turn ∙ inv
 
 -- where none is refused, each of the list passes
 pub required_each : {A : Type 0} (test : A → Bool) (number : ℕ) (d : A) (n : ℕ) (l : List A) (i : ℕ) (u : Unit {0}) → all_required test number (take n l) i ≡ ok u

@@ -7,29 +7,19 @@ use native.Mathlib.Omega.{arith}
 use borrow.Author.Tests.{le-leb, lt-leb, leb-true, eq-eqb, ne_eqb, eqb-true}
 use lib.Dec.{leb, eqb}
 use lib.ListN.{length}
-use Rattle.solver.specs.Result.{Result, ok, refused, require, require_at}
+use Rattle.solver.specs.Result.{ok, refused, require, require_at}
 use Rattle.solver.proofs.Laws.Result.{bind_ok, require_ok, ok_inj}
 use Rattle.zone.specs.Record.Numbers.{head_short, head_length, head_version, structure}
 use Rattle.zone.specs.Format.ElementLayout.{kind_valid_at, size_at}
 use Rattle.zone.specs.Format.Layout.{length_field, shortest_length, longest_length, length_size, version_in, basis_in, count_in, first_element, element_floats}
 use Rattle.zone.specs.Check.ZoneTest.{count_valid}
 use Rattle.zone.specs.Format.Head.{elements_end, structure_of}
-use Rattle.zone.specs.Inner.Format.{structure_within, extent_answer}
-use Rattle.zone.specs.declared.format.head.Extent.TheVariants.{End, Refused}
+use Rattle.zone.specs.Inner.Format.{structure_within}
 use Rattle.zone.proofs.Laws.Lists.{one_left}
 use Rattle.solver.proofs.Laws.Tests.{and_true}
 
 abbrev pub length_valid : ℕ → Bool
 length_valid n = leb shortest_length n && leb n longest_length
-
--- what an answer tells of the test that gave it
-pub answer_end : (r : Result ℕ) (n : ℕ) → extent_answer r ≡ End n → r ≡ ok n
-answer_end (ok m) n e = cc
-answer_end (refused a b) n e = absurd (let z : ◌≡◌ {A = ℕ} 0 1 = cc in omega arith)
-
-pub answer_refused : (r : Result ℕ) (a b : ℕ) → extent_answer r ≡ Refused a b → r ≡ refused a b
-answer_refused (ok m) a b e = absurd (let z : ◌≡◌ {A = ℕ} 0 1 = cc in omega arith)
-answer_refused (refused x y) a b e = cc
 
 module _ (s : List ℕ) (end n i p : ℕ) (h : i < n) where
   pub end_short : end < p + element_floats → elements_end s end (n - i) i p ≡ refused head_length 0
@@ -47,6 +37,10 @@ module _ (s : List ℕ) (end n i p : ℕ) (h : i < n) where
   pub end_next : p + element_floats ≤ end → kind_valid_at s p ≡ true → p + size_at s p ≤ end → elements_end s end (n - i) i p ≡ elements_end s end (n - (i + 1)) (i + 1) (p + size_at s p)
   unfolding elements_end
   end_next a b d = rw (one_left n i h, le-leb (p + element_floats) end a, b, le-leb (p + size_at s p) end d)
+
+pub end_none : (s : List ℕ) (end n i p : ℕ) → n ≤ i → elements_end s end (n - i) i p ≡ ok p
+unfolding elements_end
+end_none s end n i p h = let none : n - i ≡ 0 = omega arith in rw none
 
 -- an element of accepted ones is whole
 pub record Whole (s : List ℕ) (end left i p q : ℕ) : Type 0 where
@@ -90,9 +84,9 @@ module _ (s : List ℕ) (end : ℕ) where
       unfolding structure_within
       within_over p e h = rw (eq-eqb (version_in s) 1 v, f, e, ne_eqb p end h)
 
-      pub within_end : (p : ℕ) → elements_end s end (count_in s) 0 first_element ≡ ok p → p ≡ end → structure_within s end ≡ ok p
+      pub within_end : (p : ℕ) → elements_end s end (count_in s) 0 first_element ≡ ok p → p ≡ end → structure_within s end ≡ ok end
       unfolding structure_within
-      within_end p e h = rw (eq-eqb (version_in s) 1 v, f, e, eq-eqb p end h, h)
+      within_end p e h = rw (eq-eqb (version_in s) 1 v, f, e, eq-eqb p end h)
 
 module _ (s : List ℕ) where
   pub too_short : length s < 4 → structure_of s ≡ refused head_short 0

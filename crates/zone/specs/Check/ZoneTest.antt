@@ -1,6 +1,6 @@
 -- A zone given as a record, tested as its head would be: 4, then 5.
 use Rattle.std.specs.Prelude.{ℕ, ◌+◌, Bool, ◌&&◌, List, [], ◌∷◌, take, leb}
-use Rattle.solver.specs.Result.{Result, ok, refused, bind, require, require_at}
+use Rattle.solver.specs.Result.{Result, ok, bind, require, require_at}
 use Rattle.zone.specs.Record.Numbers.{structure, zone_value}
 use Rattle.zone.specs.Record.BuildingElement.{number_of_nodes}
 use Rattle.zone.specs.Format.ElementLayout.{h_count, treatments_valid}
@@ -8,8 +8,6 @@ use Rattle.zone.specs.Check.Ranges.{area_range, pitch_range, coefficient_range, 
 use Rattle.zone.specs.declared.record.building_element.ElementHour.{ElementHour}
 use Rattle.zone.specs.declared.record.building_element.Element.{Element}
 use Rattle.zone.specs.declared.record.zone_record.Zone.{Zone}
-use Rattle.zone.specs.declared.record.zone_record.Verdict.{Verdict}
-use Rattle.zone.specs.declared.record.zone_record.Verdict.TheVariants.{Accepted, Refused}
 
 -- each of a list passes a test, or the first that does not is refused; the first of the list has this index
 unfoldable pub all_required : {A : Type 0} → (A → Bool) → (number : ℕ) → List A → (index : ℕ) → Result (Unit {0})
@@ -77,7 +75,3 @@ unfoldable pub zone_test : Zone → Result (Unit {0})
 zone_test z =
     bind (counts_test z) λ _.
     values_test z
-
-abbrev pub verdict_of : Result (Unit {0}) → Verdict
-verdict_of (ok _) = Accepted
-verdict_of (refused number index) = Refused number index

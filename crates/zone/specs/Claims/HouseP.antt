@@ -1,5 +1,6 @@
 -- House P: the marked rows of document 01 in one table under one claim, by computing; its head, start-up and hour. House and hours are bytes,
 -- read by the definitions that the contracts cite.
+use Rattle.std.specs.Prelude.{None}
 use Rattle.std.specs.Prelude.{ℕ, ◌≡◌, Bool, true, false, ◌&&◌, List, [], ◌∷◌, ◌++◌, get_or, replicate, eqb, Float}
 use Rattle.std.specs.Float.{binary64, nan}
 use Rattle.std.specs.Float.Ieee.{neg, of_bits, to_bits}
@@ -19,7 +20,6 @@ use Rattle.zone.specs.declared.format.limits.Limits.{Limits}
 use Rattle.zone.specs.declared.physics.balance.HeatBalance.{HeatBalance}
 use Rattle.zone.specs.declared.calls.state.State.{State}
 use Rattle.zone.specs.declared.calls.state.Demand.{Demand}
-use Rattle.zone.specs.declared.calls.state.AchToTriggerHeating.TheVariants.{Absent}
 
 -- 1.4 × 10^32: no ventilation control
 abbrev no_control : Float
@@ -62,7 +62,7 @@ abbrev pub twenty : State
 twenty = record { nodes = 3; temps = decimal 20 0 ∷ decimal 20 0 ∷ decimal 20 0 ∷ replicate 118 zero64 }
 
 abbrev pub no_demand : Demand
-no_demand = record { space_heat_demand = zero64; space_cool_demand = zero64; ach_cooling = zero64; ach_to_trigger_heating = Absent }
+no_demand = record { space_heat_demand = zero64; space_cool_demand = zero64; ach_cooling = zero64; ach_to_trigger_heating = None }
 
 -- its head is 180 bytes; start-up finds 20, 20, 20; an hour with setpoints 20 and 24 wants nothing and leaves them, in each version; its heat balance is
 -- left open here

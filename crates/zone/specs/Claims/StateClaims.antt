@@ -1,14 +1,12 @@
 -- "node temperatures are a state by value, handed back by each call": a state that is handed back passes the next call's 6.
 use Rattle.std.specs.Prelude.{ℕ, ◌≡◌, List, Float}
-use Rattle.solver.specs.Result.{Result, ok}
+use Rattle.solver.specs.Result.{Result, ok, refused}
 use Rattle.zone.specs.declared.record.building_element.Coefficients.{Coefficients}
 use Rattle.zone.specs.declared.record.zone_record.Zone.{Zone}
 use Rattle.zone.specs.declared.format.limits.Limits.{Limits}
 use Rattle.zone.specs.declared.physics.balance.HeatBalance.{HeatBalance}
 use Rattle.zone.specs.declared.calls.state.State.{State}
 use Rattle.zone.specs.declared.calls.state.Demand.{Demand}
-use Rattle.zone.specs.declared.calls.state.UpdateAnswer.TheVariants as UpdateAnswer
-use Rattle.zone.specs.declared.calls.state.HourAnswer.TheVariants as HourAnswer
 use Rattle.zone.specs.Calls.State.{zone_and_state_test}
 use Rattle.zone.specs.Calls.Answers.{demand_reply, update_reply, hour_step_reply}
 use Rattle.zone.specs.Calls.Hour.{update_temperatures, HourResult, hour_step}
@@ -27,6 +25,6 @@ module _ (c : Coefficients) (z : Zone) where
 
 -- "hands back unchanged the temperatures": a demand changes no state, a refused update or hour step neither
 pub record StateKept : Type 0 where
-  pub demands : (s : State) (x : Result Demand) → (demand_reply s x).state ≡ s
-  pub updates : (s : State) (x : Result (State × HeatBalance)) (n i : ℕ) → (update_reply s x).answer ≡ UpdateAnswer.Refused n i → (update_reply s x).state ≡ s
-  pub hour_steps : (s : State) (x : Result HourResult) (n i : ℕ) → (hour_step_reply s x).answer ≡ HourAnswer.Refused n i → (hour_step_reply s x).state ≡ s
+  pub demands : (s : State) (x : Result Demand) → (demand_reply s x).1 ≡ s
+  pub updates : (s : State) (x : Result (State × HeatBalance)) (n i : ℕ) → (update_reply s x).0 ≡ refused n i → (update_reply s x).1 ≡ s
+  pub hour_steps : (s : State) (x : Result HourResult) (n i : ℕ) → (hour_step_reply s x).0 ≡ refused n i → (hour_step_reply s x).1 ≡ s

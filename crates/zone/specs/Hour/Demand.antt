@@ -1,4 +1,5 @@
 -- `space_heat_cool_demand`: BS EN ISO 52016-1, 6.5.5.2, steps 1 to 4. Each operation rounds once, in the order written.
+use Rattle.std.specs.Prelude.{None, Option, Some}
 use Rattle.std.specs.Prelude.{cond, not, ◌&&◌, List, Float}
 use Rattle.std.specs.Float.Ieee.{lt, ne, neg}
 use Rattle.solver.specs.F64.{◌+ᶠ◌, ◌-ᶠ◌, ◌*ᶠ◌, ◌/ᶠ◌, decimal, zero64}
@@ -16,8 +17,6 @@ use Rattle.zone.specs.Physics.Slots.{air}
 use Rattle.zone.specs.Physics.Ventilation.{ach_req_to_reach_temperature}
 use Rattle.zone.specs.Physics.TempOperative.{temp_operative}
 use Rattle.zone.specs.Physics.CalcTemperatures.{calc_temperatures}
-use Rattle.zone.specs.declared.calls.state.AchToTriggerHeating.{AchToTriggerHeating}
-use Rattle.zone.specs.declared.calls.state.AchToTriggerHeating.TheVariants.{Absent, At}
 use Rattle.zone.specs.declared.calls.state.Demand.{Demand}
 use Rattle.zone.specs.declared.hour.windows.VentilationChoice.{VentilationChoice}
 use Rattle.zone.specs.declared.hour.load.HeatCoolLoad.{HeatCoolLoad}
@@ -54,7 +53,7 @@ unfoldable pub frac_conv_gains_heat_cool : Conditions → Float
 frac_conv_gains_heat_cool h = share_or_zero h.gains_heat_cool_convective (gains_heat_cool h)
 
 -- what ventilation makes of the hour: the free temperature, the chosen rate, the rate that triggers heating
-abbrev pub ventilated : (temp_free ach : Float) → AchToTriggerHeating → VentilationChoice
+abbrev pub ventilated : (temp_free ach : Float) → Option Float → VentilationChoice
 ventilated temp_free ach trigger =
     record { temp_free = temp_free; ach_cooling = ach; ach_to_trigger_heating = trigger }
 
@@ -112,13 +111,13 @@ module _ (c : Coefficients) (z : Zone) (t : List Float) (h : Conditions) where
   -- calculation with it is always made. The windows are used where they cool; where they do not, or the temperature with them is still above the cooling
   -- setpoint, target rate and free temperature stay. The rate that triggers heating is given in each of these cases
   unfoldable pub calc_cooling_potential_from_ventilation : (free : List Float) → AirChangesPerHourArgument → Result VentilationChoice
-  calc_cooling_potential_from_ventilation free (Cooling ach) = ok (ventilated (control_temperature z free) ach Absent)
+  calc_cooling_potential_from_ventilation free (Cooling ach) = ok (ventilated (control_temperature z free) ach None)
   calc_cooling_potential_from_ventilation free (TargetAndWindowsOpen target windows_open) =
       let temp_free = control_temperature z free in
       cond (ne windows_open target)
       (bind (free_temperatures windows_open) λ vent_max.
       let reach = ach_to_reach target windows_open free vent_max in
-      let trigger = At (reach h.temp_setpnt_heat) in
+      let trigger = Some (reach h.temp_setpnt_heat) in
       let kept = ventilated temp_free target trigger in
       cond (lt (control_temperature z vent_max) temp_free && lt h.temp_setpnt_cool_vent temp_free && lt h.avg_air_supply_temp (air free))
       (let ach = reach h.temp_setpnt_cool_vent in
@@ -127,7 +126,7 @@ module _ (c : Coefficients) (z : Zone) (t : List Float) (h : Conditions) where
       let too_warm = lt h.temp_setpnt_cool temp_extra && not (close_in_windows_test temp_extra h.temp_setpnt_cool) in
       ok (cond too_warm kept (ventilated temp_extra ach trigger)))
       (ok kept))
-      (ok (ventilated temp_free target Absent))
+      (ok (ventilated temp_free target None))
 
   -- the load that is wanted is tried in a second calculation, and the demand found between the two
   unfoldable pub demand_for_load : VentilationChoice → HeatCoolLoad → Result Demand

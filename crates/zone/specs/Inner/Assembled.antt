@@ -12,7 +12,6 @@ use Rattle.zone.specs.declared.record.building_element.ElementHour.{ElementHour}
 use Rattle.zone.specs.declared.record.building_element.Coefficients.{Coefficients}
 use Rattle.zone.specs.declared.format.conditions.Conditions.{Conditions}
 use Rattle.zone.specs.declared.record.zone_record.Zone.{Zone}
-use Rattle.zone.specs.declared.hour.time_step.ZoneTerms.{ZoneTerms}
 use Rattle.zone.specs.Physics.Slots.{air, element, with_terms}
 use Rattle.zone.specs.Physics.System.{area_of, two_nodes_of, area_el_total, share_of, h_ci_at, convective_at, c_int}
 use Rattle.zone.specs.Inner.Assembly.{Chains, chains, element_rows, element_right_sides, couple_row, with_gains}
@@ -39,7 +38,21 @@ module _ (c : Coefficients) (n : ℕ) (es : List Element) where
 unfoldable pub element_sides : ℕ → List Element → List ElementHour → (delta_t : Float) → List Float → List Float → List Float
 element_sides n es hours delta_t t b = repeat 0 n (element_right_sides es hours delta_t t) b
 
--- (38): the terms that neither rate nor load changes, and those of the gains
+-- (38): the number of elements, the terms that neither rate nor load changes, and those of the gains
+pub record ZoneTerms : Type 0 where
+  pub n : ℕ
+  pub area_el_total : Float
+  pub c_int_per_delta_t : Float
+  pub convective : Float
+  pub tb_heat_trans_coeff : Float
+  pub temp_int_air : Float
+  pub temp_ext_air : Float
+  pub avg_supply_temp : Float
+  pub gains_internal : Float
+  pub gains_solar : Float
+  pub f_int_c : Float
+  pub f_sol_c : Float
+
 abbrev pub zone_terms_of : Coefficients → Zone → Conditions → (delta_t : Float) → List Float → ZoneTerms
 zone_terms_of c z hour delta_t t =
     let n = at_most24 z.count in

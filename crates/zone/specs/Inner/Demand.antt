@@ -1,26 +1,22 @@
 -- `calc_cooling_potential_from_ventilation` and `space_heat_cool_demand` in the parts that the code has, of an hour that is prepared: each is given the last
 -- column of the rate before it, and hands on that of the rate that it leaves. prepared_demand (proofs/Laws/PreparedDemand.antt) ties them to the definitions.
+use Rattle.std.specs.Prelude.{None, Option, Some}
 use Rattle.std.specs.Prelude.{Bool, cond, not, ◌&&◌, List, Float}
 use Rattle.std.specs.Float.Ieee.{lt, ne}
-use Rattle.solver.specs.Result.{Result, ok, bind}
+use Rattle.solver.specs.Result.{Result, ok, bind, require}
 use Rattle.solver.specs.Closeness.{close_in_windows_test}
 use Rattle.zone.specs.declared.format.conditions.Conditions.{Conditions}
 use Rattle.zone.specs.declared.format.conditions.AirChangesPerHourArgument.{AirChangesPerHourArgument}
 use Rattle.zone.specs.declared.format.conditions.AirChangesPerHourArgument.TheVariants.{Cooling, TargetAndWindowsOpen}
-use Rattle.zone.specs.declared.calls.state.AchToTriggerHeating.{AchToTriggerHeating}
-use Rattle.zone.specs.declared.calls.state.AchToTriggerHeating.TheVariants.{Absent, At}
 use Rattle.zone.specs.declared.calls.state.Demand.{Demand}
 use Rattle.zone.specs.declared.hour.windows.ZoneTemperatures.{ZoneTemperatures}
 use Rattle.zone.specs.declared.hour.windows.VentilationChoice.{VentilationChoice}
 use Rattle.zone.specs.Physics.Slots.{air}
 use Rattle.zone.specs.Physics.Ventilation.{ach_req_to_reach_temperature}
-use Rattle.solver.specs.Result.{refused, require}
 use Rattle.solver.specs.F64.{zero64}
 use Rattle.solver.specs.Inner.Factored.{solved_res}
 use Rattle.zone.specs.declared.hour.load.HeatCoolLoad.{HeatCoolLoad}
 use Rattle.zone.specs.declared.hour.load.HeatCoolLoad.TheVariants.{NoLoad, Toward}
-use Rattle.zone.specs.declared.hour.cooling_potential.VentilationAnswer.{VentilationAnswer}
-use Rattle.zone.specs.declared.calls.state.DemandAnswer.{DemandAnswer}
 use Rattle.zone.specs.Record.Numbers.{cooling_below_heating, ventilation_below_heating}
 use Rattle.zone.specs.Physics.Ventilation.{calc_vent_heat_transfer_coeff}
 use Rattle.zone.specs.Hour.Demand.{ventilated, wanted, ach_target, gains_upper, frac_upper, interp_heat_cool_demand, demand_record}
@@ -42,19 +38,9 @@ windows_cool h free vent_max =
     && lt h.temp_setpnt_cool_vent free.temp_control
     && lt h.avg_air_supply_temp free.temp_int_air
 
--- an answer with the last column beside it, which counts where it accepts
-abbrev pub ventilation_with : VentilationAnswer → (last : List Float) → Result (VentilationChoice × List Float)
-ventilation_with (VentilationAnswer.Accepted v) last = ok (v, last)
-ventilation_with (VentilationAnswer.Refused number index) last = refused number index
-
--- likewise the last column, or the temperatures after the hour
-abbrev pub answer_with : DemandAnswer → List Float → Result (Demand × List Float)
-answer_with (DemandAnswer.Accepted d) xs = ok (d, xs)
-answer_with (DemandAnswer.Refused number index) xs = refused number index
-
 module _ (p : Prepared) (volume : Float) (control : List Float → Float) (h : Conditions) where
   -- the calculation with the rate that windows need: it is chosen, or the cooling system is used
-  unfoldable pub cool_by_windows : (target temp_free ach : Float) → AchToTriggerHeating → (last : List Float) → Result (VentilationChoice × List Float)
+  unfoldable pub cool_by_windows : (target temp_free ach : Float) → Option Float → (last : List Float) → Result (VentilationChoice × List Float)
   cool_by_windows target temp_free ach trigger last =
       bind (free_in p volume h ach) λ extra.
       let temp_extra = control extra.0 in
@@ -66,7 +52,7 @@ module _ (p : Prepared) (volume : Float) (control : List Float → Float) (h : C
   unfoldable pub with_choice : (target windows_open : Float) (free vent_max : ZoneTemperatures) (last : List Float) → Result (VentilationChoice × List Float)
   with_choice target windows_open free vent_max last =
       let reach = rate_to_reach h target windows_open free vent_max in
-      let trigger = At (reach h.temp_setpnt_heat) in
+      let trigger = Some (reach h.temp_setpnt_heat) in
       cond (windows_cool h free vent_max)
       (cool_by_windows target free.temp_control (reach h.temp_setpnt_cool_vent) trigger last)
       (ok (ventilated free.temp_control target trigger, last))
@@ -77,11 +63,11 @@ module _ (p : Prepared) (volume : Float) (control : List Float → Float) (h : C
       with_choice target windows_open free (zone_temperatures control vent_max.0) last
 
   unfoldable pub cooling_potential : (free : ZoneTemperatures) → AirChangesPerHourArgument → (last : List Float) → Result (VentilationChoice × List Float)
-  cooling_potential free (Cooling ach) last = ok (ventilated free.temp_control ach Absent, last)
+  cooling_potential free (Cooling ach) last = ok (ventilated free.temp_control ach None, last)
   cooling_potential free (TargetAndWindowsOpen target windows_open) last =
       cond (ne windows_open target)
       (choose_rate target windows_open free last)
-      (ok (ventilated free.temp_control target Absent, last))
+      (ok (ventilated free.temp_control target None, last))
 
   -- the demand, by the last column of the chosen rate
   unfoldable pub loaded_demand : VentilationChoice → HeatCoolLoad → (last : List Float) → Result Demand

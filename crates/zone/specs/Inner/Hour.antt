@@ -1,5 +1,6 @@
 -- An hour's calculations, as the code has them: a given load, or the demand and the last calculation where it is met. answer_solved (proofs/Laws/PreparedDemand.antt)
 -- ties `answer_in` to `hour_solved`, and Laws/Hour.antt and StartUp.antt tie that to the calls.
+use Rattle.std.specs.Prelude.{None}
 use Rattle.std.specs.Prelude.{ℕ, Bool, true, List, Float}
 use Rattle.solver.specs.F64.{◌+ᶠ◌, zero64}
 use Rattle.solver.specs.Result.{Result, ok, refused, bind}
@@ -8,7 +9,6 @@ use Rattle.zone.specs.declared.record.zone_record.Zone.{Zone}
 use Rattle.zone.specs.declared.format.conditions.Conditions.{Conditions}
 use Rattle.zone.specs.declared.format.limits.Limits.{Limits}
 use Rattle.zone.specs.declared.calls.state.Demand.{Demand}
-use Rattle.zone.specs.declared.calls.state.AchToTriggerHeating.TheVariants.{Absent}
 use Rattle.zone.specs.declared.hour.hour.Meeting.{Meeting}
 use Rattle.zone.specs.declared.hour.hour.Meeting.TheVariants.{NotMet, WithGains, Alone}
 use Rattle.zone.specs.declared.hour.hour.Asked.{Asked}
@@ -16,6 +16,7 @@ use Rattle.zone.specs.declared.hour.hour.MetLoad.{MetLoad}
 use Rattle.zone.specs.declared.hour.hour.MetLoad.TheVariants.{NoLoad, Load}
 use Rattle.zone.specs.Record.BuildingElement.{standard_coefficients}
 use Rattle.zone.specs.Physics.Ventilation.{calc_vent_heat_transfer_coeff}
+use Rattle.zone.specs.declared.physics.balance.HeatBalance.{HeatBalance}
 use Rattle.zone.specs.Physics.HeatBalance.{heat_balance}
 use Rattle.zone.specs.Hour.Demand.{delta_t, gains_heat_cool, temperatures_with, space_heat_cool_demand, ventilated, demand_record}
 use Rattle.zone.specs.declared.calls.state.State.{State}
@@ -35,7 +36,7 @@ met_load h d Alone = Load (delivered h d) h.frac_convective_heat
 
 -- what stands beside an update, which asks for no demand
 unfoldable pub no_demand : (ach : Float) → Demand
-no_demand ach = demand_record zero64 (ventilated zero64 ach Absent)
+no_demand ach = demand_record zero64 (ventilated zero64 ach None)
 
 -- of an hour that is prepared
 module _ (p : Prepared) (volume : Float) where
@@ -89,10 +90,13 @@ ends z t (refused number index) = true
 abbrev pub settled_state : Zone → Result (Demand × List Float) → Result State
 settled_state z x = bind x λ u. ok (state_of z u.1)
 
--- the hour step, from the demand and the temperatures after it
-abbrev pub stepped : Zone → (version : ℕ) → Limits → (t : List Float) → Conditions → Demand × List Float → Result HourResult
-stepped z version l t h u =
-    let d = u.0 in
+-- the heat balance of the hour step
+abbrev pub step_balance : Zone → (t : List Float) → Conditions → (version : ℕ) → Limits → Demand → (after : List Float) → HeatBalance
+step_balance z t h version l d after =
     let w = delivered_by version l h d in
     let g = gains_heat_cool h +ᶠ w in
-    ok (record { demand = d; state = state_of z u.1; balance = heat_balance standard_coefficients z t h (delta_t h) g (convective_share version h w g) d.ach_cooling u.1 })
+    heat_balance standard_coefficients z t h (delta_t h) g (convective_share version h w g) d.ach_cooling after
+
+-- the hour step, from the demand and the temperatures after it
+abbrev pub stepped : Zone → (version : ℕ) → Limits → (t : List Float) → Conditions → Demand × List Float → Result HourResult
+stepped z version l t h u = ok (record { demand = u.0; state = state_of z u.1; balance = step_balance z t h version l u.0 u.1 })

@@ -15,19 +15,17 @@ use Rattle.zone.specs.declared.record.building_element.Element.{Element}
 use Rattle.zone.specs.declared.record.building_element.Coefficients.{Coefficients}
 use Rattle.zone.specs.declared.record.building_element.ElementHour.{ElementHour}
 use Rattle.zone.specs.declared.format.conditions.Conditions.{Conditions}
-use Rattle.zone.specs.declared.format.conditions.HourFront.{HourFront}
 use Rattle.zone.specs.declared.hour.hour.Asked.{Asked}
 use Rattle.zone.specs.declared.calls.state.Demand.{Demand}
 use Rattle.zone.specs.declared.record.zone_record.Zone.{Zone}
-use Rattle.zone.specs.declared.hour.time_step.ZoneTerms.{ZoneTerms}
 use Rattle.zone.specs.Record.BuildingElement.{direction_code, standard_coefficients}
-use Rattle.zone.specs.Physics.Slots.{air, element, with_terms}
+use Rattle.zone.specs.Physics.Slots.{air, element, element_hour, with_terms}
 use Rattle.zone.specs.Physics.Equations.{rows_of}
 use Rattle.zone.specs.Physics.System.{area_of, two_nodes_of, area_el_total, share_of, direction_at, c_int}
 use Rattle.zone.specs.Inner.Record.{h_ci_by_code}
 use Rattle.zone.specs.Inner.Assembly.{convective_by, Chains, chains, set_rows, couple_row}
-use Rattle.zone.specs.Inner.Assembled.{h_ri_of, element_sides}
-use Rattle.zone.specs.Inner.Lent.{counted, hour_of}
+use Rattle.zone.specs.Inner.Assembled.{ZoneTerms, h_ri_of, element_sides}
+use Rattle.zone.specs.Inner.Counted.{counted}
 use Rattle.zone.specs.Inner.Operative.{areas_of, control_by}
 use Rattle.zone.specs.Inner.Prepared.{Prepared, prepared}
 use Rattle.zone.specs.Inner.Hour.{answer_in}
@@ -40,6 +38,13 @@ direction_code_at c es t e = direction_code (direction_at c es t e)
 -- of all elements
 abbrev pub directions_of : Zone → List Float → List ℕ
 directions_of z t = with_terms (at_most24 z.count) (direction_code_at standard_coefficients z.building_elements t) (replicate 24 0)
+
+-- the open treatments of element e, and of the elements
+abbrev pub treatments_open_at : List ElementHour → ℕ → ℕ
+treatments_open_at hours e = (element_hour hours e).treatments_open
+
+abbrev pub opens_of : Conditions → List ℕ
+opens_of h = with_terms 24 (treatments_open_at h.elements) (replicate 24 0)
 
 -- h_ci by it
 abbrev pub h_ci_in : (directions : List ℕ) → ℕ → Float
@@ -121,7 +126,7 @@ numbers_by z directions delta_t =
 unfoldable pub key_of : (directions opens : List ℕ) → List ℕ
 key_of directions opens = counted (λ i. cond (ltb i 24) (get_or directions i 0) (get_or opens (i - 24) 0)) 0 48
 
--- what the lent arrays hold: whether a factored matrix, and whether its divisors are valid; its sums and timestep; the directions and open treatments that
+-- what is held: whether a factored matrix, and whether its divisors are valid; its sums and timestep; the directions and open treatments that
 -- it was assembled for; the matrix and its last column
 pub data Held : Type 0 where
   held : (flags : List Bool) (numbers : List Float) (key : List ℕ) (a : Arrays) (column : List Float) → Held
@@ -156,7 +161,7 @@ abbrev pub held_with : (numbers : List Float) (key : List ℕ) → Factors → H
 held_with numbers key (factors valid two_nodes diag next prev dense interchanges column) =
     held (true ∷ valid ∷ []) numbers key (arrays two_nodes diag next prev dense interchanges) column
 
--- the hour's matrix, factored in the arrays unless they hold it
+-- the hour's matrix, factored anew unless it is held
 unfoldable pub keep_factors : Zone → (directions opens : List ℕ) (delta_t : Float) → Held → Held
 keep_factors z directions opens delta_t (held flags numbers key a column) =
     cond (same_key (get_or flags 0 false) (get_or numbers 2 nan) delta_t (at_most24 z.count) key directions opens)
@@ -171,17 +176,16 @@ prepared_from s b (factors valid two_nodes diag next prev dense interchanges col
     prepared s valid two_nodes diag next dense interchanges column y (inner_shares n diag prev y (replicate 24 zero64))
 
 unfoldable pub hour_from :
-    Zone → List Float → HourFront → List ElementHour → Asked → (before numbers : List Float) → Factors → Result (Demand × List Float)
-hour_from z t h hours asked before numbers k =
-    let front = hour_of h [] in
+    Zone → List Float → Conditions → Asked → (before numbers : List Float) → Factors → Result (Demand × List Float)
+hour_from z t h asked before numbers k =
     let n = at_most24 z.count in
     answer_in
-    (prepared_from (terms_by standard_coefficients z front (delta_t front) t numbers)
-    (element_sides n z.building_elements hours (delta_t front) t (replicate 121 zero64)) k)
-    z.volume (control_by z.temp_setpnt_basis z.count (areas_of z) (get_or numbers 0 nan)) front z.useful_area asked before
+    (prepared_from (terms_by standard_coefficients z h (delta_t h) t numbers)
+    (element_sides n z.building_elements h.elements (delta_t h) t (replicate 121 zero64)) k)
+    z.volume (control_by z.temp_setpnt_basis z.count (areas_of z) (get_or numbers 0 nan)) h z.useful_area asked before
 
-abbrev pub hour_held : Zone → List Float → HourFront → List ElementHour → Asked → (before : List Float) → Held → Result (Demand × List Float)
-hour_held z t h hours asked before x = hour_from z t h hours asked before (numbers_held x) (factors_held x)
+abbrev pub hour_held : Zone → List Float → Conditions → Asked → (before : List Float) → Held → Result (Demand × List Float)
+hour_held z t h asked before x = hour_from z t h asked before (numbers_held x) (factors_held x)
 
 -- ---- where it is the zone's: `hour_held` is then `hour_solved` (Laws/KeptHour.antt)
 

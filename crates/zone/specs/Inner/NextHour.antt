@@ -10,14 +10,9 @@ use Rattle.zone.specs.declared.hour.hour.Meeting.TheVariants.{WithGains}
 use Rattle.zone.specs.declared.hour.hour.Asked.TheVariants as Asked
 use Rattle.zone.specs.declared.calls.state.State.{State}
 use Rattle.zone.specs.declared.calls.state.Demand.{Demand}
-use Rattle.zone.specs.declared.calls.state.DemandReply.{DemandReply}
-use Rattle.zone.specs.declared.calls.state.DemandAnswer.TheVariants as DemandAnswer
-use Rattle.zone.specs.Physics.Slots.{element_hour}
 use Rattle.zone.specs.Hour.Demand.{delta_t, gains_heat_cool, temperatures_with, space_heat_cool_demand}
 use Rattle.zone.specs.Calls.State.{slots_of, state_of}
-use Rattle.zone.specs.Inner.Lent.{counted}
-use Rattle.zone.specs.Inner.Arrays.{hour_front_of}
-use Rattle.zone.specs.Inner.Kept.{Held, keep_factors, directions_of, hour_held}
+use Rattle.zone.specs.Inner.Kept.{Held, opens_of, keep_factors, directions_of, hour_held}
 use Rattle.zone.specs.Calls.Hour.{tested_hour_and_limits, delivered_by, convective_share}
 
 -- the hour step of a zone and a version that are tested already, and whose heat balance nobody asks for: the demand, and the state after the hour
@@ -35,15 +30,11 @@ abbrev pub solved_next : Zone → Result (Demand × List Float) → Result (Dema
 solved_next z x = bind x λ u. ok (u.0, state_of z u.1)
 
 -- an hour without its heat balance
-abbrev pub next_hour_reply : State → Result (Demand × State) → DemandReply
-next_hour_reply s (ok r) = record { answer = DemandAnswer.Accepted r.0; state = r.1 }
-next_hour_reply s (refused number index) = record { answer = DemandAnswer.Refused number index; state = s }
+abbrev pub next_hour_reply : State → Result (Demand × State) → Result Demand × State
+next_hour_reply s (ok r) = (ok r.0, r.1)
+next_hour_reply s (refused number index) = (refused number index, s)
 
 -- ---- of an hour in a sequence, with a matrix that is held
-
--- the open treatments of the elements
-abbrev pub opens_of : Conditions → List ℕ
-opens_of h = counted (λ e. (element_hour h.elements e).treatments_open) 0 24
 
 -- what is held after the hour: its matrix, where its tests pass
 abbrev pub held_after : Zone → State → Result Conditions → Held → Held
@@ -54,4 +45,4 @@ held_after z s (refused number index) k = k
 unfoldable pub next_hour_from : Zone → (version : ℕ) → Limits → State → List ℕ → Held → Result (Demand × State)
 next_hour_from z version l s bytes k =
     bind (tested_hour_and_limits z version l s bytes) λ h.
-    solved_next z (hour_held z (slots_of z s) (hour_front_of h) h.elements (Asked.Demand (WithGains version l)) (replicate 121 zero64) k)
+    solved_next z (hour_held z (slots_of z s) h (Asked.Demand (WithGains version l)) (replicate 121 zero64) k)

@@ -9,13 +9,11 @@ use Rattle.solver.specs.Result.{Result, ok, refused, bind, require}
 use Rattle.solver.specs.Inner.Columns.{column_of, factor_last}
 use Rattle.solver.specs.Inner.Reduced.{reduce_chains, inner_shares, gather_loaded}
 use Rattle.solver.specs.Inner.Apart.{Columns, columns, factor_apart, substitute_apart}
-use Rattle.solver.specs.Inner.Factored.{solved_res}
-use Rattle.solver.specs.declared.system.Solved.{Solved}
-use Rattle.zone.specs.declared.hour.time_step.ZoneTerms.{ZoneTerms}
+use Rattle.solver.specs.Inner.Factored.{Solved, solved_res}
 use Rattle.zone.specs.Physics.Ventilation.{calc_vent_heat_transfer_coeff}
 use Rattle.zone.specs.declared.format.conditions.Conditions.{Conditions}
 use Rattle.zone.specs.Hour.Demand.{gains_heat_cool, frac_conv_gains_heat_cool}
-use Rattle.zone.specs.Inner.Assembled.{Assembled, assembled, zone_diagonal_from, gains_per_area_from, zone_right_side_from}
+use Rattle.zone.specs.Inner.Assembled.{ZoneTerms, Assembled, assembled, zone_diagonal_from, gains_per_area_from, zone_right_side_from}
 use Rattle.solver.specs.Numbers as SolveNumber
 
 -- the zone's terms; whether the divisors of the factored columns are valid; which elements have two nodes; the adjusted diagonals and the coefficients of

@@ -1,7 +1,7 @@
 -- `reason_for` in the parts that the code has: of each calculation the control temperature and the air's. reason_in_lem (proofs/Laws/Why.antt) ties them to the definition.
 use Rattle.std.specs.Prelude.{cond, not, ◌&&◌, List, Float}
 use Rattle.std.specs.Float.Ieee.{lt, eq}
-use Rattle.solver.specs.Result.{Result, ok, refused, bind}
+use Rattle.solver.specs.Result.{Result, ok, bind}
 use Rattle.solver.specs.Closeness.{close_in_windows_test}
 use Rattle.zone.specs.declared.record.zone_record.Zone.{Zone}
 use Rattle.zone.specs.declared.format.conditions.Conditions.{Conditions}
@@ -10,19 +10,9 @@ use Rattle.zone.specs.declared.format.conditions.AirChangesPerHourArgument.TheVa
 use Rattle.zone.specs.declared.calls.state.Reason.{Reason}
 use Rattle.zone.specs.declared.calls.state.Reason.TheVariants.{NoChoice, NotAboveVentilationSetpoint, NotAboveSupply, WindowsDoNotCool, StillAboveCoolingSetpoint, WindowsEnough}
 use Rattle.zone.specs.declared.hour.windows.ZoneTemperatures.{ZoneTemperatures}
-use Rattle.zone.specs.declared.hour.free.FreeAnswer.{FreeAnswer}
-use Rattle.zone.specs.declared.hour.reason.ReasonAnswer.{ReasonAnswer}
 use Rattle.zone.specs.Record.BuildingElement.{standard_coefficients}
 use Rattle.zone.specs.Hour.Demand.{control_temperature, free_temperatures}
 use Rattle.zone.specs.Inner.Demand.{zone_temperatures, rate_to_reach}
-
-abbrev pub free_answer : Result ZoneTemperatures → FreeAnswer
-free_answer (ok x) = FreeAnswer.Accepted x
-free_answer (refused number index) = FreeAnswer.Refused number index
-
-abbrev pub reason_answer : Result Reason → ReasonAnswer
-reason_answer (ok reason) = ReasonAnswer.Accepted reason
-reason_answer (refused number index) = ReasonAnswer.Refused number index
 
 module _ (z : Zone) (t : List Float) (h : Conditions) where
   -- the calculation without demand at a rate

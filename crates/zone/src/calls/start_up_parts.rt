@@ -1,50 +1,31 @@
 // What start-up begins with, and when its temperatures have settled.
-ghost use Rattle.std.specs.Prelude.{◌≡◌, [], map};
-ghost use Rattle.zone.specs.Inner.Lent.{elements_in, element_hours_in, zone_of, zone_in};
-ghost use Rattle.zone.specs.Inner.Arrays.{hour_front_of, HourSized};
+ghost use Rattle.std.specs.Prelude.{◌≡◌, map};
 ghost use Rattle.zone.specs.Calls.State.{slots_of};
-ghost use Rattle.zone.specs.Calls.StartUp.{first_hour, start_up_conditions, temp_start, start_state, all_close, close, pass};
+ghost use Rattle.zone.specs.Calls.StartUp.{first_hour, start_up_conditions, temp_start, start_state, all_close, close};
 
-use crate::format::conditions::{AirChangesPerHourArgument, HourFront};
+use crate::format::conditions::{AirChangesPerHourArgument, Conditions};
+use crate::format::decode::no_element_hour;
 use crate::physics::node_layout::{to_nodes, to_slots, two_nodes_of};
-use crate::physics::slots::set_slots;
-use crate::record::arrays::element_of;
-use crate::record::zone_record::ZoneFront;
+use crate::record::building_element::{Element, ElementHour};
+use crate::record::zone_record::Zone;
 use solver::isclose;
 
-// The head's first-hour parts.
-pub fn first_hours(
-    codes: &[u8; 72],
-    values: &[f64; 600],
-    parts: &mut [f64; 120],
-    opens: &mut [u8; 24],
-)
-    requires { HourSized parts.old opens.old }
-    ensures { element_hours_in parts.new opens.new ≡ map first_hour (elements_in codes.now values.now) }
+// The head's first-hour parts. (An array's `map` would copy all the elements.)
+fn first_hours(elements: &[Element; 24]) -> [ElementHour; 24]
+    ensures { result ≡ map first_hour elements.now }
 {
-    let mut i: usize = 0;
-    while i < 24 {
-        let e = element_of(codes, values, i);
-        let first = e.first_hour;
-        let row = [
-            first.temp_ext,
-            first.i_sol_dir,
-            first.i_sol_dif,
-            first.f_sh_dir,
-            first.f_sh_dif,
-        ];
-        set_slots(parts, i, &row);
-        opens[i] = first.treatments_open;
-        i += 1;
+    let mut hours = [no_element_hour(); 24];
+    for i in 0..24 {
+        hours[i] = elements[i].first_hour;
     }
+    hours
 }
 
-// Start-up's conditions beside the elements' parts.
-pub fn start_up_conditions(z: ZoneFront) -> HourFront
-    ensures { result ≡ hour_front_of (start_up_conditions (zone_of z [])) }
+// Start-up's conditions, with the head's first-hour parts.
+pub fn start_up_conditions(z: &Zone) -> Conditions
+    ensures { result ≡ start_up_conditions z.now }
 {
-    let ach_args = AirChangesPerHourArgument::Cooling(0.0);
-    HourFront {
+    Conditions {
         delta_t_h: 8760.0,
         temp_ext_air: z.temp_ext_air_init,
         gains_internal: 0.0,
@@ -57,21 +38,23 @@ pub fn start_up_conditions(z: ZoneFront) -> HourFront
         avg_air_supply_temp: z.temp_ext_air_init,
         gains_heat_cool_convective: 0.0,
         gains_heat_cool_radiative: 0.0,
-        ach_args: ach_args,
+        ach_args: AirChangesPerHourArgument::Cooling(0.0),
+        elements: first_hours(&z.building_elements),
     }
 }
 
-fn temp_start(z: ZoneFront) -> f64
-    ensures { result ≡ temp_start (zone_of z []) }
+fn temp_start(z: &Zone) -> f64
+    ensures { result ≡ temp_start z.now }
 {
     (z.temp_ext_air_init + z.temp_setpnt_init) / 2.0
 }
 
 // Before the first pass.
-pub fn start_slots(z: ZoneFront, codes: &[u8; 72], values: &[f64; 600]) -> [f64; 121]
-    ensures { result ≡ slots_of (zone_in z codes.now values.now) (start_state (zone_in z codes.now values.now)) }
+#[tactic(auto, unfolding(crate::specs::Calls::State::slots_of))]
+pub fn start_slots(z: &Zone) -> [f64; 121]
+    ensures { result ≡ slots_of z.now (start_state z.now) }
 {
-    let two_nodes = two_nodes_of(z, codes, values);
+    let two_nodes = two_nodes_of(z);
     let temp = temp_start(z);
     let temps = [temp; 121];
     to_slots(z.count, &two_nodes, &temps)
@@ -80,30 +63,14 @@ pub fn start_slots(z: ZoneFront, codes: &[u8; 72], values: &[f64; 600]) -> [f64;
 fn all_close(a: &[f64], b: &[f64]) -> bool
     ensures { result ≡ all_close a.now b.now }
 {
-    let mut i = 0;
-    while i < a.len() {
-        if b.len() <= i {
-            return true;
-        }
-        if isclose(a[i], b[i]) {
-            i += 1;
-        } else {
-            return false;
-        }
-    }
-    true
+    a.iter().zip(b).all(|(x, y)| isclose(*x, *y))
 }
 
-pub fn close(
-    z: ZoneFront,
-    codes: &[u8; 72],
-    values: &[f64; 600],
-    before: &[f64; 121],
-    after: &[f64; 121],
-) -> bool
-    ensures { result ≡ close (zone_in z codes.now values.now) before.now after.now }
+#[tactic(auto, unfolding(crate::specs::Calls::StartUp::close, crate::specs::Calls::State::state_of))]
+pub fn close(z: &Zone, before: &[f64; 121], after: &[f64; 121]) -> bool
+    ensures { result ≡ close z.now before.now after.now }
 {
-    let two_nodes = two_nodes_of(z, codes, values);
+    let two_nodes = two_nodes_of(z);
     let new_temps = to_nodes(z.count, &two_nodes, after);
     let old_temps = to_nodes(z.count, &two_nodes, before);
     all_close(&new_temps, &old_temps)

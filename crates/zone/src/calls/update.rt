@@ -1,135 +1,107 @@
 // The update of the temperatures by given gains of heating or cooling.
-ghost use Rattle.std.specs.Prelude.{◌≡◌, ◌&&◌};
-ghost use Rattle.solver.specs.Result.{refused};
-ghost use Rattle.zone.specs.Inner.Lent.{zone_in, conditions_in};
+ghost use Rattle.std.specs.Prelude.{◌≡◌, ◌&&◌, OnErr};
 ghost use Rattle.zone.specs.Record.BuildingElement.{standard_coefficients};
 ghost use Rattle.zone.specs.Check.Ranges.{gains_range, fraction_range, rate_range};
 ghost use Rattle.zone.specs.Calls.Hour.{step, update_temperatures};
-ghost use Rattle.zone.specs.Calls.Answers.{update_reply};
+ghost use Rattle.zone.specs.Answers.{changed};
+ghost use Rattle.zone.specs.Calls.Answers.{reply_in, update_reply};
 
-use crate::calls::state::{DemandAnswer, State, UpdateAnswer, UpdateReply, slots_of, state_of};
+use crate::calls::state::{Reply, State};
 use crate::check::arguments::tested;
 use crate::check::ranges::{fraction_in_range, gains_in_range, rate_in_range};
-use crate::format::conditions::HourFront;
+use crate::format::conditions::Conditions;
 use crate::hour::hour::Asked;
 use crate::hour::hour_kept::hour_in;
 use crate::hour::simulation_time::delta_t_of;
-use crate::physics::balance::heat_balance;
+use crate::physics::balance::{HeatBalance, heat_balance};
 use crate::record::building_element::standard_coefficients;
-use crate::record::numbers::CONDITIONS_VALUE;
-use crate::record::zone_record::{Verdict, ZoneFront};
-
-fn refuse(s: State, number: u32, index: usize) -> UpdateReply
-    ensures { result ≡ update_reply s (refused number index) }
-{
-    let answer = UpdateAnswer::Refused { number, index };
-    UpdateReply {
-        answer: answer,
-        state: s,
-    }
-}
+use crate::record::refusal::Refusal;
+use crate::record::zone_record::Zone;
 
 fn load_in_range(gains_heat_cool: f64, frac_convective: f64, ach: f64) -> bool
     ensures { result ≡ (gains_range gains_heat_cool && fraction_range frac_convective && rate_range ach) }
 {
-    let gains = gains_in_range(gains_heat_cool);
-    let fraction = fraction_in_range(frac_convective);
-    let rate = rate_in_range(ach);
-    gains & fraction & rate
+    gains_in_range(gains_heat_cool) & fraction_in_range(frac_convective) & rate_in_range(ach)
 }
 
 impl State {
+    // The step, once its arguments are tested; where it is accepted, `after` is the state after it.
+    #[tactic(auto, using(crate::proofs::Laws::Hour::step_refused, crate::proofs::Laws::Hour::step_accepted))]
     fn step(
-        self,
-        z: ZoneFront,
-        codes: &[u8; 72],
-        values: &[f64; 600],
-        h: HourFront,
-        parts: &[f64; 120],
-        opens: &[u8; 24],
+        &self,
+        z: &Zone,
+        h: &Conditions,
         gains_heat_cool: f64,
         frac_convective: f64,
         ach: f64,
-    ) -> UpdateReply
-        ensures { result ≡ update_reply self (step standard_coefficients (zone_in z codes.now values.now) self (conditions_in h parts.now opens.now) gains_heat_cool frac_convective ach) }
+        after: &mut State,
+    ) -> Result<HeatBalance, Refusal>
+        ensures step { changed result after.new ≡ step standard_coefficients z.now self.now h.now gains_heat_cool frac_convective ach }
+        ensures kept { OnErr result (after.new ≡ after.old) }
     {
-        let before = slots_of(z, codes, values, self);
+        let before = self.slots(z);
         let asked = Asked::Update {
             gains_heat_cool,
             f_hc_c: frac_convective,
             ach,
         };
-        let mut after = [0.0; 121];
-        let solved = hour_in(
-            z, codes, values, &before, h, parts, opens, asked, &mut after,
-        );
-        match solved {
-            DemandAnswer::Refused { number, index } => {
-                return refuse(self, number, index);
-            }
-            DemandAnswer::Accepted(_) => {}
-        }
+        let mut temps = [0.0; 121];
+        hour_in(z, &before, h, asked, &mut temps)?;
+        *after = State::of_slots(z, &temps);
         let c = standard_coefficients();
-        let delta_t = delta_t_of(h);
-        let balance = heat_balance(
+        Ok(heat_balance(
             c,
             z,
-            codes,
-            values,
             &before,
             h,
-            parts,
-            opens,
-            delta_t,
+            delta_t_of(h),
             gains_heat_cool,
             frac_convective,
             ach,
-            &after,
-        );
-        let state = state_of(z, codes, values, &after);
-        let answer = UpdateAnswer::Accepted(balance);
-        UpdateReply {
-            answer: answer,
-            state: state,
+            &temps,
+        ))
+    }
+
+    #[tactic(auto, unfolding(crate::specs::Calls::Hour::update_temperatures))]
+    fn updated(
+        &self,
+        z: &Zone,
+        conditions: &[u8],
+        gains_heat_cool: f64,
+        frac_convective: f64,
+        ach: f64,
+        after: &mut State,
+    ) -> Result<HeatBalance, Refusal>
+        ensures update { changed result after.new ≡ update_temperatures standard_coefficients z.now self.now conditions.now gains_heat_cool frac_convective ach }
+        ensures kept { OnErr result (after.new ≡ after.old) }
+    {
+        let h = tested(z, self, conditions)?;
+        if load_in_range(gains_heat_cool, frac_convective, ach) {
+            return self.step(z, &h, gains_heat_cool, frac_convective, ach, after);
         }
+        Err(Refusal::ConditionsValue(0))
     }
 
     // One hour with these gains, of which a fraction is convective, and this air change rate.
     pub fn update_temperatures(
         self,
-        z: ZoneFront,
-        codes: &[u8; 72],
-        values: &[f64; 600],
+        z: &Zone,
         conditions: &[u8],
         gains_heat_cool: f64,
         frac_convective: f64,
         ach: f64,
-    ) -> UpdateReply
-        ensures { result ≡ update_reply self (update_temperatures standard_coefficients (zone_in z codes.now values.now) self conditions.now gains_heat_cool frac_convective ach) }
+    ) -> Reply<HeatBalance>
+        ensures { reply_in result ≡ update_reply self (update_temperatures standard_coefficients z.now self conditions.now gains_heat_cool frac_convective ach) }
     {
-        let mut parts = [0.0; 120];
-        let mut opens = [0; 24];
-        let read = tested(z, codes, values, self, conditions, &mut parts, &mut opens);
-        let verdict = read.verdict;
-        match verdict {
-            Verdict::Refused { number, index } => {
-                return refuse(self, number, index);
-            }
-            Verdict::Accepted => {}
-        }
-        if load_in_range(gains_heat_cool, frac_convective, ach) {
-            return self.step(
-                z,
-                codes,
-                values,
-                read.front,
-                &parts,
-                &opens,
-                gains_heat_cool,
-                frac_convective,
-                ach,
-            );
-        }
-        refuse(self, CONDITIONS_VALUE, 0)
+        let mut state = self;
+        let answer = self.updated(
+            z,
+            conditions,
+            gains_heat_cool,
+            frac_convective,
+            ach,
+            &mut state,
+        );
+        Reply { answer, state }
     }
 }

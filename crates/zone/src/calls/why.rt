@@ -1,19 +1,20 @@
 // Why an hour has its air change rate and its load. Nothing is changed.
 ghost use Rattle.std.specs.Prelude.{◌≡◌};
-ghost use Rattle.zone.specs.Inner.Lent.{zone_in, conditions_in};
+ghost use Rattle.zone.specs.Answers.{answered};
 ghost use Rattle.zone.specs.Record.BuildingElement.{standard_coefficients};
 ghost use Rattle.zone.specs.Calls.Why.{load_of, why_of, why};
-ghost use Rattle.zone.specs.Calls.Answers.{why_reply};
 
-use crate::calls::state::{Demand, DemandAnswer, Load, State, WhyReply, slots_of};
+use crate::calls::state::{Demand, Load, Reason, State};
 use crate::check::arguments::tested;
-use crate::format::conditions::HourFront;
+use crate::format::conditions::Conditions;
 use crate::hour::hour::{Asked, Meeting};
 use crate::hour::hour_kept::hour_in;
-use crate::hour::reason::{ReasonAnswer, reason_of};
-use crate::record::zone_record::{Verdict, ZoneFront};
+use crate::hour::reason::reason_of;
+use crate::record::refusal::Refusal;
+use crate::record::zone_record::Zone;
 
 // By the demand's numbers.
+#[tactic(auto, unfolding(crate::specs::Calls::Why::load_of))]
 fn load_asked(d: Demand) -> Load
     ensures { result ≡ load_of d }
 {
@@ -27,54 +28,24 @@ fn load_asked(d: Demand) -> Load
 }
 
 // An hour that is tested: what the demand refuses is refused, before any reason.
-fn why_of(
-    z: ZoneFront,
-    codes: &[u8; 72],
-    values: &[f64; 600],
-    t: &[f64; 121],
-    h: HourFront,
-    parts: &[f64; 120],
-    opens: &[u8; 24],
-) -> WhyReply
-    ensures { result ≡ why_reply (why_of standard_coefficients (zone_in z codes.now values.now) t.now (conditions_in h parts.now opens.now)) }
+#[tactic(auto, using(crate::proofs::Laws::Why::why_not_asked, crate::proofs::Laws::Why::why_no_reason))]
+fn why_of(z: &Zone, t: &[f64; 121], h: &Conditions) -> Result<(Reason, Load), Refusal>
+    ensures { answered result ≡ why_of standard_coefficients z.now t.now h.now }
 {
     let asked = Asked::Demand(Meeting::NotMet);
     let mut after = [0.0; 121];
-    let demand = hour_in(z, codes, values, t, h, parts, opens, asked, &mut after);
-    match demand {
-        DemandAnswer::Refused { number, index } => WhyReply::Refused { number, index },
-        DemandAnswer::Accepted(d) => {
-            let answer = reason_of(z, codes, values, t, h, parts, opens);
-            match answer {
-                ReasonAnswer::Refused { number, index } => WhyReply::Refused { number, index },
-                ReasonAnswer::Accepted(reason) => WhyReply::Accepted(reason, load_asked(d)),
-            }
-        }
-    }
+    let d = hour_in(z, t, h, asked, &mut after)?;
+    let reason = reason_of(z, t, h)?;
+    Ok((reason, load_asked(d)))
 }
 
 impl State {
     // The reason for the hour's air change rate, and what its demand asks for.
-    pub fn why(
-        self,
-        z: ZoneFront,
-        codes: &[u8; 72],
-        values: &[f64; 600],
-        conditions: &[u8],
-    ) -> WhyReply
-        ensures { result ≡ why_reply (why standard_coefficients (zone_in z codes.now values.now) self conditions.now) }
+    #[tactic(auto, unfolding(crate::specs::Calls::Why::why))]
+    pub fn why(&self, z: &Zone, conditions: &[u8]) -> Result<(Reason, Load), Refusal>
+        ensures { answered result ≡ why standard_coefficients z.now self.now conditions.now }
     {
-        let mut parts = [0.0; 120];
-        let mut opens = [0; 24];
-        let read = tested(z, codes, values, self, conditions, &mut parts, &mut opens);
-        let verdict = read.verdict;
-        match verdict {
-            Verdict::Refused { number, index } => {
-                return WhyReply::Refused { number, index };
-            }
-            Verdict::Accepted => {}
-        }
-        let t = slots_of(z, codes, values, self);
-        why_of(z, codes, values, &t, read.front, &parts, &opens)
+        let h = tested(z, self, conditions)?;
+        why_of(z, &self.slots(z), &h)
     }
 }

@@ -1,9 +1,8 @@
 // Refusals 8 and 9 of an hour's conditions.
-ghost use Rattle.std.specs.Prelude.{◌≡◌, ◌&&◌, [], ◌≤◌, length, take};
+ghost use Rattle.std.specs.Prelude.{◌≡◌, ◌≤◌, length, map};
 ghost use Rattle.zone.specs.Format.Layout.{first_element_hour, conditions_length};
-ghost use Rattle.zone.specs.Check.ZoneTest.{verdict_of};
-ghost use Rattle.zone.specs.Inner.Lent.{hour_of, conditions_in};
-ghost use Rattle.zone.specs.Inner.Arrays.{treatments_in};
+ghost use Rattle.zone.specs.Answers.{answered};
+ghost use Rattle.zone.specs.declared.record.building_element.Element.{Element};
 ghost use Rattle.zone.specs.Format.Conditions.{rate_code_valid, open_bits_valid, hour_and_gains_in_range, setpoints_in_range, ach_args_in_range, conditions_test};
 
 use crate::check::ranges::{
@@ -11,14 +10,13 @@ use crate::check::ranges::{
     open_within, rate_in_range, setpoint_in_range, temperature_in_range,
 };
 use crate::check::zone_tests::element_hour_in_range;
-use crate::format::bytes::{count_of, read_u64_be};
-use crate::format::conditions::{AirChangesPerHourArgument, HourFront};
+use crate::format::bytes::read_u64_be;
+use crate::format::conditions::{AirChangesPerHourArgument, Conditions};
 use crate::format::layout::{
     ELEMENT_HOUR_SIZE, FIRST_ELEMENT_HOUR, OPEN_BYTE, RATE_CODE, SECOND_RATE,
 };
-use crate::record::arrays::{CODES, element_hour_of};
-use crate::record::numbers::CONDITIONS_VALUE;
-use crate::record::zone_record::Verdict;
+use crate::record::building_element::Element;
+use crate::record::refusal::Refusal;
 
 // Code 0 with a second float of all zero bits, or code 1.
 pub fn rate_code_valid(s: &[u8]) -> bool
@@ -32,27 +30,23 @@ pub fn rate_code_valid(s: &[u8]) -> bool
     }
 }
 
-// No open bit past the treatments, of any element.
-pub fn open_bits_valid(s: &[u8], codes: &[u8; 72], n: usize) -> bool
-    requires { (n ≤ 24) × (conditions_length n ≤ length s.now) }
-    ensures { result ≡ open_bits_valid s.now (take n (treatments_in codes.now)) first_element_hour }
+// No open bit past the treatments, of any of these elements.
+pub fn open_bits_valid(s: &[u8], elements: &[Element]) -> bool
+    requires { (length elements.now ≤ 24) × (conditions_length (length elements.now) ≤ length s.now) }
+    ensures { result ≡ open_bits_valid s.now (map (λ (e : Element). e.treatments) elements.now) first_element_hour }
 {
-    let mut i: usize = 0;
-    let mut p: usize = FIRST_ELEMENT_HOUR;
-    while i < n {
-        let treatments = count_of(codes[CODES * i + 1]);
-        if open_within(treatments, s[p + OPEN_BYTE]) {
-            p = p + ELEMENT_HOUR_SIZE;
-            i = i + 1;
-        } else {
+    for (i, e) in elements.iter().enumerate() {
+        let open = s[FIRST_ELEMENT_HOUR + ELEMENT_HOUR_SIZE * i + OPEN_BYTE];
+        if !open_within(e.treatments, open) {
             return false;
         }
     }
     true
 }
 
-fn hour_and_gains_in_range(c: HourFront) -> bool
-    ensures { result ≡ hour_and_gains_in_range (hour_of c []) }
+#[tactic(auto, unfolding(crate::specs::Format::Conditions::hour_and_gains_in_range))]
+fn hour_and_gains_in_range(c: &Conditions) -> bool
+    ensures { result ≡ hour_and_gains_in_range c.now }
 {
     let length = hour_length_in_range(c.delta_t_h);
     let external = temperature_in_range(c.temp_ext_air);
@@ -63,8 +57,9 @@ fn hour_and_gains_in_range(c: HourFront) -> bool
     length & external & internal & solar & heating & cooling
 }
 
-fn setpoints_in_range(c: HourFront) -> bool
-    ensures { result ≡ setpoints_in_range (hour_of c []) }
+#[tactic(auto, unfolding(crate::specs::Format::Conditions::setpoints_in_range))]
+fn setpoints_in_range(c: &Conditions) -> bool
+    ensures { result ≡ setpoints_in_range c.now }
 {
     let heating = heating_setpoint_in_range(c.temp_setpnt_heat);
     let cooling = setpoint_in_range(c.temp_setpnt_cool);
@@ -88,38 +83,19 @@ fn ach_args_in_range(a: AirChangesPerHourArgument) -> bool
     }
 }
 
-fn front_in_range(c: HourFront) -> bool
-    ensures { result ≡ (hour_and_gains_in_range (hour_of c []) && setpoints_in_range (hour_of c []) && ach_args_in_range c.ach_args) }
-{
-    let ach_args = c.ach_args;
-    let hour = hour_and_gains_in_range(c);
-    let setpoints = setpoints_in_range(c);
-    let rates = ach_args_in_range(ach_args);
-    hour & setpoints & rates
-}
-
 // The first value out of range.
-pub fn conditions_test(n: usize, c: HourFront, parts: &[f64; 120], opens: &[u8; 24]) -> Verdict
+#[tactic(auto, unfolding(crate::specs::Format::Conditions::conditions_test))]
+pub fn conditions_test(n: usize, c: &Conditions) -> Result<(), Refusal>
     requires { n ≤ 24 }
-    ensures { result ≡ verdict_of (conditions_test n (conditions_in c parts.now opens.now)) }
+    ensures { answered result ≡ conditions_test n c.now }
 {
-    if front_in_range(c) {
-        let mut i: usize = 0;
-        while i < n {
-            let h = element_hour_of(parts, opens, i);
-            if element_hour_in_range(h) {
-                i = i + 1;
-            } else {
-                return Verdict::Refused {
-                    number: CONDITIONS_VALUE,
-                    index: i + 1,
-                };
-            }
+    if !(hour_and_gains_in_range(c) & setpoints_in_range(c) & ach_args_in_range(c.ach_args)) {
+        return Err(Refusal::ConditionsValue(0));
+    }
+    for (i, hour) in c.elements[..n].iter().enumerate() {
+        if !element_hour_in_range(hour) {
+            return Err(Refusal::ConditionsValue(i + 1));
         }
-        return Verdict::Accepted;
     }
-    Verdict::Refused {
-        number: CONDITIONS_VALUE,
-        index: 0,
-    }
+    Ok(())
 }

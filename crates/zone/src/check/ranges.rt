@@ -1,5 +1,5 @@
 // The ranges of the papers.
-ghost use Rattle.std.specs.Prelude.{◌≡◌, cond, ◌≤◌, ◌^◌, length, take};
+ghost use Rattle.std.specs.Prelude.{◌≡◌, cond, take};
 ghost use Rattle.zone.specs.Check.Ranges.{area_range, pitch_range, coefficient_range, h_pli_range, k_pli_range, delta_r_range, fraction_range, sky_range, irradiance_range, gains_range, power_limit_range, rate_range, temperature_range, heating_setpoint_range, setpoint_range, hour_length_range, limit_range, from_to, above_to, all_in, open_within};
 
 pub fn area_in_range(x: f64) -> bool
@@ -97,30 +97,11 @@ fn is_inside(strict: bool, low: f64, high: f64, x: f64) -> bool
     }
 }
 
-fn first_inside(strict: bool, low: f64, high: f64, a: &[f64], n: usize) -> bool
-    requires { n ≤ length a.now }
-    ensures { result ≡ all_in (cond strict above_to from_to low high) (take n a.now) }
-{
-    let mut i: usize = 0;
-    while i < n {
-        if is_inside(strict, low, high, a[i]) {
-            i = i + 1;
-        } else {
-            return false;
-        }
-    }
-    true
-}
-
 // Whether the first `n` of a list, or all where it has fewer, lie inside.
 fn all_inside(strict: bool, low: f64, high: f64, a: &[f64], n: usize) -> bool
     ensures { result ≡ all_in (cond strict above_to from_to low high) (take n a.now) }
 {
-    if a.len() < n {
-        first_inside(strict, low, high, a, a.len())
-    } else {
-        first_inside(strict, low, high, a, n)
-    }
+    a.iter().take(n).all(|x| is_inside(strict, low, high, *x))
 }
 
 // The first `n` of k_pli, of h_pli, of delta_r.
@@ -143,6 +124,7 @@ pub fn delta_r_in_range(a: &[f64], n: usize) -> bool
 }
 
 // Whether no bit of `treatments_open` lies past the treatments.
+#[tactic(auto, using(crate::proofs::Laws::Ranges::small_power))]
 pub fn open_within(treatments: usize, treatments_open: u8) -> bool
     ensures { result ≡ open_within treatments treatments_open }
 {

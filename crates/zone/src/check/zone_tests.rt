@@ -1,7 +1,7 @@
 // A zone given as a record, tested as its head would be: 4, then 5.
-ghost use Rattle.std.specs.Prelude.{◌≡◌, [], ◌≤◌};
-ghost use Rattle.zone.specs.Inner.Lent.{zone_of, zone_in};
-ghost use Rattle.zone.specs.Inner.Check.{arrays_in_range, tail_in_range};
+ghost use Rattle.std.specs.Prelude.{◌≡◌, ◌≤◌};
+ghost use Rattle.zone.specs.Answers.{answered};
+ghost use Rattle.zone.specs.Inner.Check.{tail_in_range};
 ghost use Rattle.zone.specs.Check.ZoneTest.{
   count_valid,
   element_hour_in_range,
@@ -10,7 +10,6 @@ ghost use Rattle.zone.specs.Check.ZoneTest.{
   values_test,
   counts_test,
   zone_test,
-  verdict_of,
 };
 
 use crate::check::ranges::{
@@ -19,13 +18,13 @@ use crate::check::ranges::{
     pitch_in_range, setpoint_in_range, sky_in_range, temperature_in_range,
 };
 use crate::format::element_layout::{h_count, max_treatments};
-use crate::record::arrays::element_of;
 use crate::record::building_element::{Element, ElementHour, number_of_nodes};
-use crate::record::numbers::{STRUCTURE, ZONE_VALUE};
-use crate::record::zone_record::{Verdict, ZoneFront};
+use crate::record::refusal::Refusal;
+use crate::record::zone_record::Zone;
 
-pub fn element_hour_in_range(h: ElementHour) -> bool
-    ensures { result ≡ element_hour_in_range h }
+#[tactic(auto, unfolding(crate::specs::Check::ZoneTest::element_hour_in_range))]
+pub fn element_hour_in_range(h: &ElementHour) -> bool
+    ensures { result ≡ element_hour_in_range h.now }
 {
     let a = temperature_in_range(h.temp_ext);
     let b = irradiance_in_range(h.i_sol_dir);
@@ -35,47 +34,21 @@ pub fn element_hour_in_range(h: ElementHour) -> bool
     a & b & c & d & e
 }
 
-fn arrays_in_range(
-    kc: usize,
-    hc: usize,
-    t: usize,
-    k_pli: [f64; 5],
-    h_pli: [f64; 4],
-    delta_r: [f64; 4],
-) -> bool
-    ensures { result ≡ arrays_in_range kc hc t k_pli h_pli delta_r }
-{
-    let a = k_pli_in_range(&k_pli, kc);
-    let b = h_pli_in_range(&h_pli, hc);
-    let c = delta_r_in_range(&delta_r, t);
-    a & b & c
-}
-
 // The arrays and the first hour's part.
-fn tail_in_range(e: Element) -> bool
-    ensures { result ≡ tail_in_range e }
+#[tactic(auto, unfolding(crate::specs::Inner::Check::tail_in_range, crate::specs::Inner::Check::arrays_in_range))]
+fn tail_in_range(e: &Element) -> bool
+    ensures { result ≡ tail_in_range e.now }
 {
-    let kind = e.kind;
-    let t = e.treatments;
-    let k_pli = e.k_pli;
-    let h_pli = e.h_pli;
-    let delta_r = e.delta_r;
-    let first_hour = e.first_hour;
-    let arrays = arrays_in_range(
-        number_of_nodes(kind),
-        h_count(kind),
-        t,
-        k_pli,
-        h_pli,
-        delta_r,
-    );
-    let hour = element_hour_in_range(first_hour);
-    let open = open_within(t, first_hour.treatments_open);
-    arrays & hour & open
+    k_pli_in_range(&e.k_pli, number_of_nodes(e.kind))
+        & h_pli_in_range(&e.h_pli, h_count(e.kind))
+        & delta_r_in_range(&e.delta_r, e.treatments)
+        & element_hour_in_range(&e.first_hour)
+        & open_within(e.treatments, e.first_hour.treatments_open)
 }
 
-fn element_in_range(e: Element) -> bool
-    ensures { result ≡ element_in_range e }
+#[tactic(auto, unfolding(crate::specs::Check::ZoneTest::element_in_range, crate::specs::Inner::Check::tail_in_range, crate::specs::Inner::Check::arrays_in_range))]
+fn element_in_range(e: &Element) -> bool
+    ensures { result ≡ element_in_range e.now }
 {
     let area = area_in_range(e.area);
     let pitch = pitch_in_range(e.pitch);
@@ -89,8 +62,9 @@ fn element_in_range(e: Element) -> bool
 }
 
 // The limit and the six floats.
-fn front_in_range(z: ZoneFront) -> bool
-    ensures { result ≡ front_in_range (zone_of z []) }
+#[tactic(auto, unfolding(crate::specs::Check::ZoneTest::front_in_range))]
+fn front_in_range(z: &Zone) -> bool
+    ensures { result ≡ front_in_range z.now }
 {
     let limit = limit_in_range(z.start_up_limit);
     let useful_area = area_in_range(z.useful_area);
@@ -103,30 +77,20 @@ fn front_in_range(z: ZoneFront) -> bool
 }
 
 // The first value out of range.
-fn values_test(z: ZoneFront, codes: &[u8; 72], values: &[f64; 600]) -> Verdict
-    requires { z.count ≤ 24 }
-    ensures { result ≡ verdict_of (values_test (zone_in z codes.now values.now)) }
+#[tactic(auto, unfolding(crate::specs::Check::ZoneTest::values_test))]
+fn values_test(z: &Zone) -> Result<(), Refusal>
+    requires { z.now.count ≤ 24 }
+    ensures { answered result ≡ values_test z.now }
 {
-    if front_in_range(z) {
-        let n = z.count;
-        let mut i: usize = 0;
-        while i < n {
-            let e = element_of(codes, values, i);
-            if element_in_range(e) {
-                i = i + 1;
-            } else {
-                return Verdict::Refused {
-                    number: ZONE_VALUE,
-                    index: i + 1,
-                };
-            }
+    if !front_in_range(z) {
+        return Err(Refusal::ZoneValue(0));
+    }
+    for (i, e) in z.building_elements[..z.count].iter().enumerate() {
+        if !element_in_range(e) {
+            return Err(Refusal::ZoneValue(i + 1));
         }
-        return Verdict::Accepted;
     }
-    Verdict::Refused {
-        number: ZONE_VALUE,
-        index: 0,
-    }
+    Ok(())
 }
 
 pub fn count_valid(n: usize) -> bool
@@ -136,39 +100,26 @@ pub fn count_valid(n: usize) -> bool
 }
 
 // The count, and the first element with more treatments than its kind has.
-fn counts_test(z: ZoneFront, codes: &[u8; 72], values: &[f64; 600]) -> Verdict
-    ensures { result ≡ verdict_of (counts_test (zone_in z codes.now values.now)) }
+#[tactic(auto, unfolding(crate::specs::Check::ZoneTest::counts_test))]
+fn counts_test(z: &Zone) -> Result<(), Refusal>
+    ensures { answered result ≡ counts_test z.now }
 {
-    let n = z.count;
-    if !count_valid(n) {
-        return Verdict::Refused {
-            number: STRUCTURE,
-            index: 0,
-        };
+    if !count_valid(z.count) {
+        return Err(Refusal::Structure(0));
     }
-    let mut i: usize = 0;
-    while i < n {
-        let e = element_of(codes, values, i);
-        let kind = e.kind;
-        let most = max_treatments(kind);
-        if most < e.treatments {
-            return Verdict::Refused {
-                number: STRUCTURE,
-                index: i + 1,
-            };
+    for (i, e) in z.building_elements[..z.count].iter().enumerate() {
+        if max_treatments(e.kind) < e.treatments {
+            return Err(Refusal::Structure(i + 1));
         }
-        i = i + 1;
     }
-    Verdict::Accepted
+    Ok(())
 }
 
 // 4, then 5.
-pub fn zone_test(z: ZoneFront, codes: &[u8; 72], values: &[f64; 600]) -> Verdict
-    ensures { result ≡ verdict_of (zone_test (zone_in z codes.now values.now)) }
+#[tactic(auto, using(crate::proofs::Laws::Ranges::counts_few), unfolding(crate::specs::Check::ZoneTest::zone_test))]
+pub fn zone_test(z: &Zone) -> Result<(), Refusal>
+    ensures { answered result ≡ zone_test z.now }
 {
-    let counts = counts_test(z, codes, values);
-    match counts {
-        Verdict::Refused { number, index } => Verdict::Refused { number, index },
-        Verdict::Accepted => values_test(z, codes, values),
-    }
+    counts_test(z)?;
+    values_test(z)
 }

@@ -1,6 +1,5 @@
 // The record of an hour's conditions.
 use crate::record::building_element::ElementHour;
-use crate::record::zone_record::Verdict;
 
 // A fixed air change rate, or a target with the rate of open windows.
 #[derive(Clone, Copy)]
@@ -9,25 +8,7 @@ pub enum AirChangesPerHourArgument {
     TargetAndWindowsOpen(f64, f64),
 }
 
-// What an hour's conditions say beside the elements' parts. The names are those of the arguments of `space_heat_cool_demand`.
-#[derive(Clone, Copy)]
-pub struct HourFront {
-    pub delta_t_h: f64,
-    pub temp_ext_air: f64,
-    pub gains_internal: f64,
-    pub gains_solar: f64,
-    pub frac_convective_heat: f64,
-    pub frac_convective_cool: f64,
-    pub temp_setpnt_heat: f64,
-    pub temp_setpnt_cool: f64,
-    pub temp_setpnt_cool_vent: f64,
-    pub avg_air_supply_temp: f64,
-    pub gains_heat_cool_convective: f64,
-    pub gains_heat_cool_radiative: f64,
-    pub ach_args: AirChangesPerHourArgument,
-}
-
-// The whole hour, of which the definitions speak.
+// What the bytes of an hour say. The names are those of the arguments of `space_heat_cool_demand`; a zone's elements have the first of `elements`.
 #[derive(Clone, Copy)]
 pub struct Conditions {
     pub delta_t_h: f64,
@@ -44,11 +25,4 @@ pub struct Conditions {
     pub gains_heat_cool_radiative: f64,
     pub ach_args: AirChangesPerHourArgument,
     pub elements: [ElementHour; 24],
-}
-
-// What a byte string is as an hour's conditions, beside the arrays with the elements' parts: when refused, the front is a fixed one.
-#[derive(Clone, Copy)]
-pub struct HourConditions {
-    pub verdict: Verdict,
-    pub front: HourFront,
 }

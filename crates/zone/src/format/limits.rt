@@ -16,6 +16,7 @@ pub struct Limits {
 const LIMITS_SIZE: usize = 2 * FLOAT_SIZE;
 
 // The limits in the first bytes; 0 twice where there are too few: of an hour without limits, which nobody looks at.
+#[tactic(auto, unfolding(crate::specs::Format::Limits::limits_in))]
 pub fn read_limits(bytes: &[u8]) -> Limits
     ensures { result ≡ limits_in bytes.now }
 {

@@ -9,6 +9,7 @@ use crate::format::layout::FLOAT_SIZE;
 const MOST_NODES: usize = 121;
 
 // The first `nodes` floats of the bytes, into the first places; the others stay, and all of them where the bytes are too few or the nodes too many.
+#[tactic(auto, unfolding(crate::specs::Inner::Temperatures::temperatures_from))]
 pub fn read_temperatures(bytes: &[u8], nodes: usize, temps: &mut [f64; 121])
     ensures { temps.new ≡ temperatures_from bytes.now nodes temps.old }
 {

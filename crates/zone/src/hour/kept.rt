@@ -1,19 +1,15 @@
-// The factored matrix of an hour, kept in arrays that are lent: the next hour's is the same where the timestep, the directions of heat flow and the open
-// treatments are, and then it is neither assembled nor factored again. The ten arrays: `flags`, whether a matrix is held and whether its divisors are valid;
-// `numbers`, the elements' area, their area × h_ci and the timestep; `key`, the directions and from place 24 on the open treatments; `two_nodes`, `diag`, `next`,
-// `prev`, `dense` and `interchanges`, the factored columns; `column`, the last one as it was assembled.
-ghost use Rattle.std.specs.Prelude.{◌≡◌, ◌≤◌};
+// The factored matrix of an hour, kept for the next.
+ghost use Rattle.std.specs.Prelude.{◌≡◌, true, ◌≤◌};
 ghost use Rattle.std.specs.Float.{binary64};
 ghost use Rattle.std.specs.Float.Ieee.{to_bits};
-ghost use Rattle.zone.specs.Inner.Lent.{zone_in};
-ghost use Rattle.zone.specs.Inner.Kept.{directions_of, same_key, key_of, arrays, emptied, held, none_held, keep_factors};
+ghost use Rattle.zone.specs.Inner.Kept.{directions_of, same_key, none_held, emptied, keep_factors};
+ghost use Rattle.zone.specs.Inner.KeptMatrix.{key_in, is_held, arrays_in, held_in, holds};
+ghost use Rattle.solver.specs.FastSolver.{at_most24};
 
-use crate::physics::assembly::assemble_elements;
-use crate::physics::slots::at_most_24;
-use crate::record::arrays::element_of;
+use crate::physics::assembly::{ElementSums, assemble_elements};
 use crate::record::building_element::{direction_code, heat_flow_direction, standard_coefficients};
-use crate::record::zone_record::ZoneFront;
-use solver::{factor_columns, last_column};
+use crate::record::zone_record::Zone;
+use solver::{Chains, Factors, Lu};
 
 // The one pattern that all NaNs have here.
 const NAN_BITS: u64 = 9221120237041090560;
@@ -22,162 +18,136 @@ const NAN_BITS: u64 = 9221120237041090560;
 fn bits_of(x: f64) -> u64
     ensures { result ≡ to_bits binary64 x }
 {
-    if x != x { NAN_BITS } else { f64::to_bits(x) }
+    if x.is_nan() { NAN_BITS } else { x.to_bits() }
 }
 
 // The directions of heat flow, from the temperatures before the step.
-pub fn directions_of(
-    z: ZoneFront,
-    codes: &[u8; 72],
-    values: &[f64; 600],
-    t: &[f64; 121],
-) -> [u8; 24]
-    ensures { result ≡ directions_of (zone_in z codes.now values.now) t.now }
+#[tactic(auto, using(crate::proofs::Laws::Loops::store_turn, crate::proofs::Laws::Loops::repeat_end, crate::proofs::Laws::Elements::element_is, crate::proofs::Laws::Counts::min_24), unfolding(crate::specs::Physics::Slots::with_terms))]
+pub fn directions_of(z: &Zone, t: &[f64; 121]) -> [u8; 24]
+    ensures { result ≡ directions_of z.now t.now }
 {
     let c = standard_coefficients();
-    let n = at_most_24(z.count);
+    let n = z.count.min(24);
     let mut directions = [0; 24];
-    let mut e = 0;
-    while e < n {
-        let el = element_of(codes, values, e);
+    for e in 0..n {
+        let el = &z.building_elements[e];
         let direction = heat_flow_direction(c, el.pitch, t[120], t[5 * e + 4]);
         directions[e] = direction_code(direction);
-        e += 1;
     }
     directions
 }
 
-// Whether something is held, and of the same timestep, directions and open treatments.
-fn same_key(
-    held: bool,
-    kept_delta_t: f64,
-    delta_t: f64,
-    n: usize,
-    key: &[u8; 48],
-    directions: &[u8; 24],
-    opens: &[u8; 24],
-) -> bool
-    requires { n ≤ 24 }
-    ensures { result ≡ same_key held kept_delta_t delta_t n key.now directions.now opens.now }
-{
-    if !held {
-        return false;
+// For which hour a matrix was assembled: its timestep, the directions of heat flow and the open treatments.
+#[derive(Clone, Copy)]
+pub struct Key {
+    pub delta_t: f64,
+    pub directions: [u8; 24],
+    pub opens: [u8; 24],
+}
+
+// The factored matrix of an hour, kept for the next: the next hour's is the same where the key is, and then it is neither assembled nor factored
+// again. `key` is none where none is held; `column` is the last column as it was assembled.
+#[derive(Clone, Copy)]
+pub struct KeptMatrix {
+    pub key: Option<Key>,
+    pub sums: ElementSums,
+    pub factors: Factors,
+    pub column: [f64; 25],
+}
+
+impl Key {
+    // Whether this is the key of an hour of n elements.
+    fn is_of(&self, n: usize, directions: &[u8; 24], opens: &[u8; 24], delta_t: f64) -> bool
+        requires { n ≤ 24 }
+        ensures { result ≡ same_key true self.now.delta_t delta_t n (key_in self.now) directions.now opens.now }
+    {
+        bits_of(self.delta_t) == bits_of(delta_t)
+            && (0..n).all(|e| (self.directions[e] == directions[e]) & (self.opens[e] == opens[e]))
     }
-    if bits_of(kept_delta_t) != bits_of(delta_t) {
-        return false;
-    }
-    let mut e = 0;
-    while e < n {
-        if key[e] != directions[e] {
-            return false;
+}
+
+impl KeptMatrix {
+    // No matrix.
+    pub fn none() -> KeptMatrix
+        ensures { held_in result ≡ none_held }
+    {
+        KeptMatrix {
+            key: None,
+            sums: ElementSums {
+                area_el_total: 0.0,
+                convective: 0.0,
+            },
+            factors: Factors {
+                chains: Chains {
+                    n: 0,
+                    two_nodes: [false; 24],
+                    diag: [0.0; 120],
+                    next: [0.0; 120],
+                    prev: [0.0; 120],
+                },
+                lu: Lu {
+                    matrix: [0.0; 625],
+                    interchanges: [0; 25],
+                },
+                valid: false,
+            },
+            column: [0.0; 25],
         }
-        if key[24 + e] != opens[e] {
-            return false;
+    }
+
+    // What is held is let go of.
+    pub fn clear(&mut self)
+        ensures { held_in self.new ≡ none_held }
+    {
+        *self = KeptMatrix::none();
+    }
+
+    // Whether the matrix of this hour is held.
+    fn holds(&self, n: usize, directions: &[u8; 24], opens: &[u8; 24], delta_t: f64) -> bool
+        requires { n ≤ 24 }
+        ensures { result ≡ holds self.now n directions.now opens.now delta_t }
+    {
+        match &self.key {
+            Some(key) => key.is_of(n, directions, opens, delta_t),
+            None => false,
         }
-        e += 1;
     }
-    true
-}
 
-// The directions, and behind them the open treatments.
-fn key_of(directions: &[u8; 24], opens: &[u8; 24]) -> [u8; 48]
-    ensures { result ≡ key_of directions.now opens.now }
-{
-    let mut key = [0; 48];
-    let mut e = 0;
-    while e < 24 {
-        key[e] = directions[e];
-        key[24 + e] = opens[e];
-        e += 1;
+    // The arrays of a matrix that is held become zeros, in which another is assembled.
+    fn empty(&mut self)
+        ensures { arrays_in self.new.factors ≡ emptied (is_held self.old.key) (arrays_in self.old.factors) }
+    {
+        if self.key.is_some() {
+            self.clear();
+        }
     }
-    key
-}
 
-// Arrays that hold something are made empty.
-fn clear(
-    held: bool,
-    two_nodes: &mut [bool; 24],
-    diag: &mut [f64; 120],
-    next: &mut [f64; 120],
-    prev: &mut [f64; 120],
-    dense: &mut [f64; 625],
-    interchanges: &mut [usize; 25],
-)
-    ensures { arrays two_nodes.new diag.new next.new prev.new dense.new interchanges.new
-        ≡ emptied held (arrays two_nodes.old diag.old next.old prev.old dense.old interchanges.old) }
-{
-    if held {
-        *two_nodes = [false; 24];
-        *diag = [0.0; 120];
-        *next = [0.0; 120];
-        *prev = [0.0; 120];
-        *dense = [0.0; 625];
-        *interchanges = [0; 25];
+    // The hour's matrix but its last column, factored, unless it is held.
+    pub fn keep_factors(&mut self, z: &Zone, directions: &[u8; 24], opens: &[u8; 24], delta_t: f64)
+        ensures held { held_in self.new ≡ keep_factors z.now directions.now opens.now delta_t (held_in self.old) }
+        ensures count { self.new.factors.chains.n ≡ at_most24 z.now.count }
+    {
+        let n = z.count.min(24);
+        if self.holds(n, directions, opens, delta_t) {
+            self.factors.chains.n = n;
+            return;
+        }
+        self.empty();
+        self.factors.chains.n = n;
+        self.sums = assemble_elements(
+            n,
+            &z.building_elements,
+            directions,
+            opens,
+            delta_t,
+            &mut self.factors,
+        );
+        self.column = self.factors.last_column();
+        self.factors.factor_columns();
+        self.key = Some(Key {
+            delta_t,
+            directions: *directions,
+            opens: *opens,
+        });
     }
-}
-
-// The arrays of no matrix.
-pub fn hold_none(
-    flags: &mut [bool; 2],
-    numbers: &mut [f64; 3],
-    key: &mut [u8; 48],
-    two_nodes: &mut [bool; 24],
-    diag: &mut [f64; 120],
-    next: &mut [f64; 120],
-    prev: &mut [f64; 120],
-    dense: &mut [f64; 625],
-    interchanges: &mut [usize; 25],
-    column: &mut [f64; 25],
-)
-    ensures { held flags.new numbers.new key.new (arrays two_nodes.new diag.new next.new prev.new dense.new interchanges.new) column.new ≡ none_held }
-{
-    *flags = [false; 2];
-    *numbers = [0.0; 3];
-    *key = [0; 48];
-    *two_nodes = [false; 24];
-    *diag = [0.0; 120];
-    *next = [0.0; 120];
-    *prev = [0.0; 120];
-    *dense = [0.0; 625];
-    *interchanges = [0; 25];
-    *column = [0.0; 25];
-}
-
-// The hour's matrix but its last column, factored in the arrays, unless they hold it. `numbers` are the sums over the elements and the timestep.
-pub fn keep_factors(
-    z: ZoneFront,
-    codes: &[u8; 72],
-    values: &[f64; 600],
-    directions: &[u8; 24],
-    opens: &[u8; 24],
-    delta_t: f64,
-    flags: &mut [bool; 2],
-    numbers: &mut [f64; 3],
-    key: &mut [u8; 48],
-    two_nodes: &mut [bool; 24],
-    diag: &mut [f64; 120],
-    next: &mut [f64; 120],
-    prev: &mut [f64; 120],
-    dense: &mut [f64; 625],
-    interchanges: &mut [usize; 25],
-    column: &mut [f64; 25],
-)
-    ensures { held flags.new numbers.new key.new (arrays two_nodes.new diag.new next.new prev.new dense.new interchanges.new) column.new
-        ≡ keep_factors (zone_in z codes.now values.now) directions.now opens.now delta_t (held flags.old numbers.old key.old (arrays two_nodes.old diag.old next.old prev.old dense.old interchanges.old) column.old) }
-{
-    let n = at_most_24(z.count);
-    let held = flags[0];
-    if same_key(held, numbers[2], delta_t, n, key, directions, opens) {
-        return;
-    }
-    clear(held, two_nodes, diag, next, prev, dense, interchanges);
-    let total = assemble_elements(
-        n, codes, values, directions, opens, delta_t, two_nodes, diag, next, prev, dense,
-    );
-    let last = last_column(n, dense);
-    *column = last;
-    let valid = factor_columns(n, two_nodes, diag, next, prev, dense, interchanges);
-    *flags = [true, valid];
-    *numbers = [total.area_el_total, total.convective, delta_t];
-    *key = key_of(directions, opens);
 }

@@ -1,17 +1,16 @@
 // The load that is wanted, and the demand by interpolation between the free and the loaded temperature.
 ghost use Rattle.std.specs.Prelude.{◌≡◌, not, ◌&&◌, []};
 ghost use Rattle.std.specs.Float.Ieee.{lt, neg};
-ghost use Rattle.zone.specs.Inner.Lent.{hour_of};
 ghost use Rattle.solver.specs.F64.{◌-ᶠ◌, ◌*ᶠ◌, ◌/ᶠ◌, decimal};
 ghost use Rattle.solver.specs.Closeness.{close_in_demand};
 ghost use Rattle.zone.specs.Hour.Demand.{wanted, frac_upper, interp_heat_cool_demand, demand_record};
-ghost use Rattle.zone.specs.Inner.Solves.{interpolated};
+ghost use Rattle.zone.specs.Answers.{answered};
 
 use crate::calls::state::Demand;
-use crate::format::conditions::HourFront;
+use crate::format::conditions::Conditions;
 use crate::hour::solves::{frac_conv_gains_heat_cool_of, gains_heat_cool_of};
 use crate::hour::windows::VentilationChoice;
-use crate::record::numbers::NO_EFFECT;
+use crate::record::refusal::Refusal;
 use crate::record::units::WATTS_PER_KILOWATT;
 use solver::close_in_demand;
 
@@ -24,12 +23,6 @@ pub enum HeatCoolLoad {
         load: f64,
         fraction: f64,
     },
-}
-
-#[derive(Clone, Copy)]
-pub enum Interpolated {
-    Accepted(f64),
-    Refused { number: u32, index: usize },
 }
 
 // Ten watts for each square metre.
@@ -62,8 +55,9 @@ fn below(temp_free: f64, temp_setpnt_heat: f64, temp_setpnt_cool: f64) -> bool
     below & !close
 }
 
-pub fn wanted_of(useful_area: f64, h: HourFront, temp_free: f64) -> HeatCoolLoad
-    ensures { result ≡ wanted useful_area (hour_of h []) temp_free }
+#[tactic(auto, unfolding(crate::specs::Hour::Demand::wanted))]
+pub fn wanted_of(useful_area: f64, h: &Conditions, temp_free: f64) -> HeatCoolLoad
+    ensures { result ≡ wanted useful_area h.now temp_free }
 {
     if above(temp_free, h.temp_setpnt_cool) {
         return HeatCoolLoad::Toward {
@@ -83,8 +77,9 @@ pub fn wanted_of(useful_area: f64, h: HourFront, temp_free: f64) -> HeatCoolLoad
 }
 
 // The convective fraction of the gains with the load.
-pub fn frac_upper(h: HourFront, load: f64, fraction: f64) -> f64
-    ensures { result ≡ frac_upper (hour_of h []) load fraction }
+#[tactic(auto, unfolding(crate::specs::Hour::Demand::frac_upper))]
+pub fn frac_upper(h: &Conditions, load: f64, fraction: f64) -> f64
+    ensures { result ≡ frac_upper h.now load fraction }
 {
     let gains = gains_heat_cool_of(h);
     let frac_conv = frac_conv_gains_heat_cool_of(h);
@@ -98,28 +93,27 @@ fn kwh_of(delta_t_h: f64, setpoint: f64, load: f64, temp_free: f64, temp_upper: 
 }
 
 // By interpolation between the free and the loaded temperature.
+#[tactic(auto, unfolding(crate::specs::Hour::Demand::interp_heat_cool_demand))]
 pub fn interp_heat_cool_demand(
     delta_t_h: f64,
     setpoint: f64,
     load: f64,
     temp_free: f64,
     temp_upper: f64,
-) -> Interpolated
-    ensures { result ≡ interpolated (interp_heat_cool_demand delta_t_h setpoint load temp_free temp_upper) }
+) -> Result<f64, Refusal>
+    ensures { answered result ≡ interp_heat_cool_demand delta_t_h setpoint load temp_free temp_upper }
 {
     if close_in_demand(temp_upper - temp_free, 0.0) {
-        return Interpolated::Refused {
-            number: NO_EFFECT,
-            index: 0,
-        };
+        return Err(Refusal::NoEffect);
     }
     if close_in_demand(setpoint, temp_free) {
-        return Interpolated::Accepted(0.0);
+        return Ok(0.0);
     }
-    Interpolated::Accepted(kwh_of(delta_t_h, setpoint, load, temp_free, temp_upper))
+    Ok(kwh_of(delta_t_h, setpoint, load, temp_free, temp_upper))
 }
 
 // Heating where positive, cooling where negative.
+#[tactic(auto, unfolding(crate::specs::Hour::Demand::demand_record))]
 pub fn demand_record(kwh: f64, v: VentilationChoice) -> Demand
     ensures { result ≡ demand_record kwh v }
 {

@@ -2,16 +2,11 @@
 // gives.
 ghost use Rattle.std.specs.Prelude.{◌≡◌, not, ◌&&◌, []};
 ghost use Rattle.std.specs.Float.Ieee.{lt};
-ghost use Rattle.zone.specs.Inner.Lent.{hour_of};
 ghost use Rattle.solver.specs.Closeness.{close_in_windows_test};
-ghost use Rattle.zone.specs.Inner.Operative.{control_by};
-ghost use Rattle.zone.specs.Inner.Demand.{zone_temperatures, rate_to_reach, windows_cool};
+ghost use Rattle.zone.specs.Inner.Demand.{rate_to_reach, windows_cool};
 
-use crate::calls::state::AchToTriggerHeating;
-use crate::format::conditions::HourFront;
-use crate::hour::solves::control_temperature;
+use crate::format::conditions::Conditions;
 use crate::physics::ventilation::ach_req_to_reach_temperature;
-use crate::record::zone_record::ZoneTemperatureControlBasis;
 use solver::close_in_windows_test;
 
 // Of a calculation's temperatures, what the choice of a rate looks at.
@@ -26,35 +21,20 @@ pub struct ZoneTemperatures {
 pub struct VentilationChoice {
     pub temp_free: f64,
     pub ach_cooling: f64,
-    pub ach_to_trigger_heating: AchToTriggerHeating,
-}
-
-pub fn zone_temperatures(
-    basis: ZoneTemperatureControlBasis,
-    count: usize,
-    area: &[f64; 24],
-    area_el_total: f64,
-    t: &[f64; 121],
-) -> ZoneTemperatures
-    ensures { result ≡ zone_temperatures (control_by basis count area.now area_el_total) t.now }
-{
-    let temp_control = control_temperature(basis, count, area, area_el_total, t);
-    ZoneTemperatures {
-        temp_control,
-        temp_int_air: t[120],
-    }
+    pub ach_to_trigger_heating: Option<f64>,
 }
 
 // The rate that brings the control temperature to a wanted one.
+#[tactic(auto, unfolding(crate::specs::Inner::Demand::rate_to_reach))]
 pub fn ach_to_reach(
-    h: HourFront,
+    h: &Conditions,
     target: f64,
     windows: f64,
     free: ZoneTemperatures,
     vent_max: ZoneTemperatures,
     temperature: f64,
 ) -> f64
-    ensures { result ≡ rate_to_reach (hour_of h []) target windows free vent_max temperature }
+    ensures { result ≡ rate_to_reach h.now target windows free vent_max temperature }
 {
     ach_req_to_reach_temperature(
         temperature,
@@ -68,8 +48,9 @@ pub fn ach_to_reach(
     )
 }
 
-pub fn windows_cool(h: HourFront, free: ZoneTemperatures, vent_max: ZoneTemperatures) -> bool
-    ensures { result ≡ windows_cool (hour_of h []) free vent_max }
+#[tactic(auto, unfolding(crate::specs::Inner::Demand::windows_cool))]
+pub fn windows_cool(h: &Conditions, free: ZoneTemperatures, vent_max: ZoneTemperatures) -> bool
+    ensures { result ≡ windows_cool h.now free vent_max }
 {
     (vent_max.temp_control < free.temp_control)
         & (h.temp_setpnt_cool_vent < free.temp_control)

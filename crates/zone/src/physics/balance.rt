@@ -1,17 +1,15 @@
 // The heat balance of a time step, in W.
 ghost use Rattle.std.specs.Prelude.{◌≡◌, []};
-ghost use Rattle.zone.specs.Inner.Lent.{zone_in, hour_of, conditions_in};
 ghost use Rattle.zone.specs.Physics.HeatBalance.{air_node, heat_balance};
 ghost use Rattle.zone.specs.Inner.ConvectiveSums.{internal_boundary_from};
 ghost use Rattle.zone.specs.Inner.FabricSums.{external_boundary_from};
 
-use crate::format::conditions::HourFront;
+use crate::format::conditions::Conditions;
 use crate::physics::convection::{ConvectiveSums, convective_sums};
 use crate::physics::fabric::{FabricSums, fabric_sums};
-use crate::physics::slots::at_most_24;
 use crate::physics::ventilation::calc_vent_heat_transfer_coeff;
 use crate::record::building_element::Coefficients;
-use crate::record::zone_record::ZoneFront;
+use crate::record::zone_record::Zone;
 
 #[derive(Clone, Copy)]
 pub struct HeatBalanceAirNode {
@@ -66,14 +64,14 @@ fn air_node(
     c_int: f64,
     h_ve: f64,
     tb_heat_trans_coeff: f64,
-    hour: HourFront,
+    hour: &Conditions,
     delta_t: f64,
     gains_heat_cool: f64,
     f_hc_c: f64,
     temp_prev: f64,
     temp_internal: f64,
 ) -> HeatBalanceAirNode
-    ensures { result ≡ air_node c c_int h_ve tb_heat_trans_coeff (hour_of hour []) delta_t gains_heat_cool f_hc_c temp_prev temp_internal }
+    ensures { result ≡ air_node c c_int h_ve tb_heat_trans_coeff hour.now delta_t gains_heat_cool f_hc_c temp_prev temp_internal }
 {
     let gains_solar = c.f_sol_c * hour.gains_solar;
     let gains_internal = c.f_int_c * hour.gains_internal;
@@ -97,11 +95,11 @@ fn air_node(
 fn internal_boundary(
     c: Coefficients,
     s: ConvectiveSums,
-    hour: HourFront,
+    hour: &Conditions,
     gains_heat_cool: f64,
     f_hc_c: f64,
 ) -> HeatBalanceInternalBoundary
-    ensures { result ≡ internal_boundary_from c s (hour_of hour []) gains_heat_cool f_hc_c }
+    ensures { result ≡ internal_boundary_from c s hour.now gains_heat_cool f_hc_c }
 {
     HeatBalanceInternalBoundary {
         fabric_int_air_convective: s.total,
@@ -117,10 +115,10 @@ fn internal_boundary(
 fn external_boundary(
     s: FabricSums,
     a: HeatBalanceAirNode,
-    hour: HourFront,
+    hour: &Conditions,
     gains_heat_cool: f64,
 ) -> HeatBalanceExternalBoundary
-    ensures { result ≡ external_boundary_from s a (hour_of hour []) gains_heat_cool }
+    ensures { result ≡ external_boundary_from s a hour.now gains_heat_cool }
 {
     HeatBalanceExternalBoundary {
         solar_gains: hour.gains_solar,
@@ -142,22 +140,18 @@ fn external_boundary(
 
 pub fn heat_balance(
     c: Coefficients,
-    z: ZoneFront,
-    codes: &[u8; 72],
-    values: &[f64; 600],
+    z: &Zone,
     temp_prev: &[f64; 121],
-    hour: HourFront,
-    parts: &[f64; 120],
-    opens: &[u8; 24],
+    hour: &Conditions,
     delta_t: f64,
     gains_heat_cool: f64,
     f_hc_c: f64,
     ach: f64,
     vector_x: &[f64; 121],
 ) -> HeatBalance
-    ensures { result ≡ heat_balance c (zone_in z codes.now values.now) temp_prev.now (conditions_in hour parts.now opens.now) delta_t gains_heat_cool f_hc_c ach vector_x.now }
+    ensures { result ≡ heat_balance c z.now temp_prev.now hour.now delta_t gains_heat_cool f_hc_c ach vector_x.now }
 {
-    let n = at_most_24(z.count);
+    let n = z.count.min(24);
     let h_ve = calc_vent_heat_transfer_coeff(z.volume, ach);
     let c_int = c.k_m_int * z.useful_area;
     let air = air_node(
@@ -172,8 +166,8 @@ pub fn heat_balance(
         temp_prev[120],
         vector_x[120],
     );
-    let convective = convective_sums(c, n, codes, values, temp_prev, vector_x);
-    let sums = fabric_sums(n, codes, values, parts, opens, vector_x);
+    let convective = convective_sums(c, n, &z.building_elements, temp_prev, vector_x);
+    let sums = fabric_sums(n, &z.building_elements, &hour.elements, vector_x);
     HeatBalance {
         air_node: air,
         internal_boundary: internal_boundary(c, convective, hour, gains_heat_cool, f_hc_c),

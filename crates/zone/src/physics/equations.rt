@@ -15,8 +15,8 @@ pub struct Rows {
 fn rows_five(e: Element, delta_t: f64, h_ci: f64, share: f64) -> Rows
     ensures { result ≡ rows_five e delta_t h_ci share }
 {
-    let k_pli = e.k_pli;
-    let h_pli = e.h_pli;
+    let k_pli = &e.k_pli;
+    let h_pli = &e.h_pli;
     let h0 = h_pli[0];
     let h1 = h_pli[1];
     let h2 = h_pli[2];
@@ -36,7 +36,7 @@ fn rows_five(e: Element, delta_t: f64, h_ci: f64, share: f64) -> Rows
 fn rows_two(e: Element, delta_t: f64, h_ci: f64, share: f64, h_pli: f64) -> Rows
     ensures { result ≡ rows_two e delta_t h_ci share h_pli }
 {
-    let k_pli = e.k_pli;
+    let k_pli = &e.k_pli;
     let diag = [
         0.0,
         0.0,
@@ -49,24 +49,21 @@ fn rows_two(e: Element, delta_t: f64, h_ci: f64, share: f64, h_pli: f64) -> Rows
     Rows { diag, next, prev }
 }
 
+#[tactic(auto, unfolding(crate::specs::Physics::Equations::rows_of))]
 pub fn rows_of(e: Element, delta_t: f64, treatments_open: u8, h_ci: f64, share: f64) -> Rows
     ensures { result ≡ rows_of e delta_t treatments_open h_ci share }
 {
-    let kind = e.kind;
-    if is_two_nodes(kind) {
-        let h_pli = e.h_pli;
-        let delta_r = e.delta_r;
-        let own = h_pli[0];
-        let h = h_pli_transparent(own, delta_r, e.treatments, treatments_open);
+    if is_two_nodes(e.kind) {
+        let h = h_pli_transparent(e.h_pli[0], &e.delta_r, e.treatments, treatments_open);
         return rows_two(e, delta_t, h_ci, share, h);
     }
     rows_five(e, delta_t, h_ci, share)
 }
 
-fn right_sides_five(e: Element, delta_t: f64, h: ElementHour, t: [f64; 5]) -> [f64; 5]
-    ensures { result ≡ right_sides_five e delta_t h t }
+fn right_sides_five(e: Element, delta_t: f64, h: &ElementHour, t: &[f64; 5]) -> [f64; 5]
+    ensures { result ≡ right_sides_five e delta_t h.now t.now }
 {
-    let k_pli = e.k_pli;
+    let k_pli = &e.k_pli;
     [
         k_pli[0] / delta_t * t[0]
             + (e.h_ce + e.h_re) * h.temp_ext
@@ -79,10 +76,10 @@ fn right_sides_five(e: Element, delta_t: f64, h: ElementHour, t: [f64; 5]) -> [f
     ]
 }
 
-fn right_sides_two(e: Element, delta_t: f64, h: ElementHour, t: [f64; 5]) -> [f64; 5]
-    ensures { result ≡ right_sides_two e delta_t h t }
+fn right_sides_two(e: Element, delta_t: f64, h: &ElementHour, t: &[f64; 5]) -> [f64; 5]
+    ensures { result ≡ right_sides_two e delta_t h.now t.now }
 {
-    let k_pli = e.k_pli;
+    let k_pli = &e.k_pli;
     [
         0.0,
         0.0,
@@ -95,11 +92,11 @@ fn right_sides_two(e: Element, delta_t: f64, h: ElementHour, t: [f64; 5]) -> [f6
     ]
 }
 
-pub fn right_sides_of(e: Element, delta_t: f64, h: ElementHour, t: [f64; 5]) -> [f64; 5]
-    ensures { result ≡ right_sides_of e delta_t h t }
+#[tactic(auto, unfolding(crate::specs::Physics::Equations::right_sides_of))]
+pub fn right_sides_of(e: Element, delta_t: f64, h: &ElementHour, t: &[f64; 5]) -> [f64; 5]
+    ensures { result ≡ right_sides_of e delta_t h.now t.now }
 {
-    let kind = e.kind;
-    if is_two_nodes(kind) {
+    if is_two_nodes(e.kind) {
         return right_sides_two(e, delta_t, h, t);
     }
     right_sides_five(e, delta_t, h, t)

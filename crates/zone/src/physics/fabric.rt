@@ -1,16 +1,14 @@
 // The elements at the external boundary of a heat balance.
 ghost use Rattle.std.specs.Prelude.{◌≡◌, ◌≤◌};
 ghost use Rattle.solver.specs.Repeat.{repeat};
-ghost use Rattle.zone.specs.Inner.Lent.{elements_in, element_hours_in};
 ghost use Rattle.zone.specs.Physics.HeatBalance.{fabric_ext};
 ghost use Rattle.zone.specs.Inner.FabricSums.{add_boundary, add_kind, add_element, add_element_at, no_fabric};
 
 use crate::physics::slots::outer_surface;
-use crate::record::arrays::{element_hour_of, element_of};
 use crate::record::building_element::{Element, ElementHour, Kind, is_two_nodes};
 
 // The sums over the elements at the external boundary: four over all, then five by kind (a party wall counts with the unconditioned spaces).
-#[derive(Clone, Copy)]
+#[derive(Clone, Copy, Default)]
 pub struct FabricSums {
     pub convective: f64,
     pub radiative: f64,
@@ -23,8 +21,8 @@ pub struct FabricSums {
     pub ztu: f64,
 }
 
-fn fabric_ext(e: Element, h: ElementHour, t: f64) -> f64
-    ensures { result ≡ fabric_ext e h t }
+fn fabric_ext(e: &Element, h: &ElementHour, t: f64) -> f64
+    ensures { result ≡ fabric_ext e.now h.now t }
 {
     e.area * (e.h_ce * (h.temp_ext - t))
         + e.area * e.h_re * (h.temp_ext - t)
@@ -32,99 +30,54 @@ fn fabric_ext(e: Element, h: ElementHour, t: f64) -> f64
         + e.area * -e.therm_rad_to_sky
 }
 
-fn add_boundary(e: Element, h: ElementHour, t: f64, s: FabricSums) -> FabricSums
-    ensures { result ≡ add_boundary e h t s }
-{
-    FabricSums {
-        convective: s.convective + e.area * e.h_ce * (h.temp_ext - t),
-        radiative: s.radiative + e.area * e.h_re * (h.temp_ext - t),
-        sol: s.sol
-            + e.area
-                * e.solar_absorption_coeff
-                * (h.i_sol_dif * h.f_sh_dif + h.i_sol_dir * h.f_sh_dir),
-        sky: s.sky + e.area * -e.therm_rad_to_sky,
-        opaque: s.opaque,
-        transparent: s.transparent,
-        to_ground: s.to_ground,
-        ztc: s.ztc,
-        ztu: s.ztu,
+impl FabricSums {
+    fn add_boundary(&mut self, e: &Element, h: &ElementHour, t: f64)
+        ensures { self.new ≡ add_boundary e.now h.now t self.old }
+    {
+        self.convective += e.area * e.h_ce * (h.temp_ext - t);
+        self.radiative += e.area * e.h_re * (h.temp_ext - t);
+        self.sol += e.area
+            * e.solar_absorption_coeff
+            * (h.i_sol_dif * h.f_sh_dif + h.i_sol_dir * h.f_sh_dir);
+        self.sky += e.area * -e.therm_rad_to_sky;
+    }
+
+    fn add_kind(&mut self, kind: Kind, x: f64)
+        ensures { self.new ≡ add_kind kind x self.old }
+    {
+        match kind {
+            Kind::Opaque => self.opaque += x,
+            Kind::AdjacentConditionedSpace => self.ztc += x,
+            Kind::Ground => self.to_ground += x,
+            Kind::Transparent => self.transparent += x,
+            Kind::AdjacentUnconditionedSpaceSimple | Kind::PartyWall => self.ztu += x,
+        }
+    }
+
+    #[tactic(auto, unfolding(crate::specs::Inner::FabricSums::add_element))]
+    fn add_element(&mut self, e: &Element, h: &ElementHour, t: f64)
+        ensures { self.new ≡ add_element e.now h.now t self.old }
+    {
+        self.add_boundary(e, h, t);
+        self.add_kind(e.kind, fabric_ext(e, h, t));
     }
 }
 
-fn add_kind(kind: Kind, x: f64, mut s: FabricSums) -> FabricSums
-    ensures { result ≡ add_kind kind x s }
-{
-    match kind {
-        Kind::Opaque => {
-            s.opaque = s.opaque + x;
-            s
-        }
-        Kind::AdjacentConditionedSpace => {
-            s.ztc = s.ztc + x;
-            s
-        }
-        Kind::AdjacentUnconditionedSpaceSimple => {
-            s.ztu = s.ztu + x;
-            s
-        }
-        Kind::Ground => {
-            s.to_ground = s.to_ground + x;
-            s
-        }
-        Kind::Transparent => {
-            s.transparent = s.transparent + x;
-            s
-        }
-        Kind::PartyWall => {
-            s.ztu = s.ztu + x;
-            s
-        }
-    }
-}
-
-fn add_element(e: Element, h: ElementHour, t: f64, s: FabricSums) -> FabricSums
-    ensures { result ≡ add_element e h t s }
-{
-    let kind = e.kind;
-    add_kind(kind, fabric_ext(e, h, t), add_boundary(e, h, t, s))
-}
-
-fn no_fabric() -> FabricSums
-    ensures { result ≡ no_fabric }
-{
-    FabricSums {
-        convective: 0.0,
-        radiative: 0.0,
-        sol: 0.0,
-        sky: 0.0,
-        opaque: 0.0,
-        transparent: 0.0,
-        to_ground: 0.0,
-        ztc: 0.0,
-        ztu: 0.0,
-    }
-}
-
+#[tactic(auto, using(crate::proofs::Laws::Loops::repeat_end))]
 pub fn fabric_sums(
     n: usize,
-    codes: &[u8; 72],
-    values: &[f64; 600],
-    parts: &[f64; 120],
-    opens: &[u8; 24],
+    elements: &[Element; 24],
+    hours: &[ElementHour; 24],
     vector_x: &[f64; 121],
 ) -> FabricSums
     requires { n ≤ 24 }
-    ensures { result ≡ repeat 0 n (add_element_at (elements_in codes.now values.now) (element_hours_in parts.now opens.now) vector_x.now) no_fabric }
+    ensures { result ≡ repeat 0 n (add_element_at elements.now hours.now vector_x.now) no_fabric }
 {
-    let mut sums = no_fabric();
-    let mut e = 0;
-    while e < n {
-        let el = element_of(codes, values, e);
-        let hour = element_hour_of(parts, opens, e);
-        let kind = el.kind;
-        let t = outer_surface(is_two_nodes(kind), vector_x, e);
-        sums = add_element(el, hour, t, sums);
-        e += 1;
+    let mut sums = FabricSums::default();
+    for e in 0..n {
+        let el = &elements[e];
+        let t = outer_surface(is_two_nodes(el.kind), vector_x, e);
+        sums.add_element(el, &hours[e], t);
     }
     sums
 }

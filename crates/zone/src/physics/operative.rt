@@ -1,11 +1,7 @@
 // The operative temperature.
-ghost use Rattle.std.specs.Prelude.{◌≡◌, ◌≤◌, replicate};
-ghost use Rattle.solver.specs.F64.{zero64};
+ghost use Rattle.std.specs.Prelude.{◌≡◌, ◌≤◌};
 ghost use Rattle.solver.specs.Sums.{sum2, terms};
 ghost use Rattle.solver.specs.FastSolver.{at_most24};
-ghost use Rattle.zone.specs.Inner.Lent.{elements_in, zone_in};
-ghost use Rattle.zone.specs.Physics.Slots.{with_terms};
-ghost use Rattle.zone.specs.Physics.System.{area_of};
 ghost use Rattle.zone.specs.Physics.NodeLayout.{first_node};
 ghost use Rattle.zone.specs.Physics.TempOperative.{mean_of};
 ghost use Rattle.zone.specs.Inner.Assembly.{at};
@@ -14,31 +10,20 @@ ghost use Rattle.zone.specs.Calls.State.{operative_of};
 
 use crate::physics::matrix::area_total;
 use crate::physics::node_layout::{nodes_of, two_nodes_of};
-use crate::physics::slots::at_most_24;
-use crate::record::arrays::element_of;
-use crate::record::zone_record::ZoneFront;
+use crate::record::zone_record::Zone;
 use solver::Sum2;
 
-fn fill_areas(n: usize, codes: &[u8; 72], values: &[f64; 600]) -> [f64; 24]
-    requires { n ≤ 24 }
-    ensures { result ≡ with_terms n (area_of (elements_in codes.now values.now)) (replicate 24 zero64) }
+// For `temp_operative_by_temp_vector`, which is asked several times in an hour.
+#[tactic(auto, using(crate::proofs::Laws::Loops::store_turn, crate::proofs::Laws::Loops::repeat_end, crate::proofs::Laws::Elements::element_is, crate::proofs::Laws::Counts::min_24), unfolding(crate::specs::Physics::Slots::with_terms, crate::specs::Inner::Operative::areas_of))]
+pub fn areas_of(z: &Zone) -> [f64; 24]
+    ensures { result ≡ areas_of z.now }
 {
+    let n = z.count.min(24);
     let mut area = [0.0; 24];
-    let mut e = 0;
-    while e < n {
-        let el = element_of(codes, values, e);
-        area[e] = el.area;
-        e += 1;
+    for e in 0..n {
+        area[e] = z.building_elements[e].area;
     }
     area
-}
-
-// For `temp_operative_by_temp_vector`, which is asked several times in an hour.
-pub fn areas_of(z: ZoneFront, codes: &[u8; 72], values: &[f64; 600]) -> [f64; 24]
-    ensures { result ≡ areas_of (zone_in z codes.now values.now) }
-{
-    let n = at_most_24(z.count);
-    fill_areas(n, codes, values)
 }
 
 fn radiant_sum(n: usize, area: &[f64; 24], t: &[f64; 121]) -> f64
@@ -46,10 +31,8 @@ fn radiant_sum(n: usize, area: &[f64; 24], t: &[f64; 121]) -> f64
     ensures { result ≡ sum2 (terms 0 n (radiant_at (at area.now) t.now)) }
 {
     let mut total = Sum2::zero();
-    let mut e = 0;
-    while e < n {
+    for e in 0..n {
         total = total.add(area[e] * t[5 * e + 4]);
-        e += 1;
     }
     total.sum()
 }
@@ -61,6 +44,7 @@ fn mean_of(x: f64, y: f64) -> f64
 }
 
 // From the elements' areas and their total.
+#[tactic(auto, using(crate::proofs::Laws::Counts::min_24), unfolding(crate::specs::Inner::Operative::temp_operative_of))]
 pub fn temp_operative_by_temp_vector(
     count: usize,
     area: &[f64; 24],
@@ -69,7 +53,7 @@ pub fn temp_operative_by_temp_vector(
 ) -> f64
     ensures { result ≡ temp_operative_of (at_most24 count) (at area.now) area_el_total t.now }
 {
-    let n = at_most_24(count);
+    let n = count.min(24);
     let temp_int_air = t[120];
     let temp_mean_radiant = radiant_sum(n, area, t) / area_el_total;
     mean_of(temp_int_air, temp_mean_radiant)
@@ -82,6 +66,7 @@ struct RadiantSum {
     air: usize,
 }
 
+#[tactic(auto, unfolding(crate::specs::Physics::NodeLayout::first_node))]
 fn radiant_sum_of_nodes(
     n: usize,
     area: &[f64; 24],
@@ -93,11 +78,9 @@ fn radiant_sum_of_nodes(
 {
     let mut total = Sum2::zero();
     let mut node = 0;
-    let mut e = 0;
-    while e < n {
-        node = node + nodes_of(two_nodes[e]);
+    for e in 0..n {
+        node += nodes_of(two_nodes[e]);
         total = total.add(area[e] * temps[node - 1]);
-        e += 1;
     }
     RadiantSum {
         sum: total.sum(),
@@ -106,12 +89,12 @@ fn radiant_sum_of_nodes(
 }
 
 // The operative temperature of node temperatures, whatever they are.
-pub fn operative_of(z: ZoneFront, codes: &[u8; 72], values: &[f64; 600], temps: &[f64; 121]) -> f64
-    ensures { result ≡ operative_of (zone_in z codes.now values.now) temps.now }
+pub fn operative_of(z: &Zone, temps: &[f64; 121]) -> f64
+    ensures { result ≡ operative_of z.now temps.now }
 {
-    let two_nodes = two_nodes_of(z, codes, values);
-    let area = areas_of(z, codes, values);
-    let n = at_most_24(z.count);
+    let two_nodes = two_nodes_of(z);
+    let area = areas_of(z);
+    let n = z.count.min(24);
     let area_el_total = area_total(n, &area);
     let radiant = radiant_sum_of_nodes(n, &area, &two_nodes, temps);
     let air = radiant.air;

@@ -21,18 +21,22 @@ pub fn calc_vent_heat_transfer_coeff(volume: f64, air_changes_per_hour: f64) -> 
 }
 
 // A NaN becomes the minimum.
+#[tactic(auto, using(crate::proofs::Laws::Nan::differs_is), unfolding(crate::specs::Physics::Ventilation::or_minimum))]
 fn or_minimum(ach: f64, ach_min: f64) -> f64
     ensures { result ≡ or_minimum ach ach_min }
 {
-    if ach != ach { ach_min } else { ach }
+    if ach.is_nan() { ach_min } else { ach }
 }
 
+// This and `capped_at` are not `max` and `min`, which may give the other one of two zeros.
+#[tactic(auto, unfolding(crate::specs::Physics::Ventilation::raised_to))]
 fn raised_to(ach: f64, ach_min: f64) -> f64
     ensures { result ≡ raised_to ach ach_min }
 {
     if ach < ach_min { ach_min } else { ach }
 }
 
+#[tactic(auto, unfolding(crate::specs::Physics::Ventilation::capped_at))]
 fn capped_at(ach: f64, ach_max: f64) -> f64
     ensures { result ≡ capped_at ach ach_max }
 {
@@ -40,6 +44,7 @@ fn capped_at(ach: f64, ach_max: f64) -> f64
 }
 
 // The air change rate with which the zone reaches the target, between those of two solved temperatures.
+#[tactic(auto, unfolding(crate::specs::Physics::Ventilation::ach_req_to_reach_temperature))]
 pub fn ach_req_to_reach_temperature(
     temp_target: f64,
     ach_min: f64,
@@ -52,9 +57,9 @@ pub fn ach_req_to_reach_temperature(
 ) -> f64
     ensures { result ≡ ach_req_to_reach_temperature temp_target ach_min ach_max temp_ach_min temp_ach_max temp_int_air_min temp_int_air_max temp_supply }
 {
-    if (temp_ach_min <= temp_ach_max)
-        | (temp_int_air_min <= temp_int_air_max)
-        | (temp_int_air_min <= temp_supply)
+    if temp_ach_min <= temp_ach_max
+        || temp_int_air_min <= temp_int_air_max
+        || temp_int_air_min <= temp_supply
     {
         return ach_min;
     }

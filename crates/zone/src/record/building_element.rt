@@ -98,6 +98,7 @@ pub fn standard_coefficients() -> Coefficients
 }
 
 // The direction of heat flow at an inner surface.
+#[tactic(auto, unfolding(crate::specs::Record::BuildingElement::heat_flow_direction))]
 pub fn heat_flow_direction(
     c: Coefficients,
     pitch: f64,
@@ -141,10 +142,9 @@ pub fn h_ci(
     ensures { result ≡ surface_convection c pitch temp_int_air temp_int_surface }
 {
     let direction = heat_flow_direction(c, pitch, temp_int_air, temp_int_surface);
-    let h = h_ci_of_direction(c, direction);
     SurfaceConvection {
-        direction: direction,
-        h_ci: h,
+        direction,
+        h_ci: h_ci_of_direction(c, direction),
     }
 }
 
@@ -171,27 +171,17 @@ pub fn h_ci_by_code(c: Coefficients, code: u8) -> f64
     c.h_ci_downwards
 }
 
-pub fn at_most(n: usize, limit: usize) -> usize
-    ensures { (result ≡ min n limit) × (result ≤ limit) }
-{
-    if n < limit { n } else { limit }
-}
-
 // h_pli of a Transparent: the resistances of the closed treatments are added to its own.
-pub fn h_pli_transparent(h: f64, delta_r: [f64; 4], treatments: usize, treatments_open: u8) -> f64
-    ensures { result ≡ h_pli_transparent h delta_r treatments treatments_open }
+pub fn h_pli_transparent(h: f64, delta_r: &[f64; 4], treatments: usize, treatments_open: u8) -> f64
+    ensures { result ≡ h_pli_transparent h delta_r.now treatments treatments_open }
 {
-    let n = at_most(treatments, 4);
     let mut bits = treatments_open;
     let mut r = 1.0 / h;
-    let mut j = 0;
-    while j < n {
-        let bit = bits % 2;
-        if bit == 0 {
-            r = r + delta_r[j];
+    for delta in &delta_r[..treatments.min(4)] {
+        if bits % 2 == 0 {
+            r = r + delta;
         }
         bits = bits / 2;
-        j += 1;
     }
     1.0 / r
 }
@@ -201,15 +191,12 @@ pub fn is_two_nodes(kind: Kind) -> bool
     ensures { result ≡ is_two_nodes kind }
 {
     match kind {
-        Kind::Opaque => false,
-        Kind::AdjacentConditionedSpace => false,
-        Kind::AdjacentUnconditionedSpaceSimple => false,
-        Kind::Ground => false,
         Kind::Transparent => true,
-        Kind::PartyWall => false,
+        _ => false,
     }
 }
 
+#[tactic(auto, unfolding(crate::specs::Record::BuildingElement::number_of_nodes))]
 pub fn number_of_nodes(kind: Kind) -> usize
     ensures { result ≡ number_of_nodes kind }
 {

@@ -1,10 +1,10 @@
-// The record of a zone, and the verdict on one.
+// The record of a zone.
 ghost use Rattle.std.specs.Prelude.{◌≡◌};
-ghost use Rattle.zone.specs.Inner.Lent.{zone_in};
+ghost use Rattle.zone.specs.Inner.Head.{no_zone};
 ghost use Rattle.zone.specs.Record.BuildingElement.{node_count};
 
-use crate::record::arrays::element_of;
-use crate::record::building_element::{Element, at_most, number_of_nodes};
+use crate::format::decode::no_element;
+use crate::record::building_element::{Element, number_of_nodes};
 
 #[derive(Clone, Copy)]
 pub enum ZoneTemperatureControlBasis {
@@ -12,22 +12,7 @@ pub enum ZoneTemperatureControlBasis {
     Operative,
 }
 
-// What a head says of a zone beside its elements.
-#[derive(Clone, Copy)]
-pub struct ZoneFront {
-    pub temp_setpnt_basis: ZoneTemperatureControlBasis,
-    pub count: usize,
-    pub start_up_limit: usize,
-    pub useful_area: f64,
-    pub volume: f64,
-    pub tb_heat_trans_coeff: f64,
-    pub temp_ext_air_init: f64,
-    pub temp_setpnt_init: f64,
-    pub temp_setpnt_cool_vent_init: f64,
-}
-
-// The whole zone, of which the definitions speak. The first `count` of `building_elements` are its elements. The code has a front and lent arrays
-// instead (arrays.rt): a function copies each record that it is given.
+// A zone as its head gives it. The first `count` of `building_elements` are its elements.
 #[derive(Clone, Copy)]
 pub struct Zone {
     pub temp_setpnt_basis: ZoneTemperatureControlBasis,
@@ -42,25 +27,33 @@ pub struct Zone {
     pub building_elements: [Element; 24],
 }
 
-// An answer's verdict: accepted, or refused with the papers' number and index (0 where the paper gives none).
-#[derive(Clone, Copy)]
-pub enum Verdict {
-    Accepted,
-    Refused { number: u32, index: usize },
-}
-
-// The nodes of the zone's elements, and the internal air.
-pub fn node_count(z: ZoneFront, codes: &[u8; 72], values: &[f64; 600]) -> usize
-    ensures { result ≡ node_count (zone_in z codes.now values.now) }
-{
-    let n = at_most(z.count, 24);
-    let mut total = 1;
-    let mut i = 0;
-    while i < n {
-        let e = element_of(codes, values, i);
-        let kind = e.kind;
-        total = total + number_of_nodes(kind);
-        i += 1;
+impl Zone {
+    // No zone: what no bytes are read as. A head is read into it.
+    pub fn none() -> Zone
+        ensures { result ≡ no_zone }
+    {
+        Zone {
+            temp_setpnt_basis: ZoneTemperatureControlBasis::Air,
+            count: 0,
+            start_up_limit: 0,
+            useful_area: 0.0,
+            volume: 0.0,
+            tb_heat_trans_coeff: 0.0,
+            temp_ext_air_init: 0.0,
+            temp_setpnt_init: 0.0,
+            temp_setpnt_cool_vent_init: 0.0,
+            building_elements: [no_element(); 24],
+        }
     }
-    total
+
+    // The nodes of the zone's elements, and the internal air.
+    pub fn node_count(&self) -> usize
+        ensures { result ≡ node_count self.now }
+    {
+        let mut total = 1;
+        for e in &self.building_elements[..self.count.min(24)] {
+            total += number_of_nodes(e.kind);
+        }
+        total
+    }
 }

@@ -1,39 +1,32 @@
-use Rattle.zone.proofs.Laws.Kept.{open_in, none_kept_in}
+use Rattle.std.proofs.Common.{◌∙◌}
 use Rattle.zone.proofs.Laws.KeptHour.{kept_hour}
-use Rattle.zone.proofs.Laws.StartUp.{settle_start, settle_at_limit, settle_ends, settle_next}
-use Rattle.zone.proofs.Laws.FirstHours.{start_conditions}
-use Rattle.zone.specs.Inner.Lent.{elements_in, zone_in}
-use Rattle.zone.specs.Inner.Kept.{arrays, held}
+use Rattle.zone.proofs.Laws.StartUp.{settle_at_limit, settle_ends, settle_next}
+use Rattle.zone.specs.Calls.StartUp.{start_up_conditions}
+use Rattle.zone.specs.Inner.KeptMatrix.{held_in}
 use Rattle.zone.proofs.calls.start_up.settle.Goals as goal
 
-pub loop-passes-init : goal.loop-passes-init
-loop-passes-init c = (
-  start_conditions _ _ _ _ c.start_up_conditions-h.ensures c.first_hours.ensures,
-  none_kept_in (zone_in c.args.z c.args.codes.now c.args.values.now) _ c.requires,
-  settle_start _ _ _ _ c.start_slots-t.ensures,
-)
-
--- back at a pass, and at the test of the limit
+-- back at a pass
 pub loop-passes-preserved : goal.loop-passes-preserved
 loop-passes-preserved c =
+    let z = c.args.z.now in
     let v = c.loop-passes in
-    let i = v.invariant in
-    let a = c.args in
-    let f =
-    kept_hour a.z (elements_in a.codes.now a.values.now) v.t _ _ _ (open_in _ _) _ v.after
-    (held v.flags v.numbers v.key (arrays v.two_nodes v.diag v.next v.prev v.dense v.interchanges) v.column) _ c.hour_kept-demand.ensures.0 _ c.hour_kept-demand.ensures.1 i.1 in
-    (i.0, f.0, settle_next (zone_in a.z a.codes.now a.values.now) _ _ v.t v.passes i.2 c.if-z-passes.false _ i.0 v.after _ c.hour_kept-demand.result f.1 _ c.ends.ensures c.if-ends.false)
+    let e = rw c.start_up_conditions-h.ensures at c.hour-demand.ensures in
+    let f = kept_hour z v.t (start_up_conditions z) _ v.after (held_in v.kept) _ e.held _ e.answer v.invariant.kept in
+    record {
+      kept = f.0;
+      left = settle_next z _ _ v.t v.passes v.invariant.left c.if-limit-passes.false v.after _ c.hour-demand.result f.1 (rw c.ends.ensures at c.if-ends.false);
+    }
 
-pub returns-then-z-passes : goal.returns-then-z-passes
-returns-then-z-passes c = settle_at_limit _ _ _ _ _ c.loop-passes.invariant.2 _ c.if-z-passes.true c.no_state.ensures
+-- at the limit
+pub returns-then-limit-passes : goal.returns-then-limit-passes
+returns-then-limit-passes c = settle_at_limit _ _ _ _ _ c.loop-passes.invariant.left c.if-limit-passes.true
 
+-- back at the last pass
 pub returns-then-ends : goal.returns-then-ends
 returns-then-ends c =
+    let z = c.args.z.now in
     let v = c.loop-passes in
-    let i = v.invariant in
-    let h = c.hour_kept-demand.ensures in
-    let a = c.args in
-    let f =
-    kept_hour a.z (elements_in a.codes.now a.values.now) v.t _ _ _ (open_in _ _) _ v.after
-    (held v.flags v.numbers v.key (arrays v.two_nodes v.diag v.next v.prev v.dense v.interchanges) v.column) _ h.0 _ h.1 i.1 in
-    settle_ends (zone_in a.z a.codes.now a.values.now) _ _ v.t v.passes i.2 c.if-z-passes.false _ i.0 v.after _ c.hour_kept-demand.result f.1 _ c.ends.ensures c.if-ends.true _ c.settled.ensures
+    let e = rw c.start_up_conditions-h.ensures at c.hour-demand.ensures in
+    let f = kept_hour z v.t (start_up_conditions z) _ v.after (held_in v.kept) _ e.held _ e.answer v.invariant.kept in
+    c.settled.ensures
+    ∙ settle_ends z _ _ v.t v.passes v.invariant.left c.if-limit-passes.false v.after _ c.hour-demand.result f.1 (rw c.ends.ensures at c.if-ends.true)

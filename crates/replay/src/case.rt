@@ -1,0 +1,128 @@
+// A case: what the oracle was asked, and its answer. make_data.py has the layout in words.
+use crate::bad_record::BadRecord;
+use crate::hour::Hour;
+use crate::record::Record;
+use std::fmt;
+
+#[derive(Clone, Copy, Debug, PartialEq, Eq)]
+pub enum Profile {
+    House,
+    Mild,
+    Edge,
+    Tight,
+}
+
+impl Profile {
+    pub const ALL: [Profile; 4] = [Profile::House, Profile::Mild, Profile::Edge, Profile::Tight];
+}
+
+impl TryFrom<u8> for Profile {
+    type Error = BadRecord;
+
+    fn try_from(number: u8) -> Result<Self, BadRecord> {
+        match number {
+            0 => Ok(Profile::House),
+            1 => Ok(Profile::Mild),
+            2 => Ok(Profile::Edge),
+            3 => Ok(Profile::Tight),
+            _ => Err(BadRecord::Profile(number)),
+        }
+    }
+}
+
+impl fmt::Display for Profile {
+    fn fmt<W: fmt::Write>(&self, f: &mut fmt::Formatter<W>) -> fmt::Result {
+        f.pad(match self {
+            Profile::House => "house",
+            Profile::Mild => "mild",
+            Profile::Edge => "edge",
+            Profile::Tight => "tight",
+        })
+    }
+}
+
+// The hour step counts three times, once for each version.
+#[derive(Clone, Copy, Debug, PartialEq, Eq)]
+pub enum Operation {
+    Demand,
+    Update,
+    StartUp,
+    HourStep1,
+    HourStep2,
+    HourStep3,
+}
+
+impl Operation {
+    pub const ALL: [Operation; 6] = [
+        Operation::Demand,
+        Operation::Update,
+        Operation::StartUp,
+        Operation::HourStep1,
+        Operation::HourStep2,
+        Operation::HourStep3,
+    ];
+}
+
+impl TryFrom<u8> for Operation {
+    type Error = BadRecord;
+
+    fn try_from(number: u8) -> Result<Self, BadRecord> {
+        match number {
+            1 => Ok(Operation::Demand),
+            2 => Ok(Operation::Update),
+            3 => Ok(Operation::StartUp),
+            4 => Ok(Operation::HourStep1),
+            5 => Ok(Operation::HourStep2),
+            6 => Ok(Operation::HourStep3),
+            _ => Err(BadRecord::Operation(number)),
+        }
+    }
+}
+
+impl fmt::Display for Operation {
+    fn fmt<W: fmt::Write>(&self, f: &mut fmt::Formatter<W>) -> fmt::Result {
+        f.pad(match self {
+            Operation::Demand => "demand",
+            Operation::Update => "update",
+            Operation::StartUp => "start-up",
+            Operation::HourStep1 => "hour step, version 1",
+            Operation::HourStep2 => "hour step, version 2",
+            Operation::HourStep3 => "hour step, version 3",
+        })
+    }
+}
+
+#[derive(Drop)]
+pub struct Case<'a> {
+    pub profile: Profile,
+    pub operation: Operation,
+    pub head: &'a [u8],
+    pub hour: Hour<'a>,
+    // The values, or the number of the refusal.
+    pub answer: Result<&'a [u8], u32>,
+}
+
+impl<'a> Case<'a> {
+    pub fn read(bytes: &'a [u8]) -> Result<Self, BadRecord> {
+        let mut record = Record::new(bytes);
+        let profile = Profile::try_from(record.take_u8()?)?;
+        let operation = Operation::try_from(record.take_u8()?)?;
+        let number = record.take_u8()?;
+        let head = record.take_counted()?;
+        let hour = Hour::read(&mut record)?;
+        let values = record.take_values()?;
+        // The data store acceptance as the number 0.
+        let answer = if number == 0 {
+            Ok(values)
+        } else {
+            Err(u32::from(number))
+        };
+        Ok(Case {
+            profile,
+            operation,
+            head,
+            hour,
+            answer,
+        })
+    }
+}

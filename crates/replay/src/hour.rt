@@ -1,0 +1,45 @@
+// The state before an hour, its conditions and the call's own floats, as a case and a row store them.
+use crate::bad_record::BadRecord;
+use crate::record::Record;
+use big_endian::read_f64_be;
+use zone::{Limits, State};
+
+#[derive(Drop)]
+pub struct Hour<'a> {
+    pub nodes: usize,
+    pub temps: &'a [u8],
+    pub conditions: &'a [u8],
+    // Update's gains, fraction and rate; greatest heating and greatest cooling; a question's value, or the ends of its band.
+    pub own: [f64; 3],
+}
+
+impl<'a> Hour<'a> {
+    // As many nodes as there are temperatures.
+    pub fn read(record: &mut Record<'a>) -> Result<Self, BadRecord> {
+        let temps = record.take_values()?;
+        let conditions = record.take_counted()?;
+        let own = [record.take_f64()?, record.take_f64()?, record.take_f64()?];
+        Ok(Hour {
+            nodes: temps.len() / 8,
+            temps,
+            conditions,
+            own,
+        })
+    }
+
+    pub fn state(&self) -> State {
+        let mut temps = [0.0; 121];
+        for (temp, bytes) in temps.iter_mut().zip(self.temps.chunks_exact(8)) {
+            *temp = read_f64_be(bytes, 0);
+        }
+        State {
+            nodes: self.nodes,
+            temps,
+        }
+    }
+
+    pub fn limits(&self) -> Limits {
+        let [heating, cooling, _] = self.own;
+        Limits { heating, cooling }
+    }
+}

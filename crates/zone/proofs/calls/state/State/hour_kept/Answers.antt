@@ -1,0 +1,7 @@
+use Rattle.std.proofs.Common.{refl}
+use Rattle.zone.specs.Inner.NextHour.{next_hour_from}
+use Rattle.zone.proofs.calls.state.State.hour_kept.Goals as goal
+
+pub returns-clause-hour : goal.returns-clause-hour
+unfolding next_hour_from
+returns-clause-hour c = rw (← c.in_ok-h.ensures, ← c.slots.ensures, ← c.in_ok-d.ensures.answer, c.of_slots.ensures) refl

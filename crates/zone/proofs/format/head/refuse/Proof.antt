@@ -1,8 +1,0 @@
-use Rattle.zone.proofs.format.head.refuse.Statement.{statement}
-use Rattle.zone.proofs.format.head.refuse.Tie as tie
-
-returns : tie.Need-returns
-returns c = rw c.no_front-zone.ensures
-
-pub refuse_spec : {M : Type 1} → statement M
-refuse_spec = tie.close (tie.spec (λ c κs. tt) returns)
