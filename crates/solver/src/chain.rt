@@ -21,7 +21,7 @@ pub struct Chains {
 
 impl Chains {
     // How many elements the solve takes: those past the 24th are left out.
-    pub fn count(&self) -> usize
+    pub(crate) fn count(&self) -> usize
         ensures { (result ≡ at_most24 self.now.n) × (result ≤ 24) }
     {
         self.n.min(24)
@@ -47,7 +47,7 @@ impl Chains {
     }
 
     #[tactic(auto, using(crate::proofs::Laws::Counting::repeat_turn, crate::proofs::Laws::Counting::repeat_end), unfolding(crate::specs::Chain::eliminate_chains))]
-    pub fn eliminate(&mut self, n: usize)
+    pub(crate) fn eliminate(&mut self, n: usize)
         requires { n ≤ 24 }
         ensures { self.new ≡ with_diag self.old (eliminate_chains n self.old.two_nodes self.old.next self.old.prev self.old.diag) }
     {
@@ -64,7 +64,7 @@ impl Chains {
         (self.outer_slot(e)..5 * e + 4).all(|s| valid_divisor(self.diag[s]))
     }
 
-    pub fn divisors_valid(&self, n: usize) -> bool
+    pub(crate) fn divisors_valid(&self, n: usize) -> bool
         requires { n ≤ 24 }
         ensures { result ≡ divisors_valid n self.now.two_nodes self.now.diag }
     {
@@ -83,7 +83,7 @@ impl Chains {
     }
 
     #[tactic(auto, using(crate::proofs::Laws::Counting::repeat_turn, crate::proofs::Laws::Counting::repeat_end), unfolding(crate::specs::Inner::Reduced::reduce_chains))]
-    pub fn reduce(&self, n: usize, b: &mut [f64; 121])
+    pub(crate) fn reduce(&self, n: usize, b: &mut [f64; 121])
         requires { n ≤ 24 }
         ensures { b.new ≡ reduce_chains n self.now.two_nodes self.now.diag self.now.prev b.old }
     {
@@ -94,7 +94,7 @@ impl Chains {
 
     // What the last step of each chain subtracts at its inner surface.
     #[tactic(auto, using(crate::proofs::Laws::Counting::repeat_turn, crate::proofs::Laws::Counting::repeat_end), unfolding(crate::specs::Inner::Reduced::inner_shares))]
-    pub fn inner_shares(&self, n: usize, b: &[f64; 121], inner: &mut [f64; 24])
+    pub(crate) fn inner_shares(&self, n: usize, b: &[f64; 121], inner: &mut [f64; 24])
         requires { n ≤ 24 }
         ensures { inner.new ≡ inner_shares n self.now.diag self.now.prev b.now inner.old }
     {
@@ -115,7 +115,7 @@ impl Chains {
     }
 
     #[tactic(auto, using(crate::proofs::Laws::Counting::repeat_turn, crate::proofs::Laws::Counting::repeat_end), unfolding(crate::specs::Chain::back_substitute_chains))]
-    pub fn back_substitute(&self, n: usize, t: &mut [f64; 121])
+    pub(crate) fn back_substitute(&self, n: usize, t: &mut [f64; 121])
         requires { n ≤ 24 }
         ensures { t.new ≡ back_substitute_chains n self.now.two_nodes self.now.diag self.now.next t.old }
     {
@@ -133,7 +133,7 @@ impl Chains {
     }
 
     // The air and every node of every element.
-    pub fn nodes_within(&self, n: usize, t: &[f64; 121]) -> bool
+    pub(crate) fn nodes_within(&self, n: usize, t: &[f64; 121]) -> bool
         requires { n ≤ 24 }
         ensures { result ≡ nodes_within n self.now.two_nodes t.now }
     {

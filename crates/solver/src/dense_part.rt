@@ -48,7 +48,7 @@ pub struct RightSide {
 impl RightSide {
     // The dense part's right side. It goes to an array that is lent: one that is returned would be copied.
     #[tactic(auto, using(crate::proofs::Laws::Counting::repeat_turn, crate::proofs::Laws::Counting::repeat_end))]
-    pub fn gather(&self, n: usize, v: &mut [f64; 25])
+    pub(crate) fn gather(&self, n: usize, v: &mut [f64; 25])
         requires { n ≤ 24 }
         ensures { v.new ≡ set (repeat 0 n (gather_reduced_inner self.now.b self.now.inner) v.old) n (get_or self.now.b 120 nan) }
     {
@@ -60,7 +60,7 @@ impl RightSide {
 
     // The same with a load: gains at each inner surface, and the air's right side.
     #[tactic(auto, using(crate::proofs::Laws::Counting::repeat_turn, crate::proofs::Laws::Counting::repeat_end))]
-    pub fn gather_loaded(&self, gains: f64, air: f64, n: usize, v: &mut [f64; 25])
+    pub(crate) fn gather_loaded(&self, gains: f64, air: f64, n: usize, v: &mut [f64; 25])
         requires { n ≤ 24 }
         ensures { v.new ≡ set (repeat 0 n (gather_loaded_inner self.now.b self.now.inner gains) v.old) n air }
     {

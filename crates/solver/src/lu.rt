@@ -75,7 +75,7 @@ impl Lu {
 
     // Each column before column n, in turn.
     #[tactic(auto, using(crate::proofs::Laws::Counting::repeat_turn, crate::proofs::Laws::Counting::repeat_end))]
-    pub fn factor_columns(&mut self, n: usize)
+    pub(crate) fn factor_columns(&mut self, n: usize)
         requires { n ≤ 24 }
         ensures { self.new ≡ factor_columns n self.old.matrix self.old.interchanges }
     {
@@ -85,7 +85,7 @@ impl Lu {
     }
 
     #[tactic(auto, unfolding(crate::specs::Lu::pivots_valid))]
-    pub fn pivots_valid(&self, w: usize) -> bool
+    pub(crate) fn pivots_valid(&self, w: usize) -> bool
         requires { w ≤ 25 }
         ensures { result ≡ pivots_valid w self.now.matrix }
     {
@@ -142,7 +142,7 @@ impl Lu {
 
     // Column n, or a right side, in the place of which it comes to stand: its interchanges made, and forward.
     #[tactic(auto, unfolding(crate::specs::Inner::Columns::factor_last))]
-    pub fn factor_last(&self, b: &mut [f64; 25], n: usize)
+    pub(crate) fn factor_last(&self, b: &mut [f64; 25], n: usize)
         requires { n ≤ 24 }
         ensures { b.new ≡ factor_last n self.now.matrix self.now.interchanges b.old }
     {
@@ -152,7 +152,7 @@ impl Lu {
 
     // The unknowns stand where the right side stood; `last` is column n.
     #[tactic(auto, unfolding(crate::specs::Inner::Columns::lu_solve_apart))]
-    pub fn solve_apart(&self, last: &[f64; 25], b: &mut [f64; 25], n: usize)
+    pub(crate) fn solve_apart(&self, last: &[f64; 25], b: &mut [f64; 25], n: usize)
         requires { n ≤ 24 }
         ensures { b.new ≡ lu_solve_apart n self.now.matrix last.now self.now.interchanges b.old }
     {
