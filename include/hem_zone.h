@@ -57,8 +57,8 @@ extern "C" {
 #define HEM_LIMITS_ENTRY_VERSION 3
 #define HEM_LIMIT_MOST 1e7
 
-/* The stack, in bytes, that suffices for every call (43 KB were measured, by hem_take_up and the
-   questions; bench/stack). */
+/* The stack, in bytes, that suffices for every call (43 KB were measured, by the questions;
+   bench/stack). */
 #define HEM_STACK 49152
 
 /* ---- sizes of arrays ---- */

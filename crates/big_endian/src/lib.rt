@@ -5,5 +5,5 @@
 mod read;
 mod write;
 
-pub use read::{byte_at, bytes_at, part, read_f64_be, read_u16_be, read_u32_be, read_u64_be};
+pub use read::{byte_at, part, read_f64_be, read_u16_be, read_u32_be, read_u64_be};
 pub use write::{put_byte, put_bytes, write_f64_be, write_f64s_be, write_u64_be};

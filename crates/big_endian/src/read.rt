@@ -13,7 +13,7 @@ pub fn byte_at(s: &[u8], at: usize) -> u8
 }
 
 // The `N` bytes from `at` on.
-pub fn bytes_at<const N: usize>(s: &[u8], at: usize) -> [u8; N]
+fn bytes_at<const N: usize>(s: &[u8], at: usize) -> [u8; N]
     ensures { result ≡ bytes_from s.now at N }
 {
     let mut bytes = [0; N];
@@ -49,7 +49,8 @@ pub fn read_f64_be(s: &[u8], at: usize) -> f64
     f64_from_bits_with_nan(read_u64_be(s, at))
 }
 
-// The `count` bytes from `from` on, or none where they are not all there.
+// The `count` bytes from `from` on, or none where they are not all there. No Option: the programs
+// hand a part to a call of the book, which refuses an empty one, or compare it.
 pub fn part(s: &[u8], from: usize, count: usize) -> &[u8]
     ensures all { from + count ≤ length s.now → result.now ≡ slice_range s.now from (from + count) }
     ensures not_all { length s.now < from + count → result.now ≡ [] }

@@ -35,7 +35,7 @@ pub fn write_f64_be(b: &mut [u8], at: usize, x: f64)
     write_u64_be(b, at, f64_to_bits_with_nan(x));
 }
 
-// One behind the other.
+// One behind the other. The place is counted as it goes: `at + 8 * i` could pass the greatest number.
 #[tactic(auto, using(crate::proofs::Writes::float_behind))]
 pub fn write_f64s_be(b: &mut [u8], at: usize, xs: &[f64])
     ensures { b.new ≡ written b.old at (f64s_bytes xs.now) }

@@ -5,13 +5,14 @@ use contract.Lifetimes.{Lfts}
 use denote.Triple.Clauses.{AtExit}
 use borrow.Fn.Kinds.{Dens, ended_of}
 use borrow.Author.Rules.{rules}
-use Rattle.book.specs.declared.verdict.Verdict.{Verdict}
-use Rattle.book.specs.declared.verdict.Verdict.TheVariants.{Accepted, Refused}
+use Rattle.std.specs.Prelude.{Ok, Err}
+use Rattle.std.specs.Prelude as Rust
+use Rattle.book.specs.declared.book_error.BookError.{BookError}
 use Rattle.book.specs.Model.Calls as Book
 use Rattle.book.specs.Model.Session.{CallSpec}
 use Rattle.book.specs.Model.Claims.{HandedOn}
 use Rattle.book.specs.Year.{hour_item, year_interface}
-use Rattle.book.specs.Answers.{given_of, reply_in, answer_by, rust_types}
+use Rattle.book.specs.Answers.{given_of, answer_by, answer_of, rust_types}
 use Rattle.book.specs.declared.book.Reply.{Reply}
 use Rattle.book.proofs.book.begin.Kinds as begin_kinds
 use Rattle.book.proofs.book.begin.Reads as begin_reads
@@ -42,7 +43,7 @@ append_asks κs a = search rules
 -- fn take_up(given, bytes)
 pub take_up_ensures : (κs : Lfts 1) (a : Dens κs take_up_kinds.ps) (r : Reply) (e : AtExit (ended_of 1 take_up_kinds.ps take_up_kinds.r) κs)
     → take_up_reads.Post κs a r e
-    → r ≡ reply_in (Book.take_up year_interface (given_of a.0) a.1.0.now)
+    → answer_of r ≡ Book.take_up year_interface (given_of a.0) a.1.0.now
 take_up_ensures κs a r e p = p
 
 pub take_up_asks : (κs : Lfts 1) (a : Dens κs take_up_kinds.ps) → take_up_reads.Pre κs a
@@ -51,8 +52,8 @@ take_up_asks κs a = search rules
 -- ---- what a caller gives the next call: the values of the reply are those that its answer hands back
 
 pub handed_on : HandedOn year_interface rust_types (λ r. r.values)
-handed_on r = by r.verdict
+handed_on r = by r.answer
   where
-    by : (v : Verdict) → given_of r.values ≡ Book.handed_back (answer_by v (given_of r.values))
-    by Accepted = refl
-    by (Refused number index) = refl
+    by : (x : Rust.Result (Unit {0}) BookError) → given_of r.values ≡ Book.handed_back (answer_by x (given_of r.values))
+    by (Ok u) = refl
+    by (Err e) = refl

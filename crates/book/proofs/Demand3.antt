@@ -1,13 +1,12 @@
 -- Demand 3 for the year book, and what else is claimed of its books.
-use mathlib.Core.Path.{◌≡◌, refl}
 use mathlib.Core.List.{List}
 use Prim.Native.Nat.{ℕ}
-use Rattle.book.specs.Model.Calls as Book
 use Rattle.book.specs.Model.Plain.{empty, book, WellFormed}
 use Rattle.book.specs.Model.Session.{CodeTypes}
 use Rattle.book.specs.Model.Claims.{Demand3, SessionFrom, Claims}
-use Rattle.book.specs.Year.{Carried, year_interface}
-use Rattle.book.specs.Answers.{answer_of, book_state_in, reply_in, rust_types}
+use Rattle.book.specs.Year.{year_interface}
+use Rattle.book.specs.Answers.{rust_types}
+use Rattle.book.proofs.Replies.{rust_laws}
 use Rattle.book.proofs.Model.CodeLaws.{CodeLaws}
 use Rattle.book.proofs.Model.Sessions as Sessions
 use Rattle.book.proofs.Model.Whole as Whole
@@ -17,7 +16,7 @@ use Rattle.book.proofs.Model.Books.TakenUp as TakenUp
 use Rattle.book.proofs.Model.Books.Behind as Behind
 use Rattle.book.proofs.Laws.Interface.{year_laws}
 
--- ---- lists of calls, at any types whose replies tell the answers apart
+-- ---- lists of calls, at any types whose replies have every answer
 
 module _ (T : CodeTypes year_interface) (C : CodeLaws year_interface T) where
   pub demand_3_at : Demand3 year_interface T
@@ -30,14 +29,6 @@ module _ (T : CodeTypes year_interface) (C : CodeLaws year_interface T) where
   session_from_at = Sessions.session_from year_interface T C year_laws
 
 -- ---- and at those of `begin`, `append` and `take_up`
-
--- every answer is read back from its reply
-rust_laws : CodeLaws year_interface rust_types
-rust_laws = record { given_back = λ v. (book_state_in v, refl); answer_back = λ a p. back a }
-  where
-    back : (a : Book.Answer Carried) → answer_of (reply_in a) ≡ a
-    back (Book.accepted v) = refl
-    back (Book.refused_with number index v) = refl
 
 -- "Demand 3 is one claim about the whole list, not one for each call." For every list of calls that starts with no book, of begins, appends,
 -- cuts and take-ups with whatever arguments, and for whatever `begin`, `append` and `take_up` returned and left in the lent buffers, of which

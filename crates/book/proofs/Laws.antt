@@ -9,7 +9,6 @@ pub mod Writing
 pub mod Accepted
 pub mod Interface
 pub mod Heads
-pub mod Verdicts
 pub mod NextHour
 pub mod Reader
 pub mod ReadBook

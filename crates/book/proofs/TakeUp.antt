@@ -1,25 +1,24 @@
 -- What take-up's functions answer at each return: one entry, the loop over the whole entries, and the call.
 use Rattle.std.specs.Prelude.{None, Some, Ok, Err}
 use Rattle.std.specs.Prelude as Rust
-use mathlib.Core.Path.{◌≡◌, sym, ap, ◌∙◌}
-use mathlib.Core.Bool.{Bool, true, false}
+use mathlib.Core.Path.{◌≡◌, refl, sym, ap, subst, ◌∙◌}
+use mathlib.Core.Bool.{true, false}
 use mathlib.Core.List.{List, ◌∷◌, ◌++◌}
-use mathlib.Core.Option.{none, some}
+use mathlib.Core.Option.{some}
 use Prim.Native.Nat.{ℕ, ◌+◌, ◌-◌, ◌≤◌, ◌<◌}
 use native.Mathlib.Nat.{add-sub_cancel_left}
 use native.Mathlib.Omega.{arith}
 use lib.ListN.{length, take, drop, length-drop}
-use lib.Seq.{length-take-le, take-length, take-add, drop-drop}
+use lib.Seq.{length-take-le, take-add, drop-drop}
 use borrow.Author.Tests.{lt-ltb, le-ltb}
-use Rattle.zone.specs.Promise.{Result, ok, refused}
+use Rattle.zone.specs.Promise.{Result, ok, refused, bind}
 use Rattle.zone.specs.Record.BuildingElement.{standard_coefficients}
-use Rattle.zone.specs.Format.Head.{ReadHead}
+use Rattle.zone.specs.Format.Head.{ReadHead, head_of}
 use Rattle.zone.specs.Inner.Head.{structured_head, head_read}
 use Rattle.zone.specs.Check.ZoneTest.{zone_test}
 use Rattle.zone.specs.declared.record.zone_record.Zone.{Zone}
-use Rattle.book.specs.declared.verdict.Verdict.TheVariants.{Accepted, Refused}
-use Rattle.zone.proofs.Promise.{and_true}
-use Rattle.book.proofs.Laws.Verdicts.{apart, same_refusal}
+use Rattle.book.specs.declared.book_error.BookError.{BookError}
+use Rattle.zone.proofs.Promise.{and_true, head_no, head_yes}
 use Rattle.zone.specs.Calls.Hour.{hour_version}
 use lib.Dec.{leb}
 use Rattle.zone.specs.Inner.NextHour.{next_hour}
@@ -35,17 +34,22 @@ use Rattle.book.specs.Numbers.{book_full, false_entry}
 use Rattle.book.specs.Model.Bytes.{equal_bytes}
 use Rattle.book.specs.Model.Calls as Book
 use Rattle.book.proofs.Model.Laws.Decode.{whole_none, whole_some}
-use Rattle.zone.specs.Format.Layout.{version_in, conditions_length}
+use Rattle.zone.specs.Format.Layout.{length_size, version_in, conditions_length}
 use Rattle.zone.specs.Format.Limits.{limits_in}
 use Rattle.zone.specs.declared.format.limits.Limits.{Limits}
 use Rattle.book.specs.Layout.{front_size, limits_length, whole_length}
 use Rattle.book.specs.Entry.{entry_of}
-use Rattle.book.specs.Year.{hour, Carried, carried, no_entry_version, may_follow, hour_entry, entry_length, body_in, item_in, year_interface}
-use Rattle.book.specs.Answers.{given_of, reply_in}
-use Rattle.book.specs.Inner.Checked.{checked_entry}
-use Rattle.book.specs.Inner.Record.{record_length}
-use Rattle.book.specs.declared.book.BookState.{BookState}
+use Rattle.book.specs.Year.{hour, Carried, carried, no_entry_version, start_up, may_follow, hour_entry, entry_length, body_in, item_in, year_interface}
+use Rattle.book.specs.Answers.{number_of as number_of_error, index_of as index_of_error, given_of, answer_of}
+use Rattle.book.specs.Inner.Answers.{values_in}
 use Rattle.book.specs.declared.book.Reply.{Reply}
+use Rattle.book.specs.Inner.Checked.{checked_entry}
+use Rattle.book.specs.Inner.Reader.{zone_or, BookRead, read_of, book_read}
+use Rattle.book.specs.Inner.Record.{NextRecord}
+use Rattle.book.specs.declared.record.Records.{Records}
+use Rattle.std.specs.Borrow.{Bor}
+use Rattle.book.specs.declared.book.BookState.{BookState}
+use Rattle.book.specs.declared.entries.ReadBook.{ReadBook}
 use Rattle.book.specs.declared.checked_entry.CheckedEntry.{CheckedEntry}
 use Rattle.book.proofs.Laws.Heads.{head_stops, head_goes_on, starts, starts_not}
 use Rattle.book.proofs.Laws.Interface.{year_laws}
@@ -55,8 +59,8 @@ use Rattle.book.proofs.Laws.NextHour.{step_given, step_refused, step_not_next}
 -- ---- one entry
 
 -- a whole record has its front; of a version that may follow it has that version's length
-pub entry_front : (z : Zone) (c : List ℕ) → entry_length z c ≡ some (length c) → front_size ≤ length c
-entry_front z c e = (begins_within z c (length c) (begins z c (length c) e)).0
+pub entry_front : (z : Zone) (c : List ℕ) → entry_length z c ≡ some (length c) → length_size < length c
+entry_front z c e = let h = (begins_within z c (length c) (begins z c (length c) e)).0 in omega (arith, h)
 
 pub entry_known : (z : Zone) (last : ℕ) (c : List ℕ) → entry_length z c ≡ some (length c) → (version : ℕ) → version ≡ version_in c → may_follow last version ≡ true
     → length c ≡ whole_length z version
@@ -64,24 +68,17 @@ entry_known z last c e version v f =
     let k = (and_true (hour_version version) (leb last version) f).0 in
     begins_known z c (length c) (begins z c (length c) e) (ap hour_version (sym v) ∙ k) ∙ ap (whole_length z) (sym v)
 
-module _ (z : Zone) (k : ℕ) (s : State) (last : ℕ) (c : List ℕ) where
-  abbrev False : CheckedEntry → Type 0
-  False y = y ≡ record { verdict = Refused false_entry k; state = s; last_version = last }
-
+module _ (z : Zone) (k : ℕ) (s : Carried) (c : List ℕ) (version : ℕ) (v : version ≡ version_in c) where
   -- of a version that may not follow
-  pub entry_not_next : (version : ℕ) → version ≡ version_in c → (t : Bool) → t ≡ may_follow last version → t ≡ false → (y : CheckedEntry) → False y
-      → y ≡ checked_entry (carried s last) (Book.check_entry year_interface k c (hour_entry z k (carried s last) (item_in z c)))
+  pub entry_not_next : may_follow s.last_version version ≡ false → refused false_entry k ≡ Book.check_entry year_interface k c (hour_entry z k s (item_in z c))
   unfolding item_in
-  entry_not_next version v t e f y q =
-      rw (step_not_next z (carried s last) (version_in c) (ap (λ (x : ℕ). may_follow last x) (sym v) ∙ sym e ∙ f) (body_in z (version_in c) c) k) q
+  entry_not_next f = rw (step_not_next z s (version_in c) (ap (may_follow s.last_version) (sym v) ∙ f) (body_in z (version_in c) c) k)
 
   -- of one that may: its hour
-  pub entry_by_hour : (version : ℕ) → version ≡ version_in c → (y : CheckedEntry)
-      → y ≡ checked_entry (carried s last) (Book.check_entry year_interface k c (hour_entry z k (carried s last) (hour version (body_in z version c))))
-      → y ≡ checked_entry (carried s last) (Book.check_entry year_interface k c (hour_entry z k (carried s last) (item_in z c)))
+  pub entry_by_hour : (r : Result Carried) → r ≡ Book.check_entry year_interface k c (hour_entry z k s (hour version (body_in z version c)))
+      → r ≡ Book.check_entry year_interface k c (hour_entry z k s (item_in z c))
   unfolding item_in
-  entry_by_hour version v y q =
-      q ∙ ap (λ (x : ℕ). checked_entry (carried s last) (Book.check_entry year_interface k c (hour_entry z k (carried s last) (hour x (body_in z x c))))) v
+  entry_by_hour r q = q ∙ ap (λ (x : ℕ). Book.check_entry year_interface k c (hour_entry z k s (hour x (body_in z x c)))) v
 
 -- the parts of its body, as the code cuts them out: m and n bytes, the conditions and the limits
 abbrev conditions_cut : (c : List ℕ) (m : ℕ) → List ℕ
@@ -102,12 +99,12 @@ module _ (z : Zone) (version : ℕ) (c : List ℕ) (m : ℕ) (m_is : m ≡ condi
   limits_cut_lem whole =
       rw (add-sub_cancel_left (front_size + m) n) (length-take-le n (drop (front_size + m) c) (omega (arith, whole, m_is, n_is, length-drop (front_size + m) c)) ∙ n_is)
 
-module _ (z : Zone) (tested : zone_test z ≡ ok tt) (k : ℕ) (s : State) (last version : ℕ) (follows : may_follow last version ≡ true) (c : List ℕ) where
-  abbrev Checked : CheckedEntry → Type 0
-  Checked y = y ≡ checked_entry (carried s last) (Book.check_entry year_interface k c (hour_entry z k (carried s last) (hour version (body_in z version c))))
+module _ (z : Zone) (tested : zone_test z ≡ ok tt) (k : ℕ) (s : Carried) (version : ℕ) (follows : may_follow s.last_version version ≡ true) (c : List ℕ) where
+  abbrev Checks : Result Carried → Type 0
+  Checks r = r ≡ Book.check_entry year_interface k c (hour_entry z k s (hour version (body_in z version c)))
 
   module _ (whole : length c ≡ whole_length z version) (m : ℕ) (m_is : m ≡ conditions_length z.count) (n : ℕ) (n_is : n ≡ limits_length version)
-      (l : Limits) (l_is : l ≡ limits_in (limits_cut c m n)) (x : HourReply Demand) (r : stepped_in x ≡ next_hour_reply s (next_hour standard_coefficients z version l s (conditions_cut c m))) where
+      (l : Limits) (l_is : l ≡ limits_in (limits_cut c m n)) (x : HourReply Demand) (r : stepped_in x ≡ next_hour_reply s.state (next_hour standard_coefficients z version l s.state (conditions_cut c m))) where
     abbrev i : List ℕ
     i = conditions_cut c m
 
@@ -117,125 +114,134 @@ module _ (z : Zone) (tested : zone_test z ≡ ok tt) (k : ℕ) (s : State) (last
     long : length j ≡ limits_length version
     long = limits_cut_lem z version c m m_is n n_is whole
 
-    by_part : hour_entry z k (carried s last) (hour version (body_in z version c)) ≡ hour_entry z k (carried s last) (hour version (i ++ j))
-    by_part = ap (λ y. hour_entry z k (carried s last) (hour version y)) (cuts_are z version c m m_is n n_is)
+    by_part : hour_entry z k s (hour version (body_in z version c)) ≡ hour_entry z k s (hour version (i ++ j))
+    by_part = ap (λ y. hour_entry z k s (hour version y)) (cuts_are z version c m m_is n n_is)
 
-    pub entry_refused : (a : Refusal) → x.answer ≡ Err a → (y : CheckedEntry) → False z k s last c y → Checked y
-    entry_refused a f y q =
-        let w : hour_entry z k (carried s last) (hour version (body_in z version c)) ≡ refused (number_of a) (index_of a) = by_part ∙ step_refused z tested (carried s last) version follows i j long l (λ _. sym l_is) x r a f k in
-        rw w q
+    pub entry_refused : (a : Refusal) → x.answer ≡ Err a → Checks (refused false_entry k)
+    entry_refused a f =
+        let w : hour_entry z k s (hour version (body_in z version c)) ≡ refused (number_of a) (index_of a) = by_part ∙ step_refused z tested s version follows i j long l (λ _. sym l_is) x r a f k in
+        rw w
 
-    module _ (d : Demand) (f : x.answer ≡ Ok d) (t : Bool) (g : t ≡ equal_bytes (entry_of z version (i ++ j) d x.state) c) where
-      gives : hour_entry z k (carried s last) (hour version (body_in z version c)) ≡ ok (record { bytes = entry_of z version (i ++ j) d x.state; after = carried x.state version })
-      gives = by_part ∙ step_given z tested (carried s last) version follows i j long l (λ _. sym l_is) x r d f k
+    module _ (d : Demand) (f : x.answer ≡ Ok d) where
+      gives : hour_entry z k s (hour version (body_in z version c)) ≡ ok (record { bytes = entry_of z version (i ++ j) d x.state; after = carried x.state version })
+      gives = by_part ∙ step_given z tested s version follows i j long l (λ _. sym l_is) x r d f k
 
-      pub entry_right : t ≡ true → Checked (record { verdict = Accepted; state = x.state; last_version = version })
-      entry_right q = rw (gives, sym g ∙ q)
+      pub entry_right : equal_bytes (entry_of z version (i ++ j) d x.state) c ≡ true → Checks (ok (carried x.state version))
+      entry_right q = rw (gives, q)
 
-      pub entry_other : t ≡ false → (y : CheckedEntry) → False z k s last c y → Checked y
-      entry_other q y h = rw (gives, sym g ∙ q) h
+      pub entry_other : equal_bytes (entry_of z version (i ++ j) d x.state) c ≡ false → Checks (refused false_entry k)
+      entry_other q = rw (gives, q)
 
 -- ---- the loop over the whole entries
 
-check_no : (s : Carried) (r : Result Carried) (x : CheckedEntry) → x ≡ checked_entry s r → (n j : ℕ) → x.verdict ≡ Refused n j → r ≡ refused n j
-check_no s (ok a) x e n j f = apart n j (sym (ap (λ y. y.verdict) e) ∙ f)
-check_no s (refused m k) x e n j f = same_refusal m k n j (sym (ap (λ y. y.verdict) e) ∙ f)
-
-check_yes : (s : Carried) (r : Result Carried) (x : CheckedEntry) → x ≡ checked_entry s r → x.verdict ≡ Accepted → r ≡ ok (carried x.state x.last_version)
-check_yes s (ok a) x e f = λ i. ok (carried (sym e i).state (sym e i).last_version)
-check_yes s (refused m k) x e f = apart m k (sym f ∙ ap (λ y. y.verdict) e)
-
--- what the rest begins with
-module _ (z : Zone) (at : ℕ) (b : List ℕ) (found : Rust.Option ℕ) (read : record_length found ≡ entry_length z (take (length b - at) (drop at b))) where
-  -- the rest, as the code cuts it out
-  rest_is : take (length b - at) (drop at b) ≡ drop at b
-  rest_is = ap (λ (y : ℕ). take y (drop at b)) (sym (length-drop at b)) ∙ take-length (drop at b)
-
-  rest_dropped : found ≡ None → entry_length z (drop at b) ≡ none
-  rest_dropped h = ap (entry_length z) (sym rest_is) ∙ sym read ∙ ap record_length h
-
-  module _ (m : ℕ) (more : found ≡ Some m) where
-    rest_begins : entry_length z (drop at b) ≡ some m
-    rest_begins = ap (entry_length z) (sym rest_is) ∙ sym read ∙ ap record_length more
-
-    -- the record has its front, and lies within the book's bytes
-    pub record_within : (front_size ≤ m) × (m ≤ length b - at)
-    record_within = let w = begins_within z (drop at b) m (begins z (drop at b) m rest_begins) in (w.0, omega (arith, w.1, length-drop at b))
-
-    pub record_cut : entry_length z (take (at + m - at) (drop at b)) ≡ some (length (take (at + m - at) (drop at b)))
-    record_cut = rw (add-sub_cancel_left at m) (record_alone z (drop at b) m (begins z (drop at b) m rest_begins))
-
-module _ (z : Zone) (k : ℕ) (t : State) (last : ℕ) (at : ℕ) (b : List ℕ) (g : BookState) (J : Result (Book.BookState Carried))
-    (inv : J ≡ Book.check_entries year_interface z k (carried t last) at (Book.whole_entries year_interface z (drop at b)))
-    (found : Rust.Option ℕ) (read : record_length found ≡ entry_length z (take (length b - at) (drop at b))) where
-  abbrev Told : Reply → Type 0
-  Told r = r ≡ reply_in (Book.answer_from (given_of g) J)
-
-  abbrev TurnsDown : Reply → (number index : ℕ) → Type 0
-  TurnsDown r n j = r ≡ reply_in (Book.refused_with n j (given_of g))
-
+module _ (z : Zone) (s : Records) (same : s.zone.now ≡ z) (v : BookState) (J : Result (Book.BookState Carried))
+    (inv : J ≡ Book.check_entries year_interface z v.count (given_of v).state v.used (Book.whole_entries year_interface z s.rest.now)) where
   -- no whole entry is left
-  pub check_end : found ≡ None → (r : Reply) → r ≡ reply_in (Book.accepted (record { state = carried t last; count = k; used = at })) → Told r
+  pub check_end : (t : Records) → NextRecord s None t → ok (given_of v) ≡ J
   unfolding Book.check_entries
-  check_end h r q = rw (inv, whole_none year_interface year_laws z (drop at b) (rest_dropped z at b found read h)) q
+  check_end t next = rw (inv, whole_none year_interface year_laws z s.rest.now (rw (← same) next.0))
 
-  module _ (m : ℕ) (more : found ≡ Some m) where
-    whole : entry_length z (drop at b) ≡ some m
-    whole = rest_begins z at b found read m more
+  module _ (c : Bor (List ℕ)) (t : Records) (next : NextRecord s (Some c) t) where
+    whole : entry_length z s.rest.now ≡ some (length c.now)
+    whole = rw (← same) next.0
 
-    opened : Book.whole_entries year_interface z (drop at b) ≡ take m (drop at b) ∷ Book.whole_entries year_interface z (drop (at + m) b)
-    opened =
-        whole_some year_interface year_laws z (drop at b) m whole ∙ ap (λ (x : List ℕ). take m (drop at b) ∷ Book.whole_entries year_interface z x) (drop-drop m at b)
+    pub entry_alone : entry_length z c.now ≡ some (length c.now)
+    entry_alone = subst (λ (x : List ℕ). entry_length z x ≡ some (length x)) (sym next.1) (record_alone z s.rest.now (length c.now) (begins z s.rest.now (length c.now) whole))
 
-    pub check_many : year_interface.limit ≤ k → (r : Reply) → TurnsDown r book_full 0 → Told r
+    pub entry_long : length c.now + length t.rest.now ≡ length s.rest.now
+    entry_long =
+        omega (arith, (begins_within z s.rest.now (length c.now) (begins z s.rest.now (length c.now) whole)).1, ap length next.2 ∙ length-drop (length c.now) s.rest.now)
+
+    opened : Book.whole_entries year_interface z s.rest.now ≡ c.now ∷ Book.whole_entries year_interface z t.rest.now
+    opened = whole_some year_interface year_laws z s.rest.now (length c.now) whole ∙ λ i. sym next.1 i ∷ Book.whole_entries year_interface z (sym next.2 i)
+
+    pub check_many : year_interface.limit ≤ v.count → refused book_full 0 ≡ J
     unfolding Book.check_entries
-    check_many h r q = rw (inv, opened, le-ltb k year_interface.limit h) q
+    check_many h = rw (inv, opened, le-ltb v.count year_interface.limit h)
 
-    module _ (few : k < year_interface.limit) (x : CheckedEntry)
-        (r : x ≡ checked_entry (carried t last) (Book.check_entry year_interface k (take (at + m - at) (drop at b)) (hour_entry z k (carried t last) (item_in z (take (at + m - at) (drop at b)))))) where
-      abbrev Entry : Result Carried
-      Entry = Book.check_entry year_interface k (take m (drop at b)) (hour_entry z k (carried t last) (item_in z (take m (drop at b))))
-
-      r' : x ≡ checked_entry (carried t last) Entry
-      r' =
-          r
-          ∙ ap (λ (n : ℕ). checked_entry (carried t last) (Book.check_entry year_interface k (take n (drop at b)) (hour_entry z k (carried t last) (item_in z (take n (drop at b))))))
-          (add-sub_cancel_left at m)
-
-      pub check_false : (n j : ℕ) → x.verdict ≡ Refused n j → (y : Reply) → TurnsDown y n j → Told y
+    module _ (few : v.count < year_interface.limit) (x : Rust.Result CheckedEntry BookError)
+        (checked : checked_entry x ≡ Book.check_entry year_interface v.count c.now (hour_entry z v.count (given_of v).state (item_in z c.now))) where
+      pub check_false : (e : BookError) → x ≡ Err e → refused (number_of_error e) (index_of_error e) ≡ J
       unfolding Book.check_entries
-      check_false n j e y q =
-          let w : Entry ≡ refused n j = check_no (carried t last) Entry x r' n j e in
-          rw (inv, opened, lt-ltb k year_interface.limit few, w) q
+      check_false e f = rw (inv, opened, lt-ltb v.count year_interface.limit few, sym checked ∙ ap checked_entry f)
 
-      pub check_right : x.verdict ≡ Accepted → J ≡ Book.check_entries year_interface z (k + 1) (carried x.state x.last_version) (at + m) (Book.whole_entries year_interface z (drop (at + m) b))
+      pub check_right : (y : CheckedEntry) → x ≡ Ok y
+          → J ≡ Book.check_entries year_interface z (v.count + 1) (carried y.state y.version) (v.used + length c.now) (Book.whole_entries year_interface z t.rest.now)
       unfolding Book.check_entries
-      check_right e =
-          let n : length (take m (drop at b)) ≡ m = length-take-le m (drop at b) (begins_within z (drop at b) m (begins z (drop at b) m whole)).1 in
-          let w : Entry ≡ ok (carried x.state x.last_version) = check_yes (carried t last) Entry x r' e in
-          rw (inv, opened, lt-ltb k year_interface.limit few, w, n)
+      check_right y f = rw (inv, opened, lt-ltb v.count year_interface.limit few, sym checked ∙ ap checked_entry f)
 
 -- ---- the call
 
-module _ (bytes : List ℕ) (x : Rust.Result ℕ Refusal) (z : Zone) (e : head_read x z ≡ structured_head bytes) (g : BookState) where
-  abbrev TakenUp : Reply → Type 0
-  TakenUp r = r ≡ reply_in (Book.take_up year_interface (given_of g) bytes)
+-- what follows the start-up
+abbrev entries : (bytes : List ℕ) → ReadHead Zone → Carried → Result (Book.BookState Carried)
+entries bytes h s = Book.check_entries year_interface h.zone 0 s h.length (Book.whole_entries year_interface h.zone (drop h.length bytes))
 
-  -- what follows the start-up
-  abbrev entries : ReadHead Zone → Carried → Result (Book.BookState Carried)
-  entries h s = Book.check_entries year_interface h.zone 0 s h.length (Book.whole_entries year_interface h.zone (drop h.length bytes))
+abbrev read : ReadHead Zone → Carried → Book.BookState Carried → Result BookRead
+read h s v = ok (record { head = h; start = s.state; values = v })
 
-  pub take_up_head_lem : (r : Reply) (i : Refusal) → r ≡ reply_in (Book.refused_with (number_of i) (index_of i) (given_of g)) → x ≡ Err i → TakenUp r
-  unfolding Book.take_up Book.take_up_res
-  take_up_head_lem r i q f = rw (head_stops bytes x z e entries i f) q
+abbrev follows : (bytes : List ℕ) → ReadHead Zone → Carried → Result BookRead
+follows bytes h s = bind (entries bytes h s) (read h s)
+
+module _ (bytes : List ℕ) (x : Rust.Result ℕ Refusal) (z : Zone) (e : head_read x z ≡ structured_head bytes) where
+  -- the zone that it leaves
+  pub zone_kept : (given : Zone) → (i : Refusal) → x ≡ Err i → z ≡ given → z ≡ zone_or given (structured_head bytes)
+  zone_kept given i f same = same ∙ rw (head_no (structured_head bytes) x z e i f) refl
+
+  pub zone_read : (given : Zone) → (n : ℕ) → x ≡ Ok n → z ≡ zone_or given (structured_head bytes)
+  zone_read given n f = rw (head_yes (structured_head bytes) x z e n f) refl
+
+  pub read_no_head : (i : Refusal) → x ≡ Err i → refused (number_of i) (index_of i) ≡ read_of bytes
+  unfolding read_of
+  read_no_head i f = sym (head_stops bytes x z e (follows bytes) i f)
 
   module _ (n : ℕ) (f : x ≡ Ok n) (y : Rust.Result State Refusal) (a : answered y ≡ init_node_temps standard_coefficients z) where
-    pub take_up_start : (r : Reply) (i : Refusal) → r ≡ reply_in (Book.refused_with (number_of i) (index_of i) (given_of g)) → y ≡ Err i → TakenUp r
-    unfolding Book.take_up Book.take_up_res
-    take_up_start r i q k = rw (head_goes_on bytes x z e entries n f, starts_not z y a i k) q
+    pub read_no_start : (i : Refusal) → y ≡ Err i → refused (number_of i) (index_of i) ≡ read_of bytes
+    unfolding read_of
+    read_no_start i k = sym (head_goes_on bytes x z e (follows bytes) n f ∙ rw (starts_not z y a i k))
 
-    pub take_up_entries : (s : State) → y ≡ Ok s → (r : Reply)
-        → r ≡ reply_in (Book.answer_from (given_of g) (entries (record { zone = z; length = n }) (carried s no_entry_version)))
-        → TakenUp r
-    unfolding Book.take_up Book.take_up_res
-    take_up_entries s k r q = rw (head_goes_on bytes x z e entries n f, starts z y a s k) q
+    module _ (s : State) (k : y ≡ Ok s) (d : Rust.Result BookState BookError) (q : values_in d ≡ entries bytes (record { zone = z; length = n }) (carried s no_entry_version)) where
+      read_goes_on : read_of bytes ≡ bind (values_in d) λ v. ok (record { head = record { zone = z; length = n }; start = s; values = v })
+      unfolding read_of
+      read_goes_on = head_goes_on bytes x z e (follows bytes) n f ∙ rw (starts z y a s k, q)
+
+      pub read_no_book : (i : BookError) → d ≡ Err i → refused (number_of_error i) (index_of_error i) ≡ read_of bytes
+      read_no_book i l = sym (read_goes_on ∙ rw l refl)
+
+      pub read_all : (v : BookState) → d ≡ Ok v → ok (record { head = record { zone = z; length = n }; start = s; values = given_of v }) ≡ read_of bytes
+      read_all v l = sym (read_goes_on ∙ rw l refl)
+
+-- the values of what is read
+pub values_of_read : (bytes : List ℕ) → Book.take_up_res year_interface bytes ≡ bind (read_of bytes) λ b. ok b.values
+unfolding read_of Book.take_up_res
+values_of_read bytes = of_head (head_of bytes)
+  where
+    of_entries : (h : ReadHead Zone) (s : Carried) (r : Result (Book.BookState Carried)) → r ≡ bind (bind r (read h s)) λ b. ok b.values
+    of_entries h s (ok v) = refl
+    of_entries h s (refused n i) = refl
+
+    of_start : (h : ReadHead Zone) (r : Result Carried) → bind r (entries bytes h) ≡ bind (bind r (follows bytes h)) λ b. ok b.values
+    of_start h (ok s) = of_entries h s (entries bytes h s)
+    of_start h (refused n i) = refl
+
+    of_head : (r : Result (ReadHead Zone)) → bind r (λ h. bind (start_up h.zone) (entries bytes h)) ≡ bind (bind r λ h. bind (start_up h.zone) (follows bytes h)) λ b. ok b.values
+    of_head (ok h) = of_start h (start_up h.zone)
+    of_head (refused n i) = refl
+
+module _ (bytes : List ℕ) (x : Rust.Result ReadBook BookError) (z : Zone) (e : book_read x z ≡ read_of bytes) where
+  pub no_values_read : (i : BookError) → x ≡ Err i → refused (number_of_error i) (index_of_error i) ≡ Book.take_up_res year_interface bytes
+  no_values_read i f = sym (values_of_read bytes ∙ rw (sym e, f) refl)
+
+  pub all_values_read : (b : ReadBook) → x ≡ Ok b → ok (given_of b.values) ≡ Book.take_up_res year_interface bytes
+  all_values_read b f = sym (values_of_read bytes ∙ rw (sym e, f) refl)
+
+pub take_up_told : (bytes : List ℕ) (g : BookState) (x : Rust.Result BookState BookError) → values_in x ≡ Book.take_up_res year_interface bytes
+    → (r : Reply) → answer_of r ≡ Book.answer_from (given_of g) (values_in x) → answer_of r ≡ Book.take_up year_interface (given_of g) bytes
+unfolding Book.take_up
+take_up_told bytes g x e r q = q ∙ ap (Book.answer_from (given_of g)) e
+
+-- the ways out of `check_entry`, of `read_book` and of `taken_up`
+pub ruleset entry_cases = (entry_front, entry_known, entry_not_next, entry_by_hour)
+
+pub ruleset read_cases = (zone_kept, zone_read, read_no_head, read_no_start, read_no_book, read_all)
+
+pub ruleset values_read = (no_values_read, all_values_read)

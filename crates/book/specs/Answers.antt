@@ -1,29 +1,35 @@
 -- What the functions answer, for what the definitions say: the papers' number and index of a refusal, and the values handed back.
-use Rattle.book.specs.declared.verdict.Verdict.{Verdict}
-use Rattle.book.specs.declared.verdict.Verdict.TheVariants.{Accepted, Refused}
+use Rattle.std.specs.Prelude.{ℕ, Ok, Err}
+use Rattle.std.specs.Prelude as Rust
+use Rattle.zone.specs.Answers as Zone
+use Rattle.book.specs.Numbers.{buffer_short, book_full}
 use Rattle.book.specs.Model.Calls as Book
 use Rattle.book.specs.Model.Session.{CodeTypes}
 use Rattle.book.specs.Year.{Carried, carried, year_interface}
+use Rattle.book.specs.declared.book_error.BookError.{BookError}
 use Rattle.book.specs.declared.book.BookState.{BookState}
 use Rattle.book.specs.declared.book.Reply.{Reply}
+
+abbrev pub number_of : BookError → ℕ
+number_of (BookError.Zone e) = Zone.number_of e
+number_of BookError.BufferShort = buffer_short
+number_of BookError.BookFull = book_full
+
+abbrev pub index_of : BookError → ℕ
+index_of (BookError.Zone e) = Zone.index_of e
+index_of BookError.BufferShort = 0
+index_of BookError.BookFull = 0
 
 abbrev pub given_of : BookState → Book.BookState Carried
 given_of v = record { state = carried v.state v.last_version; count = v.count; used = v.used }
 
-abbrev pub book_state_in : Book.BookState Carried → BookState
-book_state_in v = record { state = v.state.state; count = v.count; used = v.used; last_version = v.state.last_version }
+abbrev pub answer_by : Rust.Result (Unit {0}) BookError → Book.BookState Carried → Book.Answer Carried
+answer_by (Ok u) v = Book.accepted v
+answer_by (Err e) v = Book.refused_with (number_of e) (index_of e) v
 
 -- the reply of a call
-abbrev pub reply_in : Book.Answer Carried → Reply
-reply_in (Book.accepted v) = record { verdict = Accepted; values = book_state_in v }
-reply_in (Book.refused_with number index v) = record { verdict = Refused number index; values = book_state_in v }
-
-abbrev pub answer_by : Verdict → Book.BookState Carried → Book.Answer Carried
-answer_by Accepted v = Book.accepted v
-answer_by (Refused number index) v = Book.refused_with number index v
-
 abbrev pub answer_of : Reply → Book.Answer Carried
-answer_of r = answer_by r.verdict (given_of r.values)
+answer_of r = answer_by r.answer (given_of r.values)
 
 abbrev pub rust_types : CodeTypes year_interface
-rust_types = record { BookState = BookState; Reply = Reply; given_of = given_of; answer_of = answer_of; reply_in = reply_in }
+rust_types = record { BookState = BookState; Reply = Reply; given_of = given_of; answer_of = answer_of }

@@ -1,5 +1,5 @@
 -- Document 01, "Refused, operation by operation": which numbers and indices begin, append and take-up can be refused with.
-use Rattle.std.specs.Prelude.{ℕ, ◌<◌, List}
+use Rattle.std.specs.Prelude.{ℕ, ◌<◌, ◌≡◌, List}
 use Rattle.zone.specs.Promise.{RefusesOnly}
 use Rattle.zone.specs.declared.record.zone_record.Zone.{Zone}
 use Rattle.zone.specs.Claims.HeadRefusals.{HeadRefusal, ZoneRefusal}
@@ -8,6 +8,8 @@ use Rattle.book.specs.Model.Calls.{BookState, begin_res, append_res, take_up_res
 use Rattle.book.specs.Year.{Item, Carried, year_interface}
 use Rattle.book.specs.Numbers.{buffer_short, book_full, false_entry}
 use Rattle.book.specs.Layout.{most_entries}
+use Rattle.book.specs.Answers.{number_of, index_of}
+use Rattle.book.specs.declared.book_error.BookError.{BookError}
 
 -- "Begin book: head, start-up, then buffer too short, 16."
 pub data BeginRefusal : (number index : ℕ) → Type 0 where
@@ -36,3 +38,7 @@ pub record BookRefusals : Type 0 where
   pub begins : (head buf : List ℕ) → RefusesOnly BeginRefusal (begin_res year_interface head buf)
   pub appends : (z : Zone) (given : BookState Carried) (i : Item) (buf : List ℕ) → RefusesOnly (AppendRefusal given.count) (append_res year_interface z given i buf)
   pub take_ups : (bytes : List ℕ) → RefusesOnly TakeUpRefusal (take_up_res year_interface bytes)
+
+-- "number and index": no two errors have the same
+abbrev pub OneError : Type 0
+OneError = (e e' : BookError) → number_of e ≡ number_of e' → index_of e ≡ index_of e' → e ≡ e'

@@ -1,22 +1,17 @@
 // Begin and append.
-ghost use Rattle.std.specs.Prelude.{◌≡◌, true, ◌++◌, ◌+◌, ◌<◌, length, leb};
-ghost use Rattle.zone.specs.Promise.{ok};
-ghost use Rattle.zone.specs.Answers.{number_of, index_of};
-ghost use Rattle.zone.specs.Check.ZoneTest.{zone_test};
+ghost use Rattle.std.specs.Prelude.{◌≡◌, ◌+◌, leb, OnErr};
 ghost use Rattle.book.specs.Model.Calls as Book;
 ghost use Rattle.book.specs.Model.Session.{CallSpec};
-ghost use Rattle.book.specs.Layout.{most_entries};
-ghost use Rattle.book.specs.Entry.{entry_of};
-ghost use Rattle.book.specs.Year.{carried, may_follow, limits_part, hour_item, year_interface, hour_entry};
-ghost use Rattle.book.specs.Answers.{given_of, reply_in, rust_types};
+ghost use Rattle.book.specs.Year.{carried, no_entry_version, hour_item, year_interface};
+ghost use Rattle.book.specs.Answers.{given_of, answer_of, rust_types};
+ghost use Rattle.book.specs.Inner.Answers.{values_in, written};
 
+use crate::book_error::{BookError, false_entry};
 use crate::bytes::put;
-use crate::entry::{put_hour, whole_length};
+use crate::entry::{Entry, limits_bytes, limits_length, put_entry, whole_length};
 use crate::layout::MOST_ENTRIES;
-use crate::numbers::{BOOK_FULL, BUFFER_SHORT, FALSE_ENTRY};
-use crate::verdict::Verdict;
 use crate::versions::{NO_ENTRY_VERSION, may_follow};
-use zone::{Demand, Limits, Refusal, State, Zone, init_node_temps, read_head, zone_test};
+use zone::{Limits, State, Zone, init_node_temps, read_head, zone_test};
 
 // What a call is given and hands back: the node temperatures, the count of entries, the used length and the version of the last entry, 1 where there is
 // none.
@@ -25,155 +20,121 @@ pub struct BookState {
     pub state: State,
     pub count: usize,
     pub used: usize,
-    pub last_version: u64,
+    pub last_version: u64, // a number: the papers put versions in order, and a caller may name any
 }
 
-// Acceptance, or number and index, with the values handed back: the new ones, or those that were given.
+// The papers' answer: "acceptance, or number and index, with the values handed back", the new ones, or those that were given.
 #[derive(Clone, Copy)]
 pub struct Reply {
-    pub verdict: Verdict,
+    pub answer: Result<(), BookError>,
     pub values: BookState,
 }
 
-pub fn refuse(given: BookState, number: u32, index: usize) -> Reply
-    ensures { result ≡ reply_in (Book.refused_with number index (given_of given)) }
+// The reply of a call that gives new values, or is refused.
+pub fn replied(given: BookState, called: Result<BookState, BookError>) -> Reply
+    ensures { answer_of result ≡ Book.answer_from (given_of given) (values_in called) }
 {
-    Reply {
-        verdict: Verdict::Refused { number, index },
-        values: given,
-    }
-}
-
-// What a call on the zone was refused with.
-pub fn refused_by(given: BookState, e: Refusal) -> Reply
-    ensures { result ≡ reply_in (Book.refused_with (number_of e) (index_of e) (given_of given)) }
-{
-    refuse(given, e.number(), e.index())
-}
-
-pub fn accept(state: State, last_version: u64, count: usize, used: usize) -> Reply
-    ensures { result ≡ reply_in (Book.accepted (record { state = carried state last_version; count = count; used = used })) }
-{
-    Reply {
-        verdict: Verdict::Accepted,
-        values: BookState {
-            state,
-            count,
-            used,
-            last_version,
+    match called {
+        Ok(values) => Reply {
+            answer: Ok(()),
+            values,
+        },
+        Err(e) => Reply {
+            answer: Err(e),
+            values: given,
         },
     }
 }
 
-// Is there room for so many bytes behind the used ones. `used` may be any number.
-#[tactic(auto, using(crate::proofs::Calls::room_none, crate::proofs::Calls::room_left))]
-fn has_room(used: usize, length: usize, room: usize) -> bool
-    ensures { result ≡ leb (used + length) room }
+// The values of a book with no entries: start-up's state, and the length of the head.
+pub fn no_entries(state: State, head_length: usize) -> BookState
+    ensures { given_of result ≡ record { state = carried state no_entry_version; count = 0; used = head_length } }
 {
-    if room < used {
-        return false;
+    BookState {
+        state,
+        count: 0,
+        used: head_length,
+        last_version: NO_ENTRY_VERSION,
     }
-    length <= room - used
 }
 
-// A book with no entries: the head's bytes into the buffer.
+// A book with no entries: the head's bytes into the buffer. The values of it.
+#[tactic(auto, using(crate::proofs::Calls::begin_no_head, crate::proofs::Calls::begin_no_start, crate::proofs::Calls::begin_inside))]
+fn begun(head: &[u8], buf: &mut [u8]) -> Result<BookState, BookError>
+    ensures begun { written result buf.new ≡ Book.begin_res year_interface head.now buf.old }
+    ensures kept { OnErr result (buf.new ≡ buf.old) }
+{
+    let mut zone = Zone::none();
+    let n = read_head(head, &mut zone)?;
+    let state = init_node_temps(&zone)?;
+    if buf.len() < n {
+        return Err(BookError::BufferShort);
+    }
+    put(&head[..n], buf, 0);
+    Ok(no_entries(state, n))
+}
+
+#[tactic(auto, using(crate::proofs::Calls::begin_told))]
 pub fn begin(given: BookState, head: &[u8], buf: &mut [u8]) -> Reply
     ensures { CallSpec year_interface rust_types result buf.new (Book.begin year_interface head.now (given_of given) buf.old) }
 {
-    let mut zone = Zone::none();
-    match read_head(head, &mut zone) {
-        Err(e) => refused_by(given, e),
-        Ok(n) => match init_node_temps(&zone) {
-            Err(e) => refused_by(given, e),
-            Ok(state) => {
-                if buf.len() < n {
-                    return refuse(given, BUFFER_SHORT, 0);
-                }
-                put(&head[..n], buf, 0);
-                accept(state, NO_ENTRY_VERSION, 0, n)
-            }
-        },
-    }
+    let called = begun(head, buf);
+    replied(given, called)
 }
 
-// An append whose hour is accepted: the last test, and only then the entry's bytes.
-#[tactic(auto, using(crate::proofs::Calls::append_room, crate::proofs::Calls::append_sum, crate::proofs::Calls::step_size, crate::proofs::Laws::Body::part_length, zone::proofs::Promise::tested_few))]
-fn append_entry(
-    z: &Zone,
-    given: BookState,
-    conditions: &[u8],
-    version: u64,
-    limits: Limits,
-    demand: Demand,
-    after: State,
-    buf: &mut [u8],
-) -> Reply
-    requires { (zone_test z.now ≡ ok tt) × (given.count < most_entries) × (hour_entry z.now given.count (given_of given).state (hour_item version conditions.now limits) ≡ ok (record { bytes = entry_of z.now version (conditions.now ++ limits_part version limits) demand after; after = carried after version })) }
-    ensures { CallSpec year_interface rust_types result buf.new (Book.append year_interface z.now (given_of given) (hour_item version conditions.now limits) buf.old) }
+// Is there room for so many bytes behind the used ones. `used` may be any number.
+fn has_room(used: usize, length: usize, room: usize) -> bool
+    ensures { result ≡ leb (used + length) room }
 {
-    let count = given.count;
-    let used = given.used;
-    let length = whole_length(z, version);
-    if has_room(used, length, buf.len()) {
-        let end = used + length;
-        put_hour(z, version, conditions, limits, demand, after, buf, used);
-        accept(after, version, count + 1, end)
-    } else {
-        refuse(given, BUFFER_SHORT, 0)
-    }
+    used.checked_add(length).is_some_and(|end| end <= room)
 }
 
-// An append, once zone, count and version are tested.
-fn append_hour(
+// An hour's entry behind the used bytes, and the values with it. The entry's bytes are written once all tests are passed.
+#[tactic(auto, using(crate::proofs::Calls::append_cases, zone::proofs::Promise::tested_few))]
+fn appended(
     z: &Zone,
-    given: BookState,
+    given: &BookState,
     conditions: &[u8],
     version: u64,
     limits: Limits,
     buf: &mut [u8],
-) -> Reply
-    requires { (zone_test z.now ≡ ok tt) × (given.count < most_entries) × (may_follow given.last_version version ≡ true) }
-    ensures { CallSpec year_interface rust_types result buf.new (Book.append year_interface z.now (given_of given) (hour_item version conditions.now limits) buf.old) }
+) -> Result<BookState, BookError>
+    ensures appended { written result buf.new
+        ≡ Book.append_res year_interface z.now (given_of given.now) (hour_item version conditions.now limits) buf.old }
+    ensures kept { OnErr result (buf.new ≡ buf.old) }
 {
-    let reply = given.state.next_hour(z, conditions, version, limits);
-    match reply.answer {
-        Err(e) => refused_by(given, e),
-        Ok(demand) => append_entry(
-            z,
-            given,
-            conditions,
-            version,
-            limits,
-            demand,
-            reply.state,
-            buf,
-        ),
-    }
-}
-
-// An append, once the zone is tested: 17, then 18 with the count held.
-fn append_tested(
-    z: &Zone,
-    given: BookState,
-    conditions: &[u8],
-    version: u64,
-    limits: Limits,
-    buf: &mut [u8],
-) -> Reply
-    requires { zone_test z.now ≡ ok tt }
-    ensures { CallSpec year_interface rust_types result buf.new (Book.append year_interface z.now (given_of given) (hour_item version conditions.now limits) buf.old) }
-{
+    zone_test(z)?;
     if MOST_ENTRIES <= given.count {
-        return refuse(given, BOOK_FULL, 0);
+        return Err(BookError::BookFull);
     }
-    if may_follow(given.last_version, version) {
-        return append_hour(z, given, conditions, version, limits, buf);
+    if !may_follow(given.last_version, version) {
+        return Err(false_entry(given.count));
     }
-    refuse(given, FALSE_ENTRY, given.count)
+    let hour = given.state.next_hour(z, conditions, version, limits);
+    let demand = hour.answer?;
+    let length = whole_length(z, version);
+    if !has_room(given.used, length, buf.len()) {
+        return Err(BookError::BufferShort);
+    }
+    let bytes = limits_bytes(limits);
+    let entry = Entry {
+        version,
+        conditions,
+        limits: &bytes[..limits_length(version)],
+        demand,
+        after: &hour.state,
+    };
+    put_entry(z, &entry, buf, given.used);
+    Ok(BookState {
+        state: hour.state,
+        count: given.count + 1,
+        used: given.used + length,
+        last_version: version,
+    })
 }
 
 // An hour's entry behind the used bytes, of the version that is named; the limits stand in it where the version has them.
-#[tactic(auto, using(crate::proofs::Calls::zone_passed))]
+#[tactic(auto, using(crate::proofs::Calls::append_told))]
 pub fn append(
     z: &Zone,
     given: BookState,
@@ -182,10 +143,9 @@ pub fn append(
     limits: Limits,
     buf: &mut [u8],
 ) -> Reply
-    ensures { CallSpec year_interface rust_types result buf.new (Book.append year_interface z.now (given_of given) (hour_item version conditions.now limits) buf.old) }
+    ensures { CallSpec year_interface rust_types result buf.new
+        (Book.append year_interface z.now (given_of given) (hour_item version conditions.now limits) buf.old) }
 {
-    match zone_test(z) {
-        Err(e) => refused_by(given, e),
-        Ok(()) => append_tested(z, given, conditions, version, limits, buf),
-    }
+    let called = appended(z, &given, conditions, version, limits, buf);
+    replied(given, called)
 }

@@ -1,21 +1,22 @@
-// The bytes of an entry.
+// The bytes of an entry. A zone may say any count of elements; a length is asked for once that is found to be at most 24. A type for such a zone would be made
+// and opened by each of the five callers, which know it from the zone's test or have looked: no plainer than `z.now.count ≤ 24`.
 ghost use Rattle.std.specs.Prelude.{◌≡◌, ◌++◌, ◌+◌, ◌*◌, ◌≤◌, length, take};
 ghost use Rattle.zone.specs.Record.BuildingElement.{node_count};
 ghost use Rattle.book.specs.Model.Bytes.{equal_bytes};
 ghost use Rattle.zone.specs.Format.Encode.{row_bytes};
 ghost use Rattle.zone.specs.Format.Bytes.{float_size};
 ghost use Rattle.zone.specs.Format.Layout.{conditions_length};
+ghost use Rattle.book.specs.Inner.Entry.{EntryFits, bytes_in};
 ghost use Rattle.zone.specs.Format.Limits.{power_limits_size, limits_bytes};
 ghost use Rattle.book.specs.Layout.{front_size, limits_length, following_length, whole_length};
-ghost use Rattle.book.specs.Entry.{front_bytes, trigger_bytes, demand_bytes, entry_of};
-ghost use Rattle.book.specs.Year.{limits_part};
+ghost use Rattle.book.specs.Entry.{front_bytes, trigger_bytes, demand_bytes};
 ghost use Rattle.book.specs.Inner.Replace.{replace_at};
 ghost use Rattle.book.specs.Inner.Sizes.{trigger_size, demand_size, longest_following, longest_entry};
 
-use crate::bytes::{begins_with, put, write_be, write_f64_be, write_f64s_be};
+use crate::bytes::{put, write_f64_be, write_f64s_be};
 use crate::layout::{
     CONDITIONS_ELEMENT, CONDITIONS_SIZE, DEMAND_SIZE, FIXED_LENGTH, FLOAT_SIZE, FRONT_SIZE,
-    LENGTH_SIZE, LIMITS_SIZE, LONGEST_ENTRY, RATES_SIZE, VERSION_SIZE,
+    LENGTH_SIZE, LIMITS_SIZE, LONGEST_ENTRY, RATES_SIZE,
 };
 use zone::{Demand, Limits, State, Zone, has_limits};
 
@@ -65,19 +66,19 @@ fn put_front(z: &Zone, version: u64, b: &mut [u8], at: usize)
     requires { (z.now.count ≤ 24) × (at + front_size ≤ length b.old) }
     ensures { b.new ≡ replace_at at (front_bytes z.now version) b.old }
 {
-    let length = length_field(z, version);
-    write_be(b, at, LENGTH_SIZE, length as u64);
-    write_be(b, at + LENGTH_SIZE, VERSION_SIZE, version);
+    let length = length_field(z, version) as u32;
+    put(&length.to_be_bytes(), b, at);
+    put(&[(version % 256) as u8], b, at + LENGTH_SIZE);
 }
 
 // Greatest heating, greatest cooling.
 #[tactic(auto, using(crate::proofs::Laws::Writing::limits_written))]
-fn put_limits(limits: Limits, b: &mut [u8])
-    requires { length b.old ≡ power_limits_size }
-    ensures { b.new ≡ limits_bytes limits }
+pub fn limits_bytes(limits: Limits) -> [u8; LIMITS_SIZE]
+    ensures { result ≡ limits_bytes limits }
 {
-    let row = [limits.heating, limits.cooling];
-    write_f64s_be(b, 0, &row);
+    let mut bytes = [0; LIMITS_SIZE];
+    write_f64s_be(&mut bytes, 0, &[limits.heating, limits.cooling]);
+    bytes
 }
 
 #[tactic(auto, using(crate::proofs::Laws::Writing::trigger_absent, crate::proofs::Laws::Writing::trigger_at))]
@@ -86,12 +87,9 @@ fn put_trigger(trigger: Option<f64>, b: &mut [u8], at: usize)
     ensures { b.new ≡ replace_at at (trigger_bytes trigger) b.old }
 {
     match trigger {
-        None => {
-            write_be(b, at, 1, 0);
-            write_be(b, at + 1, FLOAT_SIZE, 0);
-        }
+        None => put(&[0; 1 + FLOAT_SIZE], b, at),
         Some(rate) => {
-            write_be(b, at, 1, 1);
+            put(&[1], b, at);
             write_f64_be(b, at + 1, rate);
         }
     }
@@ -110,79 +108,50 @@ fn put_demand(d: Demand, b: &mut [u8], at: usize)
 
 // The first `nodes` temperatures.
 #[tactic(auto, using(crate::proofs::Laws::Entry::floats_few))]
-fn put_temperatures(s: State, nodes: usize, b: &mut [u8], at: usize)
+fn put_temperatures(s: &State, nodes: usize, b: &mut [u8], at: usize)
     requires { (nodes ≤ 121) × (at + float_size * nodes ≤ length b.old) }
-    ensures { b.new ≡ replace_at at (row_bytes (take nodes s.temps)) b.old }
+    ensures { b.new ≡ replace_at at (row_bytes (take nodes s.now.temps)) b.old }
 {
     write_f64s_be(b, at, &s.temps[..nodes]);
 }
 
-// An entry from `at` on: length and version, the bytes of the conditions and of the limits as they are lent, the demand and the temperatures after the hour.
+// What an entry holds behind its length: the version, the bytes of the conditions and of the limits, the demand, and the state after the hour.
+#[derive(Clone, Copy)]
+pub struct Entry<'a> {
+    pub version: u64,
+    pub conditions: &'a [u8],
+    pub limits: &'a [u8],
+    pub demand: Demand,
+    pub after: &'a State,
+}
+
+// An entry from `at` on.
 #[tactic(auto, using(crate::proofs::Laws::Writing::entry_written))]
-fn put_entry(
-    z: &Zone,
-    version: u64,
-    conditions: &[u8],
-    limits: &[u8],
-    d: Demand,
-    s: State,
-    b: &mut [u8],
-    at: usize,
-)
-    requires { (z.now.count ≤ 24) × (length conditions.now ≡ conditions_length z.now.count) × (length limits.now ≡ limits_length version) × (at + whole_length z.now version ≤ length b.old) }
-    ensures { b.new ≡ replace_at at (entry_of z.now version (conditions.now ++ limits.now) d s) b.old }
+pub fn put_entry(z: &Zone, e: &Entry<'_>, b: &mut [u8], at: usize)
+    requires { (z.now.count ≤ 24) × EntryFits z.now e.now × (at + whole_length z.now e.now.version ≤ length b.old) }
+    ensures { b.new ≡ replace_at at (bytes_in z.now e.now) b.old }
 {
-    let n = conditions.len();
-    let m = limits.len();
-    let nodes = nodes_of(z);
     let conditions_at = at + FRONT_SIZE;
-    let limits_at = conditions_at + n;
-    let demand_at = limits_at + m;
-    let temperatures_at = demand_at + DEMAND_SIZE;
-    put_front(z, version, b, at);
-    put(conditions, b, conditions_at);
-    put(limits, b, limits_at);
-    put_demand(d, b, demand_at);
-    put_temperatures(s, nodes, b, temperatures_at);
+    let limits_at = conditions_at + e.conditions.len();
+    let demand_at = limits_at + e.limits.len();
+    put_front(z, e.version, b, at);
+    put(e.conditions, b, conditions_at);
+    put(e.limits, b, limits_at);
+    put_demand(e.demand, b, demand_at);
+    put_temperatures(e.after, nodes_of(z), b, demand_at + DEMAND_SIZE);
 }
 
-// The entry of an hour that is given with its limits, which are written where the version has them.
-pub fn put_hour(
-    z: &Zone,
-    version: u64,
-    conditions: &[u8],
-    limits: Limits,
-    d: Demand,
-    s: State,
-    b: &mut [u8],
-    at: usize,
-)
-    requires { (z.now.count ≤ 24) × (length conditions.now ≡ conditions_length z.now.count) × (at + whole_length z.now version ≤ length b.old) }
-    ensures { b.new ≡ replace_at at (entry_of z.now version (conditions.now ++ limits_part version limits) d s) b.old }
-{
-    let mut bytes = [0; LIMITS_SIZE];
-    put_limits(limits, &mut bytes);
-    let n = limits_length(version);
-    put_entry(z, version, conditions, &bytes[..n], d, s, b, at);
-}
-
-// Is a whole entry the one that this version, these conditions and limits, this demand and these temperatures have: it is written anew and compared. Not
-// inlined, so that the stack of a take-up does not hold its buffer while an hour is calculated.
+// Is a whole entry this one: it is written anew and compared. Not inlined, so that the stack of a take-up does not hold its buffer while an hour is calculated.
 #[inline(never)]
 #[tactic(auto, using(crate::proofs::Laws::Writing::entry_compared))]
-pub fn is_entry(
-    z: &Zone,
-    version: u64,
-    conditions: &[u8],
-    limits: &[u8],
-    d: Demand,
-    s: State,
-    entry: &[u8],
-) -> bool
-    requires { (z.now.count ≤ 24) × (length conditions.now ≡ conditions_length z.now.count) × (length limits.now ≡ limits_length version) × (length entry.now ≡ whole_length z.now version) × (length (entry_of z.now version (conditions.now ++ limits.now) d s) ≡ whole_length z.now version) × (whole_length z.now version ≤ longest_entry) }
-    ensures { result ≡ equal_bytes (entry_of z.now version (conditions.now ++ limits.now) d s) entry.now }
+pub fn is_entry(z: &Zone, e: &Entry<'_>, entry: &[u8]) -> bool
+    requires { (z.now.count ≤ 24) × EntryFits z.now e.now
+        × (length entry.now ≡ whole_length z.now e.now.version)
+        × (length (bytes_in z.now e.now) ≡ whole_length z.now e.now.version)
+        × (whole_length z.now e.now.version ≤ longest_entry) }
+    ensures { result ≡ equal_bytes (bytes_in z.now e.now) entry.now }
 {
     let mut expected = [0u8; LONGEST_ENTRY];
-    put_entry(z, version, conditions, limits, d, s, &mut expected, 0);
-    begins_with(&expected, entry)
+    put_entry(z, e, &mut expected, 0);
+    expected.starts_with(entry)
 }

@@ -2,18 +2,17 @@
 #![tactic(auto)]
 
 mod book;
+mod book_error;
 mod bytes;
 mod checked_entry;
 mod entries;
 mod entry;
 mod layout;
-mod numbers;
 mod reader;
 mod record;
-mod verdict;
 mod versions;
 
 pub use book::{BookState, Reply, append, begin};
+pub use book_error::BookError;
 pub use entries::{ReadBook, read_book, take_up};
 pub use reader::read_entry;
-pub use verdict::Verdict;

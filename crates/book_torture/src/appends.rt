@@ -1,13 +1,13 @@
 // Appends behind hours of the small book: of versions that no hour has, with limits out of their range, and into little room.
 use crate::hours::limits_at;
-use crate::replies::{Refusal, accepted, is_refused, same_book_states};
+use crate::replies::{accepted, is_refused, same_book_states};
 use crate::small_book::{Book, HOURS, PLAN, ROOM};
 use crate::stored_limits::OUTSIDE;
 use crate::tally::Tally;
 use crate::version::Version;
-use book::{BookState, Reply};
+use book::{BookError, BookState, Reply};
 use std::num::f64_from_bits_with_nan;
-use zone::Limits;
+use zone::{Limits, Refusal};
 
 // Versions that no hour has; the lowest byte of the last is one.
 const UNKNOWN: [u64; 4] = [0, 4, 255, 259];
@@ -34,7 +34,7 @@ impl Taken<'_, '_> {
     }
 
     // It is refused so, and nothing is changed.
-    fn refuses(&self, version: u64, limits: Limits, refusal: Refusal) -> bool {
+    fn refuses(&self, version: u64, limits: Limits, refusal: BookError) -> bool {
         let (reply, b) = self.append(version, limits);
         b == self.whole.bytes && is_refused(reply, &self.given, refusal)
     }
@@ -71,7 +71,7 @@ impl Appends {
             heating: -1.0,
             cooling: -1.0,
         };
-        let refusal = Refusal::FalseEntry(taken.given.count);
+        let refusal = BookError::Zone(Refusal::FalseEntry(taken.given.count));
         for version in UNKNOWN {
             self.unknown.count(taken.refuses(version, limits, refusal));
         }
@@ -79,8 +79,8 @@ impl Appends {
 
     // A bad limit is refused in version 3, and in an older one, where that may follow, not looked at.
     fn count_limits(&mut self, taken: Taken, limits: Limits, last: Version) {
-        self.out_of_range
-            .count(taken.refuses(3, limits, Refusal::LimitOutOfRange));
+        let refusal = BookError::Zone(Refusal::LimitValue);
+        self.out_of_range.count(taken.refuses(3, limits, refusal));
         for version in [Version::One, Version::Two] {
             if last <= version {
                 self.not_looked_at

@@ -4,16 +4,15 @@ ghost use Rattle.std.specs.Iterator.{IsFinite};
 
 use crate::fill::append_hours;
 use crate::layout::HEAD;
-use crate::replies::{
-    Refusal, has_entries, is_refused, is_take_up_refused, same_book_states, taken_up,
-};
+use crate::replies::{has_entries, is_refused, is_take_up_refused, same_book_states, taken_up};
 use crate::small_book::{Book, CUT_OFF, HOURS, ROOM};
 use crate::tally::Tally;
 use crate::version::Version;
 use big_endian::{part, put_bytes};
-use book::BookState;
+use book::{BookError, BookState};
 use std::iter::StepBy;
 use std::ops::Range;
+use zone::Refusal;
 
 // Cuts that are spread over a book.
 const SPREAD: usize = 2000;
@@ -46,7 +45,10 @@ impl Continuation<'_> {
     fn is_right_at(&self, cut: usize) -> bool {
         // Within the head nothing is taken up.
         if cut < HEAD {
-            return is_take_up_refused(part(&self.whole.bytes, 0, cut), Refusal::EndsEarly);
+            return is_take_up_refused(
+                part(&self.whole.bytes, 0, cut),
+                BookError::Zone(Refusal::HeadShort),
+            );
         }
         let mut b = [CUT_OFF; ROOM];
         put_bytes(&mut b, 0, part(&self.whole.bytes, 0, cut));
@@ -69,7 +71,12 @@ impl Continuation<'_> {
     fn is_refused_behind(&self, taken: BookState, version: Version, b: &mut [u8; ROOM]) -> bool {
         let before = *b;
         let reply = self.whole.house.append(taken, u64::from(version), b);
-        *b == before && is_refused(reply, &taken, Refusal::FalseEntry(taken.count))
+        *b == before
+            && is_refused(
+                reply,
+                &taken,
+                BookError::Zone(Refusal::FalseEntry(taken.count)),
+            )
     }
 
     // The wanted book, which ends so, and nothing behind it.

@@ -1,17 +1,18 @@
 // A small book with one byte changed, and what take-up answers of it.
 use crate::expected::{Expected, expected_at, is_answered};
 use crate::layout::{HEAD, LIMITS, LIMITS_PLACE};
-use crate::replies::Refusal;
 use crate::small_book::{Book, PLAN, USED};
 use crate::tally::{Tally, count_one};
 use crate::version::Version;
 use big_endian::{byte_at, part, put_byte};
+use book::BookError;
 use std::ops::Range;
+use zone::Refusal;
 
 // One bit, all bits or the highest, by the place.
 const CHANGES: [u8; 5] = [1, 255, 16, 128, 2];
 
-// How many of the answers to changed bytes were as expected, and which answers were expected.
+// How many of the answers to changed bytes were as expected, and which answers were expected: `held` counts acceptances.
 #[derive(Clone, Copy, Default)]
 pub struct Damages {
     pub answers: Tally,
@@ -52,19 +53,21 @@ impl Damages {
         match (part, expected) {
             (Part::Limits, Ok(_)) => count_one(&mut self.held_limit),
             (Part::Head | Part::RestOfEntry, Ok(_)) => count_one(&mut self.held),
-            (Part::Head, Err(Refusal::FalseEntry(_))) => count_one(&mut self.other_head),
+            (Part::Head, Err(BookError::Zone(Refusal::FalseEntry(_)))) => count_one(
+                &mut self.other_head,
+            ),
             (Part::Head, Err(_)) => count_one(&mut self.refused_head),
             (Part::Limits, Err(_)) => count_one(&mut self.false_limit),
             (Part::RestOfEntry, Err(_)) => count_one(&mut self.false_entry),
         }
     }
 
-    // The byte at a place changed, and back.
+    // The byte at a place changed, and back: in place, here and in the other files, since what is asked in between differs from file to file.
     fn count_at(&mut self, book: &mut Book, place: usize) {
         let house = book.house;
         let b = &mut book.bytes;
         let byte = byte_at(b, place);
-        put_byte(b, place, byte ^ CHANGES[place % 5]);
+        put_byte(b, place, byte ^ CHANGES[place % CHANGES.len()]);
         let bytes = part(b, 0, USED);
         let expected = expected_at(house, bytes, place);
         self.count(Part::at(place), expected, is_answered(bytes, expected));

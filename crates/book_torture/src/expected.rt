@@ -4,18 +4,20 @@ use crate::entry::Entry;
 use crate::house::House;
 use crate::layout::{FRONT, HEAD};
 use crate::plan::{Entries, Plan};
-use crate::replies::{Refusal, has_entries, is_take_up_refused, same_states, taken_up};
+use crate::replies::{has_entries, is_take_up_refused, same_states, taken_up};
 use crate::small_book::{HOURS, PLAN};
 use crate::version::Version;
 use crate::walk::{last_state, walk_on};
-use book::BookState;
+use book::{BookError, BookState};
+use zone::Refusal;
 
 // What an acceptance hands back, but for the state.
-pub type Expected = Result<Entries, Refusal>;
+pub type Expected = Result<Entries, BookError>;
 
 // The values handed back are those of so many entries, with the temperatures that stand in the last.
 fn holds(values: &BookState, b: &[u8], entries: Entries) -> bool {
-    let has_state = last_state(b, entries).is_none_or(|state| same_states(&values.state, &state));
+    let has_state = entries.count == 0
+        || last_state(b, entries).is_some_and(|state| same_states(&values.state, &state));
     has_entries(values, entries) && has_state
 }
 
@@ -48,7 +50,7 @@ fn expected_behind(plan: Plan, entry: usize, version: Version) -> Expected {
         });
     }
     if plan.version_at(next) < version {
-        return Err(Refusal::FalseEntry(next));
+        return Err(BookError::Zone(Refusal::FalseEntry(next)));
     }
     Ok(plan.entries(HOURS))
 }
@@ -57,7 +59,7 @@ fn expected_behind(plan: Plan, entry: usize, version: Version) -> Expected {
 // entry reaches into the next one, or past the end, and is dropped; of a shorter one it ends early. Its length is false in both.
 pub fn expected_with_version(b: &[u8], plan: Plan, entry: usize, byte: u8) -> Expected {
     let Ok(version) = Version::try_from(byte) else {
-        return Err(Refusal::FalseEntry(entry));
+        return Err(BookError::Zone(Refusal::FalseEntry(entry)));
     };
     let rest = plan.place_of(HOURS).saturating_sub(plan.place_of(entry));
     if rest < version.entry_length() {
@@ -65,7 +67,7 @@ pub fn expected_with_version(b: &[u8], plan: Plan, entry: usize, byte: u8) -> Ex
     } else if may_be_true(b, plan, entry, version) {
         expected_behind(plan, entry, version)
     } else {
-        Err(Refusal::FalseEntry(entry))
+        Err(BookError::Zone(Refusal::FalseEntry(entry)))
     }
 }
 
@@ -76,7 +78,7 @@ pub fn expected_of_rest(count: usize, rest: usize, byte: u8) -> Expected {
     if is_dropped {
         Ok(PLAN.entries(count))
     } else {
-        Err(Refusal::FalseEntry(count))
+        Err(BookError::Zone(Refusal::FalseEntry(count)))
     }
 }
 

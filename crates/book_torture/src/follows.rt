@@ -2,12 +2,13 @@
 // them also where they may not follow; take-up holds them to the order.
 use crate::expected::is_answered;
 use crate::hours::limits_at;
-use crate::replies::{Refusal, accepted};
+use crate::replies::accepted;
 use crate::small_book::{Book, HOURS, PLAN};
 use crate::tally::Tally;
 use crate::version::{VERSIONS, Version};
 use big_endian::part;
-use book::BookState;
+use book::{BookError, BookState};
+use zone::Refusal;
 
 // What an append takes for the last version where any version is to be written.
 const MADE_UP: u64 = 1;
@@ -34,8 +35,10 @@ impl Follows {
         let after = before.followed_by(version);
         let bytes = part(&b, 0, after.used);
         if version < before.last_version {
-            self.may_not
-                .count(is_answered(bytes, Err(Refusal::FalseEntry(count))));
+            self.may_not.count(is_answered(
+                bytes,
+                Err(BookError::Zone(Refusal::FalseEntry(count))),
+            ));
         } else {
             self.may.count(is_answered(bytes, Ok(after)));
         }

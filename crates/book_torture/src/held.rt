@@ -30,8 +30,8 @@ pub struct Held {
 impl HeldHours {
     fn add(&mut self, hour: usize, limit: f64) {
         count_one(&mut self.count);
-        if self.first.is_none() && 0.0 < limit {
-            self.first = Some(hour);
+        if 0.0 < limit {
+            self.first.get_or_insert(hour);
         }
     }
 }

@@ -68,6 +68,7 @@ fn put_parts(b: &mut [u8; CONDITIONS], outside: f64, light: f64, hour: usize) {
     put_byte(b, 194, (hour / 6 % 4) as u8);
 }
 
+// Place by place as the paper gives the bytes, since the engine that is tested does not write them.
 pub fn conditions(hour: usize) -> [u8; CONDITIONS] {
     let mut b = [0; CONDITIONS];
     let outside = external(hour);
@@ -84,13 +85,21 @@ pub fn conditions(hour: usize) -> [u8; CONDITIONS] {
     b
 }
 
-// The plant of an hour: mostly one that is small, in some hours none, of either zero, or more than any hour asks for.
+// A small plant, and those of seven hours one after the other: mostly the small one, in some none, of either zero, or more than any
+// hour asks for.
+const SMALL: (f64, f64) = (200.0, 350.0);
+
+const PLANTS: [(f64, f64); 7] = [
+    SMALL,
+    SMALL,
+    (0.0, -0.0),
+    SMALL,
+    (1.0e7, 1.0e7),
+    SMALL,
+    (-0.0, 0.0),
+];
+
 pub fn limits_at(hour: usize) -> Limits {
-    let (heating, cooling) = match hour % 7 {
-        2 => (0.0, -0.0),
-        4 => (1.0e7, 1.0e7),
-        6 => (-0.0, 0.0),
-        _ => (200.0, 350.0),
-    };
+    let (heating, cooling) = PLANTS[hour % PLANTS.len()];
     Limits { heating, cooling }
 }

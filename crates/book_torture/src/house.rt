@@ -2,10 +2,9 @@
 use crate::entry::Entry;
 use crate::hours::{conditions, limits_at};
 use crate::layout::HEAD;
-use crate::replies::Refusal;
 use big_endian::{put_byte, put_bytes, write_f64s_be};
 use book::{BookState, Reply};
-use zone::{Demand, Limits, State, Zone};
+use zone::{Demand, Limits, Refusal, State, Zone};
 
 // What a head says, and the state with which its hours start.
 #[derive(Clone, Copy)]

@@ -2,10 +2,11 @@
 // bytes that end each entry, and made operative by the call on a state.
 use crate::house::House;
 use crate::plan::Plan;
-use crate::replies::Refusal;
 use crate::walk::state_after;
+use book::BookError;
 use std::cmp::OrderedFloat;
-use tools::{HourReply, HoursReply};
+use tools::QuestionError;
+use zone::Refusal;
 
 // The value that is to be exceeded, or come near to, and the ends of a band.
 #[derive(Clone, Copy)]
@@ -18,9 +19,9 @@ pub struct Question {
 // The first hour above the value, if any, the number of hours within the band, and the hour nearest to the value.
 #[derive(Clone, Copy, PartialEq, Eq)]
 struct Answers {
-    above: Result<Option<usize>, Refusal>,
-    within: Result<usize, Refusal>,
-    nearest: Result<Option<usize>, Refusal>,
+    above: Result<Option<usize>, QuestionError>,
+    within: Result<usize, QuestionError>,
+    nearest: Result<Option<usize>, QuestionError>,
 }
 
 // The operative temperatures of a book: first start-up's, then the one after each hour.
@@ -30,21 +31,6 @@ pub fn temperatures<const N: usize>(house: &House, b: &[u8], plan: Plan) -> Opti
         *temperature = house.temp_operative(&state_after(house, b, plan.entries(count)))?;
     }
     Some(temperatures)
-}
-
-fn hour_of(reply: HourReply) -> Result<Option<usize>, Refusal> {
-    match reply {
-        HourReply::Hour(hour) => Ok(Some(hour)),
-        HourReply::NoHour => Ok(None),
-        HourReply::Refused { number, index } => Err(Refusal::new(number, index)),
-    }
-}
-
-fn hours_of(reply: HoursReply) -> Result<usize, Refusal> {
-    match reply {
-        HoursReply::Hours(hours) => Ok(hours),
-        HoursReply::Refused { number, index } => Err(Refusal::new(number, index)),
-    }
 }
 
 impl Question {
@@ -59,9 +45,9 @@ impl Question {
 
     fn answers(self, bytes: &[u8]) -> Answers {
         Answers {
-            above: hour_of(tools::first_above(bytes, self.value)),
-            within: hours_of(tools::hours_within(bytes, self.lower, self.upper)),
-            nearest: hour_of(tools::nearest_hour(bytes, self.value)),
+            above: tools::first_above(bytes, self.value),
+            within: tools::hours_within(bytes, self.lower, self.upper),
+            nearest: tools::nearest_hour(bytes, self.value),
         }
     }
 
@@ -99,10 +85,11 @@ impl Question {
 
     // Of bytes that end within the head.
     pub fn is_refused_as_short(self, bytes: &[u8]) -> bool {
+        let short = QuestionError::Book(BookError::Zone(Refusal::HeadShort));
         let short = Answers {
-            above: Err(Refusal::EndsEarly),
-            within: Err(Refusal::EndsEarly),
-            nearest: Err(Refusal::EndsEarly),
+            above: Err(short),
+            within: Err(short),
+            nearest: Err(short),
         };
         self.answers(bytes) == short
     }

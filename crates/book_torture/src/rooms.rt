@@ -1,11 +1,11 @@
 // The next hour appended into buffers that have room for so many bytes behind the book: refused with 16 up to one byte below its
 // own length.
 use crate::layout::{ENTRY, LONG_ENTRY};
-use crate::replies::{Refusal, accepted, is_refused, same_book_states};
+use crate::replies::{accepted, is_refused, same_book_states};
 use crate::small_book::{Book, ROOM, TWO};
 use crate::tally::{Tally, count_one};
 use crate::version::{VERSIONS, Version};
-use book::BookState;
+use book::{BookError, BookState};
 
 // The most room is more than any entry needs.
 const MOST: usize = LONG_ENTRY + 3;
@@ -28,7 +28,7 @@ fn is_right(whole: &Book, given: BookState, version: Version, room: usize) -> bo
     let mut wide = whole.bytes;
     let reply = whole.house.append(given, number, &mut narrow[..size]);
     if room < length {
-        return narrow == whole.bytes && is_refused(reply, &given, Refusal::NoRoom);
+        return narrow == whole.bytes && is_refused(reply, &given, BookError::BufferShort);
     }
     let end = given.used.saturating_add(length);
     let roomy = accepted(whole.house.append(given, number, &mut wide));

@@ -1,10 +1,11 @@
 // Other limits in the entries of the small book's version 3: out of their range, and within it.
 use crate::expected::{Expected, expected_at, is_answered};
 use crate::layout::{COOLING_LIMIT_PLACE, LIMITS_PLACE};
-use crate::replies::Refusal;
 use crate::small_book::{Book, HOURS, PLAN, THREE, USED};
 use crate::tally::{Tally, count_one};
 use big_endian::{part, read_u64_be, write_u64_be};
+use book::BookError;
+use zone::Refusal;
 
 // Patterns of floats that no limit may be: -1, next above the highest limit (1e7 W), the NaN that a calculation gives and another,
 // infinity, minus infinity, and the number next to 0 below it.
@@ -27,7 +28,7 @@ const WITHIN: [u64; 5] = [
     1,
 ];
 
-// Limits out of range, which are refused there, and others in it, which are refused there or accepted.
+// Limits out of range, which are refused there, and others in it, which are refused there (`false_entry`) or accepted (`held`).
 #[derive(Clone, Copy, Default)]
 pub struct OtherLimits {
     pub outside: Tally,
@@ -44,7 +45,10 @@ impl OtherLimits {
         let own = read_u64_be(b, place);
         for bits in OUTSIDE.into_iter().filter(|bits| *bits != own) {
             write_u64_be(b, place, bits);
-            let answered = is_answered(part(b, 0, USED), Err(Refusal::FalseEntry(entry)));
+            let answered = is_answered(
+                part(b, 0, USED),
+                Err(BookError::Zone(Refusal::FalseEntry(entry))),
+            );
             self.outside.count(answered);
         }
         for bits in WITHIN.into_iter().filter(|bits| *bits != own) {

@@ -41,12 +41,10 @@ impl TryFrom<u8> for Version {
     type Error = Unknown;
 
     fn try_from(byte: u8) -> Result<Version, Unknown> {
-        match byte {
-            1 => Ok(Version::One),
-            2 => Ok(Version::Two),
-            3 => Ok(Version::Three),
-            _ => Err(Unknown),
-        }
+        VERSIONS
+            .into_iter()
+            .find(|version| *version as u8 == byte)
+            .ok_or(Unknown)
     }
 }
 

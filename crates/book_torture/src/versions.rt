@@ -4,13 +4,14 @@ use crate::expected::{Expected, expected_with_version, is_answered};
 use crate::house::House;
 use crate::layout::VERSION_PLACE;
 use crate::plan::Plan;
-use crate::replies::Refusal;
 use crate::small_book::{Book, HOURS};
 use crate::tally::{Tally, count_one};
 use crate::version::{VERSION_BYTES, Version};
 use big_endian::{byte_at, part, put_byte};
+use book::BookError;
+use zone::Refusal;
 
-// The books, how many of the answers to changed bytes were as expected, and which answers were expected.
+// The books, how many of the answers to changed bytes were as expected, and which answers were expected: `held` counts acceptances.
 #[derive(Clone, Copy, Default)]
 pub struct Changes {
     pub books: Tally,
@@ -27,7 +28,9 @@ impl Changes {
         match expected {
             Ok(entries) if entries.count == HOURS => count_one(&mut self.held),
             Ok(_) => count_one(&mut self.dropped),
-            Err(Refusal::FalseEntry(at)) if at != entry => count_one(&mut self.false_next),
+            Err(BookError::Zone(Refusal::FalseEntry(at))) if at != entry => count_one(
+                &mut self.false_next,
+            ),
             Err(_) if Version::try_from(byte).is_err() => count_one(&mut self.unknown),
             Err(_) => count_one(&mut self.false_there),
         }

@@ -6,11 +6,11 @@ use crate::layout::{
     NODES, RESULT_TEMPERATURES, RESULTS, TEMPERATURES, TRIGGER, TRIGGER_RATE, VERSION_PLACE,
 };
 use crate::plan::Entries;
-use crate::replies::Refusal;
 use crate::small_book::HOURS;
 use crate::version::Version;
 use big_endian::{put_byte, read_f64_be, write_f64_be, write_f64s_be};
-use zone::{Demand, State};
+use book::BookError;
+use zone::{Demand, Refusal, State};
 
 // The results of an hour as an entry holds them.
 fn results_of(demand: Demand, after: &State) -> [u8; RESULTS] {
@@ -32,7 +32,7 @@ fn results_of(demand: Demand, after: &State) -> [u8; RESULTS] {
     b
 }
 
-// The state in the bytes that end the last of so many entries; none before the first.
+// The state in the bytes that end the last of so many entries; none before the first. Not read by the engine, which is what is tested.
 pub fn last_state(b: &[u8], entries: Entries) -> Option<State> {
     if entries.count == 0 {
         return None;
@@ -62,8 +62,8 @@ fn results_stand(house: &House, before: &State, entry: Entry) -> bool {
 }
 
 // So many entries are true, and the next one too; none where the bytes end before it does.
-fn past_next(house: &House, b: &[u8], walked: Entries) -> Result<Option<Entries>, Refusal> {
-    let false_entry = Err(Refusal::FalseEntry(walked.count));
+fn past_next(house: &House, b: &[u8], walked: Entries) -> Result<Option<Entries>, BookError> {
+    let false_entry = Err(BookError::Zone(Refusal::FalseEntry(walked.count)));
     let rest = b.get(walked.used..).unwrap_or(&[]);
     let Some(byte) = rest.get(VERSION_PLACE) else {
         return Ok(None);
@@ -84,8 +84,9 @@ fn past_next(house: &House, b: &[u8], walked: Entries) -> Result<Option<Entries>
     Ok(Some(walked.followed_by(version)))
 }
 
-// From so many true entries on; a small book has no more than its hours, so that this many steps are enough.
-pub fn walk_on(house: &House, b: &[u8], from: Entries) -> Result<Entries, Refusal> {
+// From so many true entries on; a small book has no more than its hours, so that this many steps are enough. A `while let` would have to be
+// proved to end.
+pub fn walk_on(house: &House, b: &[u8], from: Entries) -> Result<Entries, BookError> {
     let mut walked = from;
     for _ in 0..=HOURS {
         match past_next(house, b, walked)? {

@@ -4,13 +4,13 @@ use crate::house::House;
 use crate::layout::{ENTRY, HEAD, LIMITS, LONG_ENTRY, VERSION_PLACE, YEAR};
 use crate::plan::Plan;
 use crate::replies::{
-    Refusal, accepted, has_entries, is_refused, is_take_up_refused, made_up, same_book_states,
-    taken_up,
+    accepted, has_entries, is_refused, is_take_up_refused, made_up, same_book_states, taken_up,
 };
 use crate::small_book::CUT_OFF;
 use big_endian::{byte_at, part, put_byte};
-use book::{BookState, Reply};
+use book::{BookError, BookState, Reply};
 use std::alloc::{AllocError, Global};
+use zone::Refusal;
 
 // The first hours of version 2 and of version 3: a third of the year each.
 pub const TWO: usize = 2928;
@@ -71,7 +71,7 @@ impl<'a> Year<'a> {
     // One hour more is refused in a version, which may be one that no hour has, and changes nothing.
     pub fn refuses_more(&mut self, version: u64) -> bool {
         let reply = self.house.append(self.end, version, &mut self.bytes);
-        is_refused(reply, &self.end, Refusal::Full) && self.is_unchanged()
+        is_refused(reply, &self.end, BookError::BookFull) && self.is_unchanged()
     }
 
     // Taken up with so many bytes behind it, which have this version byte.
@@ -91,7 +91,11 @@ impl<'a> Year<'a> {
 
     // It is one entry too long.
     pub fn is_too_long(&mut self, rest: usize, byte: u8) -> bool {
-        is_refused(self.take_up_with(rest, byte), &made_up(), Refusal::Full)
+        is_refused(
+            self.take_up_with(rest, byte),
+            &made_up(),
+            BookError::BookFull,
+        )
     }
 
     // Cut, taken up, and filled again to the end it is the year that was never cut.
@@ -110,7 +114,10 @@ impl<'a> Year<'a> {
         let place = PLAN.place_of(entry).saturating_add(within);
         let byte = byte_at(&self.bytes, place);
         put_byte(&mut self.bytes, place, byte ^ change);
-        let refused = is_take_up_refused(part(&self.bytes, 0, USED), Refusal::FalseEntry(entry));
+        let refused = is_take_up_refused(
+            part(&self.bytes, 0, USED),
+            BookError::Zone(Refusal::FalseEntry(entry)),
+        );
         put_byte(&mut self.bytes, place, byte);
         refused
     }

@@ -36,14 +36,14 @@ module _ {P : ℕ → ℕ → Type 0} (numbered : (number index : ℕ) → P num
   outcome_back buf (accepts a) = refl
   outcome_back buf (refuses {number = n} {index = i} p) = refusal_back n i (numbered n i p) g
 
-answer_back : (a : Book.Answer Carried) → AnswerOfCall year_interface a → answer_of (reply_in a) ≡ a
+pub answer_back : (a : Book.Answer Carried) → AnswerOfCall year_interface a → answer_of (reply_in a) ≡ a
 unfolding Book.begin Book.append Book.take_up
 answer_back a (of_begin head g buf) = outcome_back begin_numbered g buf (begin_refusals head buf)
 answer_back a (of_append z g i buf) = outcome_back (append_numbered g.count) g buf (append_refusals z g i buf)
 answer_back a (of_take_up g bytes) = taken_back take_up_numbered g (take_up_refusals bytes)
 
 pub c_laws : CodeLaws year_interface c_types
-c_laws = record { given_back = λ v. (c_book_state_of v, refl); answer_back = answer_back }
+c_laws = record { given_back = λ v. (c_book_state_of v, refl); reply_for = λ a p. (reply_in a, answer_back a p) }
 
 -- what a caller gives the next call: `temps`, `nodes`, `count`, `used` and `last_version` as the call left them are the values that its answer hands back
 pub handed_on : HandedOn year_interface c_types (λ r. r.1)

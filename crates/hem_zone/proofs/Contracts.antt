@@ -15,11 +15,13 @@ use Rattle.zone.specs.declared.record.zone_record.Zone.{Zone}
 use Rattle.book.specs.Model.Calls as Book
 use Rattle.book.specs.Model.Session.{CallSpec}
 use Rattle.book.specs.Year.{hour_item, Carried, year_interface}
+use Rattle.book.proofs.Model.CodeLaws.{AnswerOfCall, of_begin, of_append, of_take_up}
 use Rattle.hem_zone.specs.Code.{answer_code, lent_after, answered}
 use Rattle.hem_zone.specs.Arrays.{limits_of}
 use Rattle.hem_zone.specs.Zone.{with_zone}
 use Rattle.hem_zone.specs.Book.{CBookState, c_book_state, book_state_of, c_book_state_of, book_out, hem_begin_outcome, hem_append_outcome, hem_take_up_outcome}
-use Rattle.hem_zone.specs.BookTypes.{reply_in, c_types}
+use Rattle.hem_zone.specs.BookTypes.{answer_of, reply_in, c_types}
+use Rattle.hem_zone.proofs.BookTypes.{answer_back}
 use Rattle.hem_zone.proofs.book_calls.hem_begin.Kinds as begin_kinds
 use Rattle.hem_zone.proofs.book_calls.hem_begin.Reads as begin_reads
 use Rattle.hem_zone.proofs.book_calls.hem_append.Kinds as append_kinds
@@ -30,11 +32,11 @@ use Rattle.hem_zone.proofs.book_calls.hem_take_up.Reads as take_up_reads
 -- ---- the definitions that the contracts are equal to
 
 module _ (held : CBookState) where
-  answered_meets : (buf : List ℕ) (d : Result (Book.BookState Carried × List ℕ)) (c : ℕ) (out : List ℕ) (after : CBookState)
-      → (c, (out, after)) ≡ answered book_out (buf, held) d → CallSpec year_interface c_types (c, after) out (Book.outcome_of (book_state_of held) buf d)
+  answered_meets : (buf : List ℕ) (d : Result (Book.BookState Carried × List ℕ)) → AnswerOfCall year_interface (Book.outcome_of (book_state_of held) buf d).answer
+      → (c : ℕ) (out : List ℕ) (after : CBookState) → (c, (out, after)) ≡ answered book_out (buf, held) d → CallSpec year_interface c_types (c, after) out (Book.outcome_of (book_state_of held) buf d)
   unfolding answered answer_code lent_after
-  answered_meets buf (ok r) c out after e = record { reply = ap (λ x. (x.0, x.1.1)) e; bytes = ap (λ x. x.1.0) e }
-  answered_meets buf (refused n j) c out after e = record { reply = ap (λ x. (x.0, x.1.1)) e; bytes = ap (λ x. x.1.0) e }
+  answered_meets buf (ok r) p c out after e = record { answer = ap (λ x. answer_of (x.0, x.1.1)) e ∙ answer_back _ p; bytes = ap (λ x. x.1.0) e }
+  answered_meets buf (refused n j) p c out after e = record { answer = ap (λ x. answer_of (x.0, x.1.1)) e ∙ answer_back _ p; bytes = ap (λ x. x.1.0) e }
 
   answered_is : (d : Result (Book.BookState Carried)) → answered c_book_state_of held d ≡ reply_in (Book.answer_from (book_state_of held) d)
   unfolding answered answer_code lent_after
@@ -44,14 +46,15 @@ module _ (held : CBookState) where
 pub begin_meets : (head buf : List ℕ) (held : CBookState) (c : ℕ) (out : List ℕ) (after : CBookState) → (c, (out, after)) ≡ hem_begin_outcome head buf held
     → CallSpec year_interface c_types (c, after) out (Book.begin year_interface head (book_state_of held) buf)
 unfolding hem_begin_outcome Book.begin
-begin_meets head buf held c out after e = answered_meets held buf (Book.begin_res year_interface head buf) c out after e
+begin_meets head buf held c out after e = answered_meets held buf (Book.begin_res year_interface head buf) (of_begin head (book_state_of held) buf) c out after e
 
 append_of : (head buf : List ℕ) (held : CBookState) (conditions : List ℕ) (version : ℕ) (heating_limit cooling_limit : Float) (h : ReadHead Zone) (c : ℕ) (out : List ℕ) (after : CBookState) → head_of head ≡ ok h
     → (c, (out, after)) ≡ hem_append_outcome head buf held conditions version heating_limit cooling_limit
     → CallSpec year_interface c_types (c, after) out (Book.append year_interface h.zone (book_state_of held) (hour_item version conditions (limits_of heating_limit cooling_limit)) buf)
 unfolding hem_append_outcome with_zone Book.append
 append_of head buf held conditions version heating_limit cooling_limit h c out after k e =
-    answered_meets held buf (Book.append_res year_interface h.zone (book_state_of held) (hour_item version conditions (limits_of heating_limit cooling_limit)) buf) c out after
+    answered_meets held buf (Book.append_res year_interface h.zone (book_state_of held) (hour_item version conditions (limits_of heating_limit cooling_limit)) buf)
+    (of_append h.zone (book_state_of held) (hour_item version conditions (limits_of heating_limit cooling_limit)) buf) c out after
     (e ∙ ap (λ t. answered book_out (buf, held) (bind t λ x. Book.append_res year_interface x.zone (book_state_of held) (hour_item version conditions (limits_of heating_limit cooling_limit)) buf)) k)
 
 -- the head handed in is the book's own, as it stands at the front of its used bytes, with any bytes behind it
@@ -63,6 +66,9 @@ append_meets used behind buf h held conditions version heating_limit cooling_lim
 pub take_up_is : (bytes : List ℕ) (held : CBookState) → hem_take_up_outcome bytes held ≡ reply_in (Book.take_up year_interface (book_state_of held) bytes)
 unfolding hem_take_up_outcome Book.take_up
 take_up_is bytes held = answered_is held (Book.take_up_res year_interface bytes)
+
+pub take_up_meets : (bytes : List ℕ) (held : CBookState) → answer_of (hem_take_up_outcome bytes held) ≡ Book.take_up year_interface (book_state_of held) bytes
+take_up_meets bytes held = ap answer_of (take_up_is bytes held) ∙ answer_back _ (of_take_up (book_state_of held) bytes)
 
 -- ---- the contracts. e has what was lent as the call left it; `temps`, `nodes`, `count`, `used` and `last_version` are named as they were given and as they were left.
 -- These statements stand in proofs/, since specs/ cannot name a function's contract; of the definitions the same is said in specs/Demands.antt
@@ -100,5 +106,5 @@ module _ (κs : Lfts 6) (a : Dens κs take_up_kinds.ps) (r : ℕ) (e : AtExit (e
   abbrev take_up_left : CBookState
   take_up_left = c_book_state e.1.0.now e.1.1.0.now e.1.1.1.0.now e.1.1.1.1.0.now e.1.1.1.1.1.0.now
 
-  pub take_up_ensures : take_up_reads.Post κs a r e → (r, take_up_left) ≡ reply_in (Book.take_up year_interface (book_state_of take_up_given) a.0.now)
-  take_up_ensures p = p ∙ take_up_is _ _
+  pub take_up_ensures : take_up_reads.Post κs a r e → answer_of (r, take_up_left) ≡ Book.take_up year_interface (book_state_of take_up_given) a.0.now
+  take_up_ensures p = ap answer_of p ∙ take_up_meets _ _

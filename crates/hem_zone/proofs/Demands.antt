@@ -26,7 +26,7 @@ use Rattle.hem_zone.proofs.Claims.{claims}
 use Rattle.hem_zone.proofs.ToldApart.{told_apart}
 use Rattle.hem_zone.proofs.Ties.{Ties, ties}
 use Rattle.hem_zone.proofs.BookTypes.{handed_on}
-use Rattle.hem_zone.proofs.Contracts.{begin_meets, append_meets, take_up_is}
+use Rattle.hem_zone.proofs.Contracts.{begin_meets, append_meets, take_up_is, take_up_meets}
 use Rattle.hem_zone.proofs.Demand3 as C
 
 pub demands : Demands Ties
@@ -66,6 +66,7 @@ demands =
         begin_meets = begin_meets;
         append_meets = append_meets;
         take_up_is = take_up_is;
+        take_up_meets = take_up_meets;
         handed_on = handed_on;
         every_list = C.session_exactly;
         from_any_book = C.session_from;

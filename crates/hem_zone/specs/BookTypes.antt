@@ -30,5 +30,4 @@ c_types =
       Reply = Reply;
       given_of = book_state_of;
       answer_of = answer_of;
-      reply_in = reply_in;
     }

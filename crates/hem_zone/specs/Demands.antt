@@ -35,7 +35,7 @@ use Rattle.hem_zone.specs.Arrays.{limits_of}
 use Rattle.hem_zone.specs.Claims.{Claims, ToldApart}
 use Rattle.hem_zone.specs.Why.{WhyNumbers}
 use Rattle.hem_zone.specs.Book.{CBookState, book_state_of, hem_begin_outcome, hem_append_outcome, hem_take_up_outcome}
-use Rattle.hem_zone.specs.BookTypes.{reply_in, c_types}
+use Rattle.hem_zone.specs.BookTypes.{answer_of, reply_in, c_types}
 
 -- Ties is the record of proofs/Ties.antt, whose statement is to be read too: specs/ cannot name a function's contract.
 pub record Demand1 (Ties : Type 0) : Type 0 where
@@ -100,6 +100,7 @@ pub record Demand3 : Type 1 where
       → (c, (out, after)) ≡ hem_append_outcome (take h.length used ++ behind) buf held conditions version heating_limit cooling_limit
       → CallSpec year_interface c_types (c, after) out (Calls.append year_interface h.zone (book_state_of held) (hour_item version conditions (limits_of heating_limit cooling_limit)) buf)
   pub take_up_is : (bytes : List ℕ) (held : CBookState) → hem_take_up_outcome bytes held ≡ reply_in (Calls.take_up year_interface (book_state_of held) bytes)
+  pub take_up_meets : (bytes : List ℕ) (held : CBookState) → answer_of (hem_take_up_outcome bytes held) ≡ Calls.take_up year_interface (book_state_of held) bytes
   -- and what they leave in `temps`, `nodes`, `count`, `used` and `last_version` is what the next call on the book is given;
   pub handed_on : Book.HandedOn year_interface c_types (λ r. r.1)
   -- the lists that this speaks of are all those whose calls may be made, starting with no book or with any that is held;

@@ -1,4 +1,4 @@
-// States, demands and heat balances in the arrays of C.
+// States, demands and heat balances in the flat arrays of C, which has no Option: a trigger is 0.0 or 1.0 there, with its rate.
 ghost use Rattle.std.specs.Prelude.{◌≡◌};
 ghost use Rattle.hem_zone.specs.Arrays.{state_in, demand_out, balance_out};
 
@@ -15,7 +15,6 @@ pub fn state_in(temps: &[f64; 121], nodes: u64) -> State
 }
 
 // Heating, cooling, chosen rate, trigger 0.0 or 1.0, trigger rate (0.0 if none).
-#[tactic(auto, using(crate::proofs::Cases::out_absent, crate::proofs::Cases::out_at))]
 pub fn demand_out(d: Demand) -> [f64; 5]
     ensures { result ≡ demand_out d }
 {

@@ -6,7 +6,7 @@ ghost use Rattle.hem_zone.specs.Zone.{hem_head_outcome};
 use crate::code::code_of;
 use zone::{Refusal, Zone, read_head, zone_test};
 
-#[tactic(auto, using(crate::proofs::Cases::head_refused, crate::proofs::Cases::head_tested))]
+#[tactic(auto, using(crate::proofs::Outcomes::head_by_structure), unfolding(crate::specs::Code::answer_code))]
 fn head_test(head: &[u8]) -> Result<(), Refusal>
     ensures { code_of result ≡ hem_head_outcome head.now }
 {

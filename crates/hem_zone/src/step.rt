@@ -1,4 +1,6 @@
-// Start-up, operative temperature, demand, update and hour step on the zone of a head. Where a call is refused, nothing is written.
+// Start-up, operative temperature, demand, update and hour step on the zone of a head. Where a call is refused, nothing is written. The parameters are those
+// of the C interface. Each call lends `read_head` a zone of its own, here and in head.rt, why.rt and book_calls.rt: through a Result a zone of 5.4 KB would
+// be copied on each call's stack.
 ghost use Rattle.std.specs.Prelude.{◌≡◌};
 ghost use Rattle.hem_zone.specs.Inner.Answers.{code_of};
 ghost use Rattle.hem_zone.specs.Zone.{hem_start_up_outcome, hem_operative_outcome, hem_demand_outcome, hem_update_outcome, hem_hour_step_outcome};
@@ -7,7 +9,7 @@ use crate::arrays::{balance_out, demand_out, state_in};
 use crate::code::code_of;
 use zone::{Limits, Refusal, Zone, init_node_temps, read_head};
 
-#[tactic(auto, using(crate::proofs::Cases::start_up_no_head, crate::proofs::Cases::start_up_refused, crate::proofs::Cases::start_up_done))]
+#[tactic(auto, using(crate::proofs::Outcomes::start_up_by_structure), unfolding(crate::specs::Code::answered, crate::specs::Code::answer_code, crate::specs::Code::lent_after))]
 fn start_up(head: &[u8], temps: &mut [f64; 121], nodes: &mut u64) -> Result<(), Refusal>
     ensures { (code_of result, (temps.new, nodes.new)) ≡ hem_start_up_outcome head.now temps.old nodes.old }
 {
@@ -28,7 +30,7 @@ pub extern "C" fn hem_start_up(head: &[u8], temps: &mut [f64; 121], nodes: &mut 
     code_of(start_up(head, temps, nodes))
 }
 
-#[tactic(auto, using(crate::proofs::Cases::operative_no_head, crate::proofs::Cases::operative_refused, crate::proofs::Cases::operative_done))]
+#[tactic(auto, using(crate::proofs::Outcomes::operative_by_structure), unfolding(crate::specs::Code::answered, crate::specs::Code::answer_code, crate::specs::Code::lent_after))]
 fn temp_operative(
     head: &[u8],
     temps: &[f64; 121],
@@ -56,7 +58,7 @@ pub extern "C" fn hem_operative(
     code_of(temp_operative(head, temps, nodes, operative))
 }
 
-#[tactic(auto, using(crate::proofs::Cases::demand_no_head, crate::proofs::Cases::demand_refused, crate::proofs::Cases::demand_done))]
+#[tactic(auto, using(crate::proofs::Outcomes::demand_by_structure), unfolding(crate::specs::Code::answered, crate::specs::Code::answer_code, crate::specs::Code::lent_after))]
 fn demand(
     head: &[u8],
     temps: &[f64; 121],
@@ -88,7 +90,7 @@ pub extern "C" fn hem_demand(
     code_of(demand(head, temps, nodes, conditions, out))
 }
 
-#[tactic(auto, using(crate::proofs::Cases::update_no_head, crate::proofs::Cases::update_refused, crate::proofs::Cases::update_done))]
+#[tactic(auto, using(crate::proofs::Outcomes::update_by_structure), unfolding(crate::specs::Code::answered, crate::specs::Code::answer_code, crate::specs::Code::lent_after))]
 fn update(
     head: &[u8],
     temps: &mut [f64; 121],
@@ -132,7 +134,7 @@ pub extern "C" fn hem_update(
     ))
 }
 
-#[tactic(auto, using(crate::proofs::Cases::hour_no_head, crate::proofs::Cases::hour_refused, crate::proofs::Cases::hour_done))]
+#[tactic(auto, using(crate::proofs::Outcomes::hour_by_structure), unfolding(crate::specs::Code::answered, crate::specs::Code::answer_code, crate::specs::Code::lent_after))]
 fn hour_step(
     head: &[u8],
     temps: &mut [f64; 121],

@@ -7,7 +7,7 @@ use crate::arrays::state_in;
 use crate::code::code_of;
 use zone::{Load, Reason, Refusal, Zone, read_head};
 
-// The places of the paper's list.
+// The places of the paper's list, which are the C interface's numbers.
 fn reason_out(reason: Reason) -> u64
     ensures { result ≡ reason_out reason }
 {
@@ -31,7 +31,7 @@ fn load_out(load: Load) -> u64
     }
 }
 
-#[tactic(auto, using(crate::proofs::WhyCases::why_no_head, crate::proofs::WhyCases::why_refused, crate::proofs::WhyCases::why_done))]
+#[tactic(auto, using(crate::proofs::Outcomes::why_by_structure), unfolding(crate::specs::Code::answered, crate::specs::Code::answer_code, crate::specs::Code::lent_after))]
 fn why(
     head: &[u8],
     temps: &[f64; 121],

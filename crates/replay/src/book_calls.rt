@@ -2,7 +2,6 @@
 // hands back and writes.
 use crate::comparison::Comparison;
 use crate::failure::Failure;
-use crate::outcome::Outcome;
 use crate::row::Row;
 use crate::same::same_book_state;
 use book::{BookState, Reply};
@@ -16,11 +15,11 @@ const FILLED: u8 = 85;
 
 // A refused call hands back the values that it was given, and leaves the buffer as it is.
 fn accepted(given: &BookState, reply: &Reply, buffer: &[u8]) -> Result<BookState, Failure> {
-    match reply.verdict.outcome() {
+    match reply.answer {
         Ok(()) => Ok(reply.values),
         Err(refusal)
             if same_book_state(given, &reply.values) && buffer.iter().all(|b| *b == FILLED) => {
-            Err(Failure::Refused(refusal))
+            Err(Failure::from(refusal))
         }
         Err(_) => Err(Failure::Changed),
     }

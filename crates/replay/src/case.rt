@@ -16,17 +16,13 @@ impl Profile {
     pub const ALL: [Profile; 4] = [Profile::House, Profile::Mild, Profile::Edge, Profile::Tight];
 }
 
+// The file numbers them from 0 in the order of `ALL`.
 impl TryFrom<u8> for Profile {
     type Error = BadRecord;
 
     fn try_from(number: u8) -> Result<Self, BadRecord> {
-        match number {
-            0 => Ok(Profile::House),
-            1 => Ok(Profile::Mild),
-            2 => Ok(Profile::Edge),
-            3 => Ok(Profile::Tight),
-            _ => Err(BadRecord::Profile(number)),
-        }
+        let profile = Profile::ALL.get(usize::from(number)).copied();
+        profile.ok_or(BadRecord::Profile(number))
     }
 }
 
@@ -41,7 +37,7 @@ impl fmt::Display for Profile {
     }
 }
 
-// The hour step counts three times, once for each version.
+// The hour step counts three times, once for each version: as the file numbers them, and the summary has a column for each.
 #[derive(Clone, Copy, Debug, PartialEq, Eq)]
 pub enum Operation {
     Demand,
@@ -63,19 +59,15 @@ impl Operation {
     ];
 }
 
+// The file numbers them from 1 in the order of `ALL`.
 impl TryFrom<u8> for Operation {
     type Error = BadRecord;
 
     fn try_from(number: u8) -> Result<Self, BadRecord> {
-        match number {
-            1 => Ok(Operation::Demand),
-            2 => Ok(Operation::Update),
-            3 => Ok(Operation::StartUp),
-            4 => Ok(Operation::HourStep1),
-            5 => Ok(Operation::HourStep2),
-            6 => Ok(Operation::HourStep3),
-            _ => Err(BadRecord::Operation(number)),
-        }
+        let operation = Operation::ALL
+            .get(usize::from(number).wrapping_sub(1))
+            .copied();
+        operation.ok_or(BadRecord::Operation(number))
     }
 }
 
@@ -98,7 +90,7 @@ pub struct Case<'a> {
     pub operation: Operation,
     pub head: &'a [u8],
     pub hour: Hour<'a>,
-    // The values, or the number of the refusal.
+    // The values, or the number of the refusal: the file holds no more of one.
     pub answer: Result<&'a [u8], u32>,
 }
 

@@ -33,7 +33,7 @@ fn difference(case: &Case<'_>) -> Option<Difference> {
     let mut seen = Comparison::new(case.answer.unwrap_or(&[]));
     match (run(case, &mut seen), case.answer) {
         (Ok(()), Ok(_)) => seen.difference(),
-        (Ok(()), Err(_)) => Some(Difference::Number(0)),
+        (Ok(()), Err(_)) => Some(Difference::Accepted),
         (Err(failure), Err(number)) if failure.number() == number => None,
         (Err(failure), _) => Some(Difference::Number(failure.number())),
     }

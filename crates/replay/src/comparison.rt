@@ -11,7 +11,8 @@ use zone::{
 // Where an answer differs from the stored one.
 #[derive(Clone, Copy, Debug, PartialEq, Eq)]
 pub enum Difference {
-    // Another number came, 0 where the call was accepted.
+    // The call was accepted, or another number came.
+    Accepted,
     Number(u32),
     // The first value that differs, counted from 1.
     Value(usize),
@@ -23,6 +24,7 @@ pub enum Difference {
 impl fmt::Display for Difference {
     fn fmt<W: fmt::Write>(&self, f: &mut fmt::Formatter<W>) -> fmt::Result {
         match *self {
+            Difference::Accepted => write!(f, "1000"),
             Difference::Number(number) => write!(f, "{}", number.saturating_add(1000)),
             Difference::Value(place) => write!(f, "{place}"),
             Difference::Count => write!(f, "999"),

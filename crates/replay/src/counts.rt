@@ -81,7 +81,7 @@ impl<T: fmt::Display> fmt::Display for Differences<T> {
     }
 }
 
-// How many of each number that arose; number 0 is acceptance.
+// How many of each number that arose; number 0 is acceptance, as in the data.
 #[derive(Default, Drop)]
 pub struct Numbers {
     counts: [u64; 21],

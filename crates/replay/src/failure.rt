@@ -1,6 +1,8 @@
 // How a call fails to answer with values.
+use book::BookError;
+use tools::QuestionError;
 
-// As the zone and the book refuse.
+// A refusal of the zone, the book or a question. By number, since the rows record numbers; worked_houses has its own, whose rows print otherwise.
 #[derive(Clone, Copy, Debug, PartialEq, Eq)]
 pub struct Refusal {
     pub number: u32,
@@ -16,24 +18,24 @@ pub enum Failure {
     RefusedOtherwise,
 }
 
-impl From<zone::Refusal> for Refusal {
-    fn from(refusal: zone::Refusal) -> Self {
-        Refusal {
-            number: refusal.number(),
-            index: refusal.index(),
-        }
-    }
-}
-
-impl From<Refusal> for Failure {
-    fn from(refusal: Refusal) -> Self {
-        Failure::Refused(refusal)
-    }
-}
-
 impl From<zone::Refusal> for Failure {
     fn from(refusal: zone::Refusal) -> Self {
-        Failure::Refused(refusal.into())
+        Failure::from(BookError::from(refusal))
+    }
+}
+
+impl From<BookError> for Failure {
+    fn from(refusal: BookError) -> Self {
+        Failure::from(QuestionError::from(refusal))
+    }
+}
+
+impl From<QuestionError> for Failure {
+    fn from(refusal: QuestionError) -> Self {
+        Failure::Refused(Refusal {
+            number: refusal.number(),
+            index: refusal.index(),
+        })
     }
 }
 

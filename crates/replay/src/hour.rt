@@ -27,6 +27,7 @@ impl<'a> Hour<'a> {
         })
     }
 
+    // Not read by the engine, which is what is tested.
     pub fn state(&self) -> State {
         let mut temps = [0.0; 121];
         for (temp, bytes) in temps.iter_mut().zip(self.temps.chunks_exact(8)) {

@@ -12,7 +12,6 @@ mod comparison;
 mod counts;
 mod failure;
 mod hour;
-mod outcome;
 mod record;
 mod records;
 mod refusals;

@@ -18,6 +18,7 @@ impl<'a> Record<'a> {
         Ok(taken)
     }
 
+    // Five functions of a line each: one for all would be handed what it reads by.
     pub fn take_u8(&mut self) -> Result<u8, BadRecord> {
         Ok(byte_at(self.take(1)?, 0))
     }

@@ -3,7 +3,6 @@ use crate::bad_record::BadRecord;
 use crate::comparison::Comparison;
 use crate::counts::RowTally;
 use crate::failure::Failure;
-use crate::outcome::Outcome;
 use crate::records::Records;
 use crate::row::{Call, Row};
 use crate::{book_calls, zone_calls};
@@ -31,16 +30,15 @@ fn run(row: &Row<'_>, seen: &mut Comparison<'_>) -> Result<(), Failure> {
         }
         Call::ZoneTest => Ok(zone::zone_test(&row.zone()?)?),
         Call::FirstAbove => {
-            seen.hour(tools::first_above(row.head, value).outcome()?);
+            seen.hour(tools::first_above(row.head, value)?);
             Ok(())
         }
         Call::HoursWithin => {
-            let hours = tools::hours_within(row.head, value, upper).outcome()?;
-            seen.value(hours as u64);
+            seen.value(tools::hours_within(row.head, value, upper)? as u64);
             Ok(())
         }
         Call::NearestHour => {
-            seen.hour(tools::nearest_hour(row.head, value).outcome()?);
+            seen.hour(tools::nearest_hour(row.head, value)?);
             Ok(())
         }
     }

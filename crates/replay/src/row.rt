@@ -41,25 +41,13 @@ impl Call {
     ];
 }
 
+// The file numbers them from 1 in the order of `ALL`.
 impl TryFrom<u8> for Call {
     type Error = BadRecord;
 
     fn try_from(number: u8) -> Result<Self, BadRecord> {
-        match number {
-            1 => Ok(Call::Demand),
-            2 => Ok(Call::Update),
-            3 => Ok(Call::StartUp),
-            4 => Ok(Call::HourStep),
-            5 => Ok(Call::Begin),
-            6 => Ok(Call::Append),
-            7 => Ok(Call::TakeUp),
-            8 => Ok(Call::ReadHead),
-            9 => Ok(Call::ZoneTest),
-            10 => Ok(Call::FirstAbove),
-            11 => Ok(Call::HoursWithin),
-            12 => Ok(Call::NearestHour),
-            _ => Err(BadRecord::Call(number)),
-        }
+        let call = Call::ALL.get(usize::from(number).wrapping_sub(1)).copied();
+        call.ok_or(BadRecord::Call(number))
     }
 }
 
@@ -92,6 +80,7 @@ pub enum Change {
     NoSecondArea,
 }
 
+// A column of the file and the one behind it: the numbers are the file's, and two changes take the value.
 impl TryFrom<(u8, u16)> for Change {
     type Error = BadRecord;
 

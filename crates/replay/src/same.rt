@@ -1,4 +1,5 @@
-// Whether what a call hands back is what it was given, bit by bit.
+// Whether what a call hands back is what it was given, bit by bit; book_torture has the same lines, since a crate for them would be longer. No
+// derived equality: by that a NaN is unlike itself, and zeros of either sign are equal.
 use book::BookState;
 use std::num::f64_to_bits_with_nan;
 use zone::State;

@@ -14,8 +14,37 @@ use Rattle.solver.specs.Chain.{eliminate_chain, eliminate_chains, chain_divisors
 use Rattle.solver.specs.FastSolver.{set_inner_diagonals, gather_dense, scatter_dense, temperatures, diag_of, dense_of, all_divisors_valid, temperatures_of, temperatures_valid, solve}
 use Rattle.solver.specs.Claims.Worked.{three_nodes, right_side, of_three, three, tie, zero_divisor, zero_pivot, beyond, million, set_all, two, Worked}
 
+-- what the definitions compute by: to unfold one of these is to unfold what its line names
+unfoldable floats : Unit {0}
+unfolding add sub mul div neg lt le eq of_bits to_bits decimal abs is_finite valid_divisor within_state_bound
+floats = tt
+
+unfoldable loops : Unit {0}
+unfolding repeat_of repeat_down all_of terms_of row set_row set_all
+loops = tt
+
+unfoldable chains : Unit {0}
+unfolding eliminate_chain eliminate_chains chain_divisors_valid divisors_valid reduce_right_side reduce_right_sides back_substitute_chain back_substitute_chains
+chains = tt
+
+unfoldable dense_part : Unit {0}
+unfolding larger_in_column eliminate_row interchange_rows eliminate_column_by eliminate_column pivots_valid apply_interchanges forward_step forward_substitution
+dense_part = tt
+
+unfoldable substitution : Unit {0}
+unfolding back_step back_substitution lu_solve set_inner_diagonals gather_dense scatter_dense element_within nodes_within
+substitution = tt
+
+unfoldable whole : Unit {0}
+unfolding temperatures diag_of dense_of all_divisors_valid temperatures_of temperatures_valid solve
+whole = tt
+
+unfoldable matrices : Unit {0}
+unfolding three tie zero_divisor zero_pivot beyond million two of_three three_nodes right_side
+matrices = tt
+
 pub worked : Worked
-unfolding three tie zero_divisor zero_pivot beyond million two of_three three_nodes right_side set_all add sub mul div neg lt le eq of_bits to_bits decimal abs is_finite valid_divisor within_state_bound repeat_of repeat_down all_of terms_of row set_row larger_in_column eliminate_row interchange_rows eliminate_column_by eliminate_column pivots_valid apply_interchanges forward_step forward_substitution back_step back_substitution lu_solve eliminate_chain eliminate_chains chain_divisors_valid divisors_valid reduce_right_side reduce_right_sides back_substitute_chain back_substitute_chains element_within nodes_within set_inner_diagonals gather_dense scatter_dense temperatures diag_of dense_of all_divisors_valid temperatures_of temperatures_valid solve
+unfolding floats loops chains dense_part substitution whole matrices
 worked = refl
 
 -- 0.1 + 0.2 is close to 0.3 in the demand; 1e-8 is close to 0 in the windows test, and not in the demand

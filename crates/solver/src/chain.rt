@@ -8,8 +8,9 @@ ghost use Rattle.solver.specs.Chain.{outer_slot, eliminate_chain, eliminate_chai
 
 use crate::closeness::{valid_divisor, within_state_bound};
 
-// How many elements there are, which of them have two nodes, and for each slot its own coefficient and those of the next and the previous slot of
-// its chain. Elements past the 24th are left out.
+// The matrix as the papers keep it, its diagonal and two neighbours: how many elements there are, which of them have two nodes, and for each slot its
+// own coefficient and those of the next and the previous slot of its chain. Elements past the 24th are left out; the arrays stand there at
+// full length, as the engine has fixed memory.
 #[derive(Clone, Copy)]
 pub struct Chains {
     pub n: usize,
@@ -19,12 +20,19 @@ pub struct Chains {
     pub prev: [f64; 120],
 }
 
+// How many elements the solve takes. It is no length alone: row and column n of the dense part are the air's.
+#[derive(Clone, Copy)]
+pub struct Count {
+    pub n: usize,
+    ghost few: { n ≤ 24 },
+}
+
 impl Chains {
-    // How many elements the solve takes: those past the 24th are left out.
-    pub(crate) fn count(&self) -> usize
-        ensures { (result ≡ at_most24 self.now.n) × (result ≤ 24) }
+    // Elements past the 24th are left out.
+    pub(crate) fn count(&self) -> Count
+        ensures { result.n ≡ at_most24 self.now.n }
     {
-        self.n.min(24)
+        Count { n: self.n.min(24) }
     }
 
     // The slot of element e's outer surface.
@@ -42,16 +50,15 @@ impl Chains {
         ensures { self.new ≡ with_diag self.old (eliminate_chain self.old.two_nodes self.old.next self.old.prev e self.old.diag) }
     {
         for s in self.outer_slot(e)..5 * e + 4 {
-            self.diag[s + 1] = self.diag[s + 1] - self.next[s] * self.prev[s + 1] / self.diag[s];
+            self.diag[s + 1] -= self.next[s] * self.prev[s + 1] / self.diag[s];
         }
     }
 
     #[tactic(auto, using(crate::proofs::Laws::Counting::repeat_turn, crate::proofs::Laws::Counting::repeat_end), unfolding(crate::specs::Chain::eliminate_chains))]
-    pub(crate) fn eliminate(&mut self, n: usize)
-        requires { n ≤ 24 }
-        ensures { self.new ≡ with_diag self.old (eliminate_chains n self.old.two_nodes self.old.next self.old.prev self.old.diag) }
+    pub(crate) fn eliminate(&mut self)
+        ensures { self.new ≡ with_diag self.old (eliminate_chains (at_most24 self.old.n) self.old.two_nodes self.old.next self.old.prev self.old.diag) }
     {
-        for e in 0..n {
+        for e in 0..self.count().n {
             self.eliminate_chain(e);
         }
     }
@@ -64,11 +71,10 @@ impl Chains {
         (self.outer_slot(e)..5 * e + 4).all(|s| valid_divisor(self.diag[s]))
     }
 
-    pub(crate) fn divisors_valid(&self, n: usize) -> bool
-        requires { n ≤ 24 }
-        ensures { result ≡ divisors_valid n self.now.two_nodes self.now.diag }
+    pub(crate) fn divisors_valid(&self) -> bool
+        ensures { result ≡ divisors_valid (at_most24 self.now.n) self.now.two_nodes self.now.diag }
     {
-        (0..n).all(|e| self.chain_divisors_valid(e))
+        (0..self.count().n).all(|e| self.chain_divisors_valid(e))
     }
 
     // A right side, but for the last step of each chain, which alone reads and writes the inner surface.
@@ -78,27 +84,25 @@ impl Chains {
         ensures { b.new ≡ reduce_chain self.now.two_nodes self.now.diag self.now.prev e b.old }
     {
         for s in self.outer_slot(e)..5 * e + 3 {
-            b[s + 1] = b[s + 1] - b[s] * self.prev[s + 1] / self.diag[s];
+            b[s + 1] -= b[s] * self.prev[s + 1] / self.diag[s];
         }
     }
 
     #[tactic(auto, using(crate::proofs::Laws::Counting::repeat_turn, crate::proofs::Laws::Counting::repeat_end), unfolding(crate::specs::Inner::Reduced::reduce_chains))]
-    pub(crate) fn reduce(&self, n: usize, b: &mut [f64; 121])
-        requires { n ≤ 24 }
-        ensures { b.new ≡ reduce_chains n self.now.two_nodes self.now.diag self.now.prev b.old }
+    pub(crate) fn reduce(&self, b: &mut [f64; 121])
+        ensures { b.new ≡ reduce_chains (at_most24 self.now.n) self.now.two_nodes self.now.diag self.now.prev b.old }
     {
-        for e in 0..n {
+        for e in 0..self.count().n {
             self.reduce_chain(e, b);
         }
     }
 
     // What the last step of each chain subtracts at its inner surface.
     #[tactic(auto, using(crate::proofs::Laws::Counting::repeat_turn, crate::proofs::Laws::Counting::repeat_end), unfolding(crate::specs::Inner::Reduced::inner_shares))]
-    pub(crate) fn inner_shares(&self, n: usize, b: &[f64; 121], inner: &mut [f64; 24])
-        requires { n ≤ 24 }
-        ensures { inner.new ≡ inner_shares n self.now.diag self.now.prev b.now inner.old }
+    pub(crate) fn inner_shares(&self, b: &[f64; 121], inner: &mut [f64; 24])
+        ensures { inner.new ≡ inner_shares (at_most24 self.now.n) self.now.diag self.now.prev b.now inner.old }
     {
-        for e in 0..n {
+        for e in 0..self.count().n {
             inner[e] = b[5 * e + 3] * self.prev[5 * e + 4] / self.diag[5 * e + 3];
         }
     }
@@ -115,11 +119,10 @@ impl Chains {
     }
 
     #[tactic(auto, using(crate::proofs::Laws::Counting::repeat_turn, crate::proofs::Laws::Counting::repeat_end), unfolding(crate::specs::Chain::back_substitute_chains))]
-    pub(crate) fn back_substitute(&self, n: usize, t: &mut [f64; 121])
-        requires { n ≤ 24 }
-        ensures { t.new ≡ back_substitute_chains n self.now.two_nodes self.now.diag self.now.next t.old }
+    pub(crate) fn back_substitute(&self, t: &mut [f64; 121])
+        ensures { t.new ≡ back_substitute_chains (at_most24 self.now.n) self.now.two_nodes self.now.diag self.now.next t.old }
     {
-        for e in 0..n {
+        for e in 0..self.count().n {
             self.back_substitute_chain(e, t);
         }
     }
@@ -133,10 +136,9 @@ impl Chains {
     }
 
     // The air and every node of every element.
-    pub(crate) fn nodes_within(&self, n: usize, t: &[f64; 121]) -> bool
-        requires { n ≤ 24 }
-        ensures { result ≡ nodes_within n self.now.two_nodes t.now }
+    pub(crate) fn nodes_within(&self, t: &[f64; 121]) -> bool
+        ensures { result ≡ nodes_within (at_most24 self.now.n) self.now.two_nodes t.now }
     {
-        within_state_bound(t[120]) & (0..n).all(|e| self.element_within(e, t))
+        within_state_bound(t[120]) & (0..self.count().n).all(|e| self.element_within(e, t))
     }
 }

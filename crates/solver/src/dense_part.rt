@@ -1,41 +1,39 @@
 // The dense part's own: the adjusted diagonals go in, right sides are gathered from their slots, and its unknowns go back to them.
-ghost use Rattle.std.specs.Prelude.{◌≡◌, ◌≤◌, get_or, set};
-ghost use Rattle.std.specs.Float.{nan};
+ghost use Rattle.std.specs.Prelude.{◌≡◌};
 ghost use Rattle.solver.specs.Repeat.{repeat};
 ghost use Rattle.solver.specs.FastSolver.{set_inner_diagonals, scatter_inner, scatter_dense};
-ghost use Rattle.solver.specs.Inner.Reduced.{gather_reduced_inner, gather_loaded_inner};
+ghost use Rattle.solver.specs.Inner.Reduced.{gather_reduced, gather_loaded};
 
+use crate::chain::Count;
 use crate::rows::set_entry;
 
-// The adjusted inner diagonals go into the dense part.
+// The adjusted inner diagonals go into the dense part. Of the chains it has their diagonals alone, as its definition does: the chains themselves would say
+// less of what is read.
 #[tactic(auto, using(crate::proofs::Laws::Counting::repeat_turn, crate::proofs::Laws::Counting::repeat_end), unfolding(crate::specs::FastSolver::set_inner_diagonals))]
-pub fn set_inner_diagonals(diag: &[f64; 120], n: usize, dense: &mut [f64; 625])
-    requires { n ≤ 24 }
-    ensures { dense.new ≡ set_inner_diagonals n diag.now dense.old }
+pub fn set_inner_diagonals(diag: &[f64; 120], count: Count, dense: &mut [f64; 625])
+    ensures { dense.new ≡ set_inner_diagonals count.n diag.now dense.old }
 {
-    for e in 0..n {
+    for e in 0..count.n {
         set_entry(dense, e, e, diag[5 * e + 4]);
     }
 }
 
 // The unknowns of the dense part go back to their slots.
 #[tactic(auto, using(crate::proofs::Laws::Counting::repeat_turn, crate::proofs::Laws::Counting::repeat_end))]
-fn scatter_inner(v: &[f64; 25], n: usize, t: &mut [f64; 121])
-    requires { n ≤ 24 }
-    ensures { t.new ≡ repeat 0 n (scatter_inner v.now) t.old }
+fn scatter_inner(v: &[f64; 25], count: Count, t: &mut [f64; 121])
+    ensures { t.new ≡ repeat 0 count.n (scatter_inner v.now) t.old }
 {
-    for e in 0..n {
+    for e in 0..count.n {
         t[5 * e + 4] = v[e];
     }
 }
 
 #[tactic(auto, unfolding(crate::specs::FastSolver::scatter_dense))]
-pub fn scatter_dense(v: &[f64; 25], n: usize, t: &mut [f64; 121])
-    requires { n ≤ 24 }
-    ensures { t.new ≡ scatter_dense n v.now t.old }
+pub fn scatter_dense(v: &[f64; 25], count: Count, t: &mut [f64; 121])
+    ensures { t.new ≡ scatter_dense count.n v.now t.old }
 {
-    scatter_inner(v, n, t);
-    t[120] = v[n];
+    scatter_inner(v, count, t);
+    t[120] = v[count.n];
 }
 
 // A right side that is reduced but for the last step of each chain, and what that step subtracts at each inner surface.
@@ -45,28 +43,31 @@ pub struct RightSide {
     pub inner: [f64; 24],
 }
 
+// Two methods, and not one with a load of nothing: x + 0.0 is not x where x is -0.0.
 impl RightSide {
-    // The dense part's right side. It goes to an array that is lent: one that is returned would be copied.
-    #[tactic(auto, using(crate::proofs::Laws::Counting::repeat_turn, crate::proofs::Laws::Counting::repeat_end))]
-    pub(crate) fn gather(&self, n: usize, v: &mut [f64; 25])
-        requires { n ≤ 24 }
-        ensures { v.new ≡ set (repeat 0 n (gather_reduced_inner self.now.b self.now.inner) v.old) n (get_or self.now.b 120 nan) }
+    // The dense part's right side.
+    #[tactic(auto, using(crate::proofs::Laws::Counting::repeat_turn, crate::proofs::Laws::Counting::repeat_end), unfolding(crate::specs::Inner::Reduced::gather_reduced))]
+    pub(crate) fn gather(&self, count: Count) -> [f64; 25]
+        ensures { result ≡ gather_reduced count.n self.now.b self.now.inner }
     {
-        for e in 0..n {
+        let mut v = [0.0; 25];
+        for e in 0..count.n {
             v[e] = self.b[5 * e + 4] - self.inner[e];
         }
-        v[n] = self.b[120];
+        v[count.n] = self.b[120];
+        v
     }
 
     // The same with a load: gains at each inner surface, and the air's right side.
-    #[tactic(auto, using(crate::proofs::Laws::Counting::repeat_turn, crate::proofs::Laws::Counting::repeat_end))]
-    pub(crate) fn gather_loaded(&self, gains: f64, air: f64, n: usize, v: &mut [f64; 25])
-        requires { n ≤ 24 }
-        ensures { v.new ≡ set (repeat 0 n (gather_loaded_inner self.now.b self.now.inner gains) v.old) n air }
+    #[tactic(auto, using(crate::proofs::Laws::Counting::repeat_turn, crate::proofs::Laws::Counting::repeat_end), unfolding(crate::specs::Inner::Reduced::gather_loaded))]
+    pub(crate) fn gather_loaded(&self, gains: f64, air: f64, count: Count) -> [f64; 25]
+        ensures { result ≡ gather_loaded count.n self.now.b self.now.inner gains air }
     {
-        for e in 0..n {
+        let mut v = [0.0; 25];
+        for e in 0..count.n {
             v[e] = (self.b[5 * e + 4] + gains) - self.inner[e];
         }
-        v[n] = air;
+        v[count.n] = air;
+        v
     }
 }

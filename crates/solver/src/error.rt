@@ -2,22 +2,19 @@
 ghost use Rattle.std.specs.Prelude.{◌≡◌};
 ghost use Rattle.solver.specs.Answers.{number_of};
 
+// Each has its number of document 01.
 #[derive(Clone, Copy, Debug, PartialEq, Eq)]
 pub enum SolveError {
     // A divisor of a chain or a dense pivot is zero or not finite.
-    Divisor,
+    Divisor = 12,
     // A node temperature is not finite or beyond a million.
-    Temperature,
+    Temperature = 13,
 }
 
 impl SolveError {
-    // The number of the refusal.
     pub fn number(self) -> u32
         ensures { result ≡ number_of self }
     {
-        match self {
-            SolveError::Divisor => 12,
-            SolveError::Temperature => 13,
-        }
+        self as u32
     }
 }

@@ -5,6 +5,7 @@ ghost use Rattle.solver.specs.Rows.{pivot_row};
 ghost use Rattle.solver.specs.Inner.Columns.{factor_column, factor_columns, factor_last, subtract_last_multiple, back_last, lu_solve_apart};
 ghost use Rattle.solver.specs.Lu.{interchange_rows, pivots_valid, apply_interchanges, subtract_multiple, forward_substitution, back_substitution};
 
+use crate::chain::Count;
 use crate::closeness::valid_divisor;
 use crate::rows::{eliminate_rows, entry, pivot_row, row, set_row};
 
@@ -29,25 +30,24 @@ fn interchange_rows(m: &mut [f64; 625], k: usize, q: usize, pivots: &[f64; 25])
     set_row(m, k, pivots);
 }
 
-// The share of the last unknown, which is x, is subtracted from the right sides of the n rows above.
+// The share of the last unknown, which is x, is subtracted from the right sides of the n rows above. `zip` is no plainer: it needs a `take(n)`
+// on mutable entries, and the rows have the numbers of the equations.
 #[tactic(auto, using(crate::proofs::Laws::Counting::repeat_turn, crate::proofs::Laws::Counting::repeat_end))]
-fn subtract_last_multiples(last: &[f64; 25], b: &mut [f64; 25], x: f64, n: usize)
-    requires { n ≤ 24 }
-    ensures { b.new ≡ repeat 0 n (subtract_last_multiple last.now x) b.old }
+fn subtract_last_multiples(last: &[f64; 25], b: &mut [f64; 25], x: f64, count: Count)
+    ensures { b.new ≡ repeat 0 count.n (subtract_last_multiple last.now x) b.old }
 {
-    for i in 0..n {
-        b[i] = b[i] - last[i] * x;
+    for i in 0..count.n {
+        b[i] -= last[i] * x;
     }
 }
 
 #[tactic(auto, unfolding(crate::specs::Inner::Columns::back_last))]
-fn back_last(last: &[f64; 25], b: &mut [f64; 25], n: usize)
-    requires { n ≤ 24 }
-    ensures { b.new ≡ back_last n last.now b.old }
+fn back_last(last: &[f64; 25], b: &mut [f64; 25], count: Count)
+    ensures { b.new ≡ back_last count.n last.now b.old }
 {
-    let x = b[n] / last[n];
-    b[n] = x;
-    subtract_last_multiples(last, b, x, n);
+    let x = b[count.n] / last[count.n];
+    b[count.n] = x;
+    subtract_last_multiples(last, b, x, count);
 }
 
 impl Lu {
@@ -61,44 +61,48 @@ impl Lu {
 
     // Column k of n + 1 rows, where column n, which is kept apart, is left out of the elimination.
     #[tactic(auto, unfolding(crate::specs::Inner::Columns::factor_column, crate::specs::Inner::Columns::factor_column_by))]
-    fn factor_column(&mut self, n: usize, k: usize)
-        requires { (n ≤ 24) × (k < n) }
-        ensures { self.new ≡ factor_column n k self.old }
+    fn factor_column(&mut self, count: Count, k: usize)
+        requires { k < count.n }
+        ensures { self.new ≡ factor_column count.n k self.old }
     {
-        let q = self.pivot_row(n + 1, k);
+        let q = self.pivot_row(count.n + 1, k);
         let pivot = entry(&self.matrix, q, k);
         let pivots = row(&self.matrix, q);
         interchange_rows(&mut self.matrix, k, q, &pivots);
         self.interchanges[k] = q;
-        eliminate_rows(&mut self.matrix, n + 1, n, k, &pivots, 1.0 / pivot);
+        eliminate_rows(
+            &mut self.matrix,
+            count.n + 1,
+            count.n,
+            k,
+            &pivots,
+            1.0 / pivot,
+        );
     }
 
     // Each column before column n, in turn.
     #[tactic(auto, using(crate::proofs::Laws::Counting::repeat_turn, crate::proofs::Laws::Counting::repeat_end))]
-    pub(crate) fn factor_columns(&mut self, n: usize)
-        requires { n ≤ 24 }
-        ensures { self.new ≡ factor_columns n self.old.matrix self.old.interchanges }
+    pub(crate) fn factor_columns(&mut self, count: Count)
+        ensures { self.new ≡ factor_columns count.n self.old.matrix self.old.interchanges }
     {
-        for k in 0..n {
-            self.factor_column(n, k);
+        for k in 0..count.n {
+            self.factor_column(count, k);
         }
     }
 
     #[tactic(auto, unfolding(crate::specs::Lu::pivots_valid))]
-    pub(crate) fn pivots_valid(&self, w: usize) -> bool
-        requires { w ≤ 25 }
-        ensures { result ≡ pivots_valid w self.now.matrix }
+    pub(crate) fn pivots_valid(&self, count: Count) -> bool
+        ensures { result ≡ pivots_valid count.n self.now.matrix }
     {
-        (0..w).all(|k| valid_divisor(entry(&self.matrix, k, k)))
+        (0..count.n).all(|k| valid_divisor(entry(&self.matrix, k, k)))
     }
 
     // The row exchanges of the factorisation, made on a right side.
     #[tactic(auto, using(crate::proofs::Laws::Counting::repeat_turn, crate::proofs::Laws::Counting::repeat_end), unfolding(crate::specs::Lu::apply_interchanges))]
-    fn apply_interchanges(&self, b: &mut [f64; 25], w: usize)
-        requires { w ≤ 25 }
-        ensures { b.new ≡ apply_interchanges w self.now.interchanges b.old }
+    fn apply_interchanges(&self, b: &mut [f64; 25], count: Count)
+        ensures { b.new ≡ apply_interchanges count.n self.now.interchanges b.old }
     {
-        for k in 0..w {
+        for k in 0..count.n {
             let q = self.interchanges[k];
             if q < 25 {
                 b.swap(k, q);
@@ -113,27 +117,25 @@ impl Lu {
         ensures { b.new ≡ repeat start end (subtract_multiple self.now.matrix k x) b.old }
     {
         for i in start..end {
-            b[i] = b[i] - entry(&self.matrix, i, k) * x;
+            b[i] -= entry(&self.matrix, i, k) * x;
         }
     }
 
     #[tactic(auto, using(crate::proofs::Laws::Counting::repeat_turn, crate::proofs::Laws::Counting::repeat_end), unfolding(crate::specs::Lu::forward_substitution, crate::specs::Lu::forward_step))]
-    fn forward_substitution(&self, b: &mut [f64; 25], w: usize)
-        requires { w ≤ 25 }
-        ensures { b.new ≡ forward_substitution w self.now.matrix b.old }
+    fn forward_substitution(&self, b: &mut [f64; 25], count: Count)
+        ensures { b.new ≡ forward_substitution (count.n + 1) self.now.matrix b.old }
     {
-        for k in 0..w {
+        for k in 0..count.n + 1 {
             let x = b[k];
-            self.subtract_multiples(b, k, x, k + 1, w);
+            self.subtract_multiples(b, k, x, k + 1, count.n + 1);
         }
     }
 
     #[tactic(auto, using(crate::proofs::Laws::Counting::down_next, crate::proofs::Laws::Counting::down_done), unfolding(crate::specs::Lu::back_substitution, crate::specs::Lu::back_step))]
-    fn back_substitution(&self, b: &mut [f64; 25], w: usize)
-        requires { w ≤ 25 }
-        ensures { b.new ≡ back_substitution w self.now.matrix b.old }
+    fn back_substitution(&self, b: &mut [f64; 25], count: Count)
+        ensures { b.new ≡ back_substitution count.n self.now.matrix b.old }
     {
-        for k in (0..w).rev() {
+        for k in (0..count.n).rev() {
             let x = b[k] / entry(&self.matrix, k, k);
             b[k] = x;
             self.subtract_multiples(b, k, x, 0, k);
@@ -142,22 +144,20 @@ impl Lu {
 
     // Column n, or a right side, in the place of which it comes to stand: its interchanges made, and forward.
     #[tactic(auto, unfolding(crate::specs::Inner::Columns::factor_last))]
-    pub(crate) fn factor_last(&self, b: &mut [f64; 25], n: usize)
-        requires { n ≤ 24 }
-        ensures { b.new ≡ factor_last n self.now.matrix self.now.interchanges b.old }
+    pub(crate) fn factor_last(&self, b: &mut [f64; 25], count: Count)
+        ensures { b.new ≡ factor_last count.n self.now.matrix self.now.interchanges b.old }
     {
-        self.apply_interchanges(b, n);
-        self.forward_substitution(b, n + 1);
+        self.apply_interchanges(b, count);
+        self.forward_substitution(b, count);
     }
 
     // The unknowns stand where the right side stood; `last` is column n.
     #[tactic(auto, unfolding(crate::specs::Inner::Columns::lu_solve_apart))]
-    pub(crate) fn solve_apart(&self, last: &[f64; 25], b: &mut [f64; 25], n: usize)
-        requires { n ≤ 24 }
-        ensures { b.new ≡ lu_solve_apart n self.now.matrix last.now self.now.interchanges b.old }
+    pub(crate) fn solve_apart(&self, last: &[f64; 25], b: &mut [f64; 25], count: Count)
+        ensures { b.new ≡ lu_solve_apart count.n self.now.matrix last.now self.now.interchanges b.old }
     {
-        self.factor_last(b, n);
-        back_last(last, b, n);
-        self.back_substitution(b, n);
+        self.factor_last(b, count);
+        back_last(last, b, count);
+        self.back_substitution(b, count);
     }
 }

@@ -1,5 +1,5 @@
 // The solution of a zone's system: the matrix is factored once, and each right side substituted.
-ghost use Rattle.std.specs.Prelude.{◌≡◌, ◌&&◌, ◌≤◌, get_or};
+ghost use Rattle.std.specs.Prelude.{◌≡◌, ◌&&◌, get_or};
 ghost use Rattle.std.specs.Float.{nan};
 ghost use Rattle.solver.specs.FastSolver.{at_most24};
 ghost use Rattle.solver.specs.Numbers.{divisor};
@@ -9,7 +9,7 @@ ghost use Rattle.solver.specs.Closeness.{valid_divisor};
 ghost use Rattle.solver.specs.Inner.Factored.{solved, fast_solver};
 ghost use Rattle.solver.specs.Inner.Columns.{column_of, factor_last};
 ghost use Rattle.solver.specs.Inner.Reduced.{gather_reduced, gather_loaded};
-ghost use Rattle.solver.specs.Inner.Apart.{factored_columns, reduced_base, substitute_apart};
+ghost use Rattle.solver.specs.Inner.Apart.{factored_columns, reduced_base, substitute_factors};
 
 use crate::chain::Chains;
 use crate::closeness::valid_divisor;
@@ -21,7 +21,7 @@ use crate::rows::column;
 // The matrix as it is given: the number of elements, which of them have two nodes; for each slot its own coefficient and those of the next and the
 // previous slot of its chain; and the dense part, 25 places a row: the couplings between the inner surfaces, the air's column and row. Where an inner
 // surface meets itself, the dense part has the chain's adjusted diagonal once it is factored.
-// It has the fields of `Chains` one by one and no `Chains`, as the definition of the solve (specs/FastSolver.antt) names them.
+// The definition `solve` (specs/FastSolver.antt) reads this record field by field, and definitions keep their words: hence no `Chains` in it.
 #[derive(Clone, Copy)]
 pub struct Matrix {
     pub n: usize,
@@ -33,7 +33,8 @@ pub struct Matrix {
 }
 
 // The matrix in the form that is kept: its chains, and its dense part with the row exchanges; once its columns are factored, whether all of their
-// divisors are valid.
+// divisors are valid. That is a flag and no Result: an `Err` as soon as a matrix is factored would put the refusal 12
+// before 10 and 11, which document 01 has first.
 #[derive(Clone, Copy)]
 pub struct Factors {
     pub chains: Chains,
@@ -46,19 +47,17 @@ impl Factors {
     #[tactic(auto, unfolding(crate::specs::Inner::Apart::substitute_apart, crate::specs::Inner::Apart::temperatures_apart))]
     fn substitute_apart(
         &self,
-        n: usize,
         last: &[f64; 25],
         v: &mut [f64; 25],
         b: &mut [f64; 121],
     ) -> Result<(), SolveError>
-        requires { n ≤ 24 }
-        ensures { solved (number_in result) b.new ≡ substitute_apart n self.now.chains.two_nodes self.now.chains.diag self.now.chains.next
-            self.now.lu.matrix last.now self.now.lu.interchanges v.old b.old }
+        ensures { solved (number_in result) b.new ≡ substitute_factors self.now last.now v.old b.old }
     {
-        self.lu.solve_apart(last, v, n);
-        scatter_dense(v, n, b);
-        self.chains.back_substitute(n, b);
-        if self.chains.nodes_within(n, b) {
+        let count = self.chains.count();
+        self.lu.solve_apart(last, v, count);
+        scatter_dense(v, count, b);
+        self.chains.back_substitute(b);
+        if self.chains.nodes_within(b) {
             Ok(())
         } else {
             Err(SolveError::Temperature)
@@ -70,18 +69,18 @@ impl Factors {
     pub fn factor_columns(&mut self)
         ensures { self.new ≡ factored_columns self.old }
     {
-        let n = self.chains.count();
-        self.chains.eliminate(n);
-        set_inner_diagonals(&self.chains.diag, n, &mut self.lu.matrix);
-        self.lu.factor_columns(n);
-        self.valid = self.chains.divisors_valid(n) & self.lu.pivots_valid(n);
+        let count = self.chains.count();
+        self.chains.eliminate();
+        set_inner_diagonals(&self.chains.diag, count, &mut self.lu.matrix);
+        self.lu.factor_columns(count);
+        self.valid = self.chains.divisors_valid() & self.lu.pivots_valid(count);
     }
 
     // Column n of the dense part.
     pub fn last_column(&self) -> [f64; 25]
         ensures { result ≡ column_of (at_most24 self.now.chains.n) self.now.lu.matrix }
     {
-        column(&self.lu.matrix, self.chains.count())
+        column(&self.lu.matrix, self.chains.count().n)
     }
 
     // Column n of one rate, factored in place; refused where a divisor of the matrix with that column is zero or not finite.
@@ -89,9 +88,9 @@ impl Factors {
         ensures column { last.new ≡ factor_last (at_most24 self.now.chains.n) self.now.lu.matrix self.now.lu.interchanges last.old }
         ensures divisors { answered result ≡ require (self.now.valid && valid_divisor (get_or last.new (at_most24 self.now.chains.n) nan)) divisor }
     {
-        let n = self.chains.count();
-        self.lu.factor_last(last, n);
-        if self.valid & valid_divisor(last[n]) {
+        let count = self.chains.count();
+        self.lu.factor_last(last, count);
+        if self.valid & valid_divisor(last[count.n]) {
             Ok(())
         } else {
             Err(SolveError::Divisor)
@@ -102,31 +101,25 @@ impl Factors {
     pub fn reduce_base(&self, base: &mut RightSide)
         ensures { base.new ≡ reduced_base self.now base.old }
     {
-        let n = self.chains.count();
-        self.chains.reduce(n, &mut base.b);
-        self.chains.inner_shares(n, &base.b, &mut base.inner);
+        self.chains.reduce(&mut base.b);
+        self.chains.inner_shares(&base.b, &mut base.inner);
     }
 
     // The temperatures of a right side that is reduced.
-    #[tactic(auto, unfolding(crate::specs::Inner::Reduced::gather_reduced))]
     fn substitute_reduced(
         &self,
         base: &RightSide,
         last: &[f64; 25],
         temps: &mut [f64; 121],
     ) -> Result<(), SolveError>
-        ensures { solved (number_in result) temps.new ≡ substitute_apart (at_most24 self.now.chains.n) self.now.chains.two_nodes self.now.chains.diag
-            self.now.chains.next self.now.lu.matrix last.now self.now.lu.interchanges (gather_reduced (at_most24 self.now.chains.n) base.now.b base.now.inner) base.now.b }
+        ensures { solved (number_in result) temps.new ≡ substitute_factors self.now last.now (gather_reduced (at_most24 self.now.chains.n) base.now.b base.now.inner) base.now.b }
     {
-        let n = self.chains.count();
-        let mut v = [0.0; 25];
-        base.gather(n, &mut v);
+        let mut v = base.gather(self.chains.count());
         *temps = base.b;
-        self.substitute_apart(n, last, &mut v, temps)
+        self.substitute_apart(last, &mut v, temps)
     }
 
-    // The same with a load: gains at each inner surface, and the air's right side.
-    #[tactic(auto, unfolding(crate::specs::Inner::Reduced::gather_loaded))]
+    // The same with a load, apart for the reason that `RightSide` gives: gains at each inner surface, and the air's right side.
     pub fn substitute_load(
         &self,
         base: &RightSide,
@@ -135,14 +128,11 @@ impl Factors {
         air: f64,
         temps: &mut [f64; 121],
     ) -> Result<(), SolveError>
-        ensures { solved (number_in result) temps.new ≡ substitute_apart (at_most24 self.now.chains.n) self.now.chains.two_nodes self.now.chains.diag
-            self.now.chains.next self.now.lu.matrix last.now self.now.lu.interchanges (gather_loaded (at_most24 self.now.chains.n) base.now.b base.now.inner gains air) base.now.b }
+        ensures { solved (number_in result) temps.new ≡ substitute_factors self.now last.now (gather_loaded (at_most24 self.now.chains.n) base.now.b base.now.inner gains air) base.now.b }
     {
-        let n = self.chains.count();
-        let mut v = [0.0; 25];
-        base.gather_loaded(gains, air, n, &mut v);
+        let mut v = base.gather_loaded(gains, air, self.chains.count());
         *temps = base.b;
-        self.substitute_apart(n, last, &mut v, temps)
+        self.substitute_apart(last, &mut v, temps)
     }
 }
 

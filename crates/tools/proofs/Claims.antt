@@ -3,7 +3,8 @@ use Prim.Native.Nat.{ℕ, zero, suc, ◌-◌, ◌<◌}
 use mathlib.Core.Path.{◌≡◌, refl, sym, ap, ◌∙◌}
 use mathlib.Core.Bool.{Bool, true, false, not, ◌&&◌}
 use mathlib.Core.List.{List, [], ◌∷◌, map}
-use mathlib.Core.Option.{none, some}
+use Rattle.std.specs.Prelude.{None, Some}
+use Rattle.std.proofs.lemmas.Option.{none-some}
 use native.Mathlib.Omega.{arith}
 use lib.ListN.{length, length-map, get_or}
 use lib.Ieee.{Float, nan, neg, le, lt}
@@ -15,7 +16,7 @@ use Rattle.book.specs.Model.Plain.{Contents}
 use Rattle.book.specs.Model.PlainTakeUp.{contents_in}
 use Rattle.book.specs.Year.{year_interface}
 use Rattle.book.proofs.Model.Contents.{contents_refused, contents_of_book}
-use Rattle.book.proofs.Model.Laws.Bytes.{true_not_false, none_not_some}
+use Rattle.book.proofs.Model.Laws.Bytes.{true_not_false}
 use Rattle.book.proofs.Laws.Interface.{year_laws}
 use Rattle.tools.specs.Questions.{start_temperature, hour_temperatures, after, first_above, within, hours_within, nearer, none_nearer, nearest_hour, value_valid, band_valid, first_above_in, hours_within_in, nearest_hour_in}
 use Rattle.tools.specs.Questions as Temperature
@@ -64,23 +65,23 @@ module _ (bytes : List ℕ) (c : Contents year_interface) (e : contents_in year_
         go false t = t
         go true t = absurd (never (goes i h t))
 
-    found→ : (i : ℕ) → first_above_in bytes value ≡ ok (some i) → FirstAbove c value i
+    found→ : (i : ℕ) → first_above_in bytes value ≡ ok (Some i) → FirstAbove c value i
     unfolding first_above
     found→ i q =
         let f = first_found (length ts) (above value start ts) i (ok_inj (sym asked_above ∙ q)) in
         record { goes_above = goes i f.inside f.here; none_earlier = λ j l g. true_not_false (sym (is_above j g) ∙ f.earlier j l) }
 
-    found← : (i : ℕ) → FirstAbove c value i → first_above_in bytes value ≡ ok (some i)
+    found← : (i : ℕ) → FirstAbove c value i → first_above_in bytes value ≡ ok (Some i)
     unfolding first_above
     found← i f =
         let inside : i < length ts = omega (arith, f.goes_above.held, as_many) in
         asked_above ∙ ap ok (first_hour_lem (length ts) (above value start ts) i inside (λ j l. not_above j (f.none_earlier j l) (omega (arith, l, inside))) (is_above i f.goes_above))
 
-    none→ : first_above_in bytes value ≡ ok none → (i : ℕ) → GoesAbove c value i → ⊥
+    none→ : first_above_in bytes value ≡ ok None → (i : ℕ) → GoesAbove c value i → ⊥
     unfolding first_above
     none→ q i g = true_not_false (sym (is_above i g) ∙ none_found (length ts) (above value start ts) (ok_inj (sym asked_above ∙ q)) i (omega (arith, g.held, as_many)))
 
-    none← : ((i : ℕ) → GoesAbove c value i → ⊥) → first_above_in bytes value ≡ ok none
+    none← : ((i : ℕ) → GoesAbove c value i → ⊥) → first_above_in bytes value ≡ ok None
     unfolding first_above
     none← never = asked_above ∙ ap ok (no_hour (length ts) (above value start ts) (λ j h. not_above j (never j) h))
 
@@ -94,7 +95,7 @@ module _ (bytes : List ℕ) (c : Contents year_interface) (e : contents_in year_
     abbrev d : ℕ → Float
     d i = distance_of value ts i
 
-    module _ (i : ℕ) (q : nearest_hour_in bytes value ≡ ok (some i)) where
+    module _ (i : ℕ) (q : nearest_hour_in bytes value ≡ ok (Some i)) where
       found : FirstFound (length ts) (none_nearer value ts) i
       unfolding nearest_hour
       found = first_found (length ts) (none_nearer value ts) i (ok_inj (sym asked_nearest ∙ q))
@@ -118,19 +119,19 @@ module _ (bytes : List ℕ) (c : Contents year_interface) (e : contents_in year_
             none_as_near = λ j l. nearer_le (d i) (d j) (farther j l);
           }
 
-    no-nearest→ : nearest_hour_in bytes value ≡ ok none → hours_held c ≡ 0
+    no-nearest→ : nearest_hour_in bytes value ≡ ok None → hours_held c ≡ 0
     no-nearest→ q = go (length ts) refl
       where
         go : (n : ℕ) → length ts ≡ n → hours_held c ≡ 0
         go zero h = sym as_many ∙ h
         go (suc n) h =
             let s = some_nearest value ts (omega (arith, h)) in
-            none_not_some s.0 (sym (ok_inj (sym asked_nearest ∙ q)) ∙ s.1)
+            absurd (none-some s.0 (sym (ok_inj (sym asked_nearest ∙ q)) ∙ s.1))
 
-    some_nearest_is : 0 < hours_held c → (i : ℕ) × (nearest_hour_in bytes value ≡ ok (some i))
+    some_nearest_is : 0 < hours_held c → (i : ℕ) × (nearest_hour_in bytes value ≡ ok (Some i))
     some_nearest_is h = let s = some_nearest value ts (omega (arith, h, as_many)) in (s.0, asked_nearest ∙ ap ok s.1)
 
-    no-nearest← : hours_held c ≡ 0 → nearest_hour_in bytes value ≡ ok none
+    no-nearest← : hours_held c ≡ 0 → nearest_hour_in bytes value ≡ ok None
     unfolding nearest_hour
     no-nearest← h = asked_nearest ∙ ap ok (no_hour (length ts) (none_nearer value ts) (λ j l. absurd (omega (arith, l, as_many, h))))
 

@@ -1,15 +1,19 @@
--- What the functions answer, for what the definitions say: the hour, none, or number and index of a refusal.
-use Rattle.std.specs.Prelude.{ℕ}
-use Rattle.std.proofs.Math.Option.{Option, none, some}
+-- What the functions answer, in the words of the definitions: a refusal by the papers' number and index.
+use Rattle.std.specs.Prelude.{ℕ, Ok, Err}
+use Rattle.std.specs.Prelude as Rust
 use Rattle.zone.specs.Promise.{Result, ok, refused}
-use Rattle.tools.specs.declared.replies.HourReply.{HourReply}
-use Rattle.tools.specs.declared.replies.HoursReply.{HoursReply}
+use Rattle.book.specs.Answers as Book
+use Rattle.tools.specs.Numbers.{question_value}
+use Rattle.tools.specs.declared.question_error.QuestionError.{QuestionError}
 
-abbrev pub hour_reply : Result (Option ℕ) → HourReply
-hour_reply (ok none) = HourReply.NoHour
-hour_reply (ok (some hour)) = HourReply.Hour hour
-hour_reply (refused number index) = HourReply.Refused number index
+abbrev pub number_of : QuestionError → ℕ
+number_of (QuestionError.Book e) = Book.number_of e
+number_of QuestionError.QuestionValue = question_value
 
-abbrev pub hours_reply : Result ℕ → HoursReply
-hours_reply (ok hours) = HoursReply.Hours hours
-hours_reply (refused number index) = HoursReply.Refused number index
+abbrev pub index_of : QuestionError → ℕ
+index_of (QuestionError.Book e) = Book.index_of e
+index_of QuestionError.QuestionValue = 0
+
+abbrev pub answered : {A : Type 0} → Rust.Result A QuestionError → Result A
+answered (Ok a) = ok a
+answered (Err e) = refused (number_of e) (index_of e)

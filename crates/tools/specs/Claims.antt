@@ -1,6 +1,6 @@
 -- What is claimed of the three questions: of the definitions that the contracts of their functions cite. Comparisons, distance, bound and number are written out.
-use Rattle.std.specs.Prelude.{ℕ, zero, suc, ◌+◌, ◌<◌, ◌≡◌, ◌↔◌, Bool, true, false, not, cond, ◌&&◌, List, ◌++◌, length, get_or, Float}
-use Rattle.std.proofs.Math.Option.{none, some}
+use Rattle.std.specs.Prelude.{ℕ, zero, suc, ◌+◌, ◌<◌, ◌≡◌, ◌↔◌, Bool, true, false, not, cond, ◌&&◌, List, ◌++◌, length, get_or, Float, None, Some}
+use Rattle.std.proofs.Math.Option.{none}
 use Rattle.std.specs.Float.Ieee.{neg, lt, le}
 use Rattle.solver.specs.F64.{◌-ᶠ◌, decimal}
 use Rattle.solver.specs.Closeness.{abs}
@@ -52,11 +52,11 @@ module _ (c : Contents year_interface) where
   in_band lower upper i = le lower (temperature i) && le (temperature i) upper
 
   pub record AcceptedClaims (bytes : List ℕ) : Type 0 where
-    pub first : (value : Float) → value_valid value ≡ true → (i : ℕ) → (first_above_in bytes value ≡ ok (some i)) ↔ FirstAbove value i
-    pub no_first : (value : Float) → value_valid value ≡ true → (first_above_in bytes value ≡ ok none) ↔ ((i : ℕ) → GoesAbove value i → ⊥)
-    pub nearest : (value : Float) → value_valid value ≡ true → (i : ℕ) → nearest_hour_in bytes value ≡ ok (some i) → NearestHour value i
-    pub some_nearest : (value : Float) → value_valid value ≡ true → 0 < hours_held → (i : ℕ) × (nearest_hour_in bytes value ≡ ok (some i))
-    pub no_nearest : (value : Float) → value_valid value ≡ true → (nearest_hour_in bytes value ≡ ok none) ↔ (hours_held ≡ 0)
+    pub first : (value : Float) → value_valid value ≡ true → (i : ℕ) → (first_above_in bytes value ≡ ok (Some i)) ↔ FirstAbove value i
+    pub no_first : (value : Float) → value_valid value ≡ true → (first_above_in bytes value ≡ ok None) ↔ ((i : ℕ) → GoesAbove value i → ⊥)
+    pub nearest : (value : Float) → value_valid value ≡ true → (i : ℕ) → nearest_hour_in bytes value ≡ ok (Some i) → NearestHour value i
+    pub some_nearest : (value : Float) → value_valid value ≡ true → 0 < hours_held → (i : ℕ) × (nearest_hour_in bytes value ≡ ok (Some i))
+    pub no_nearest : (value : Float) → value_valid value ≡ true → (nearest_hour_in bytes value ≡ ok None) ↔ (hours_held ≡ 0)
     -- as many hours as lie within the band; none where none does
     pub counted : (lower upper : Float) → band_valid lower upper ≡ true → hours_within_in bytes lower upper ≡ ok (count_of hours_held 0 (in_band lower upper))
     pub none_within : (lower upper : Float) → band_valid lower upper ≡ true

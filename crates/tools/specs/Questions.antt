@@ -1,7 +1,6 @@
 -- Document 02 (c), "When did it get warm?": three questions over an accepted book. The definitions speak of the plain book's hours and of the states after
 -- them.
-use Rattle.std.specs.Prelude.{ℕ, ◌+◌, Bool, not, cond, ◌&&◌, ◌||◌, List, [], ◌∷◌, map, length, get_or, ltb, Float}
-use Rattle.std.proofs.Math.Option.{Option, none, some}
+use Rattle.std.specs.Prelude.{ℕ, ◌+◌, Bool, not, cond, ◌&&◌, ◌||◌, List, [], ◌∷◌, map, length, get_or, ltb, Float, Option, None, Some}
 use Rattle.std.specs.Float.{nan}
 use Rattle.std.specs.Float.Ieee.{is_nan, lt, le}
 use Rattle.solver.specs.F64.{◌-ᶠ◌}
@@ -34,7 +33,7 @@ before start ts i = get_or (start ∷ ts) i nan
 
 -- the first of so many hours that passes a test. "Where no such hour exists the first and third yield none"
 unfoldable pub first_hour : (hours : ℕ) → (ℕ → Bool) → Option ℕ
-first_hour hours test = cond (ltb (first_below hours test) hours) (some (first_below hours test)) none
+first_hour hours test = cond (ltb (first_below hours test) hours) (Some (first_below hours test)) None
 
 -- ---- "the first hour at which operative temperature goes from at or below a given value to above it"
 

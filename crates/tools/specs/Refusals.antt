@@ -1,9 +1,11 @@
 -- Which numbers and indices the questions can be refused with: "tested after the book is accepted".
-use Rattle.std.specs.Prelude.{ℕ, List, Float}
+use Rattle.std.specs.Prelude.{ℕ, ◌≡◌, List, Float}
 use Rattle.zone.specs.Promise.{RefusesOnly}
 use Rattle.book.specs.Refusals.{TakeUpRefusal}
 use Rattle.tools.specs.Numbers.{question_value}
 use Rattle.tools.specs.Questions.{first_above_in, hours_within_in, nearest_hour_in}
+use Rattle.tools.specs.Answers.{number_of, index_of}
+use Rattle.tools.specs.declared.question_error.QuestionError.{QuestionError}
 
 pub data QuestionRefusal : (number index : ℕ) → Type 0 where
   question_take_up : {number index : ℕ} → TakeUpRefusal number index → QuestionRefusal number index
@@ -14,3 +16,7 @@ pub record QuestionRefusals : Type 0 where
   pub first_above : (bytes : List ℕ) (value : Float) → RefusesOnly QuestionRefusal (first_above_in bytes value)
   pub hours_within_lem : (bytes : List ℕ) (lower upper : Float) → RefusesOnly QuestionRefusal (hours_within_in bytes lower upper)
   pub nearest_hour_lem : (bytes : List ℕ) (value : Float) → RefusesOnly QuestionRefusal (nearest_hour_in bytes value)
+
+-- "number and index": no two errors have the same
+abbrev pub OneError : Type 0
+OneError = (e e' : QuestionError) → number_of e ≡ number_of e' → index_of e ≡ index_of e' → e ≡ e'

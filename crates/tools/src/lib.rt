@@ -5,12 +5,11 @@ mod above;
 mod asked;
 mod hours;
 mod nearest;
-mod numbers;
-mod replies;
+mod question_error;
 mod values;
 mod within;
 
 pub use above::first_above;
 pub use nearest::nearest_hour;
-pub use replies::{HourReply, HoursReply};
+pub use question_error::QuestionError;
 pub use within::hours_within;

@@ -25,12 +25,14 @@ pub fn goes_above(value: f64, before: f64, temperature: f64) -> bool
     (before <= value) & (value < temperature)
 }
 
+// Two comparisons: `(lower..=upper).contains(..)` was tried, and the check did not find it alone.
 pub fn is_within(lower: f64, upper: f64, temperature: f64) -> bool
     ensures { result ≡ within lower upper temperature }
 {
     (lower <= temperature) & (temperature <= upper)
 }
 
+// The solver's `abs`: with the library's own, of a difference, the check did not find it alone.
 pub fn distance(value: f64, temperature: f64) -> f64
     ensures { result ≡ distance value temperature }
 {

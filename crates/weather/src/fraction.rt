@@ -4,7 +4,7 @@ ghost use Rattle.std.specs.Float.{binary64};
 ghost use Rattle.std.specs.Float.Ieee.{round};
 ghost use Rattle.weather.specs.Numbers.{most_digits};
 
-// `number` / `power` of at most 12 digits, with a minus or without.
+// The fraction `number` / `power`, with a minus or without; `number` has at most 12 digits.
 #[derive(Clone, Copy)]
 pub struct Fraction {
     pub minus: bool,

@@ -1,47 +1,31 @@
 // The three questions over a book (document 02 (c)), a row for each: what is answered, and what is expected.
-use crate::refusal::Refusal;
+use crate::refusal::{Answer, Refusal};
 use crate::table::row;
 use std::fmt::{self, Display};
 use std::io;
-use tools::{HourReply, HoursReply};
+use tools::QuestionError;
 
+// The hour that a question finds, if any.
 #[derive(Clone, Copy, PartialEq, Eq)]
-pub enum Answer {
-    Hour(usize),
-    NoHour,
-    // How many hours.
-    Hours(usize),
-    Refused(Refusal),
-}
+struct Found(Option<usize>);
 
-// The questions' own replies have no equality, and are no results.
-impl From<HourReply> for Answer {
-    fn from(reply: HourReply) -> Answer {
-        match reply {
-            HourReply::Hour(hour) => Answer::Hour(hour),
-            HourReply::NoHour => Answer::NoHour,
-            HourReply::Refused { number, index } => Answer::Refused(Refusal { number, index }),
-        }
-    }
-}
-
-impl From<HoursReply> for Answer {
-    fn from(reply: HoursReply) -> Answer {
-        match reply {
-            HoursReply::Hours(hours) => Answer::Hours(hours),
-            HoursReply::Refused { number, index } => Answer::Refused(Refusal { number, index }),
-        }
-    }
-}
-
-impl Display for Answer {
+impl Display for Found {
     fn fmt<W: fmt::Write>(&self, f: &mut fmt::Formatter<W>) -> fmt::Result {
-        match self {
-            Answer::Hour(number) | Answer::Hours(number) => Display::fmt(number, f),
-            Answer::NoHour => f.pad("none"),
-            Answer::Refused(refusal) => Display::fmt(refusal, f),
+        match self.0 {
+            Some(hour) => Display::fmt(&hour, f),
+            None => f.pad("none"),
         }
     }
+}
+
+fn print_found(
+    rt: &impl Print,
+    asked: &str,
+    came: Result<Option<usize>, QuestionError>,
+    expected: Result<Option<usize>, Refusal>,
+) -> io::Result<()> {
+    let came = came.map(Found).map_err(Refusal::from);
+    row(rt, asked, Answer(came), Answer(expected.map(Found)))
 }
 
 pub fn above(
@@ -49,14 +33,9 @@ pub fn above(
     asked: &str,
     book: &[u8],
     value: f64,
-    expected: Answer,
+    expected: Result<Option<usize>, Refusal>,
 ) -> io::Result<()> {
-    row(
-        rt,
-        asked,
-        Answer::from(tools::first_above(book, value)),
-        expected,
-    )
+    print_found(rt, asked, tools::first_above(book, value), expected)
 }
 
 pub fn within(
@@ -65,14 +44,10 @@ pub fn within(
     book: &[u8],
     lower: f64,
     upper: f64,
-    expected: Answer,
+    expected: Result<usize, Refusal>,
 ) -> io::Result<()> {
-    row(
-        rt,
-        asked,
-        Answer::from(tools::hours_within(book, lower, upper)),
-        expected,
-    )
+    let came = tools::hours_within(book, lower, upper).map_err(Refusal::from);
+    row(rt, asked, Answer(came), Answer(expected))
 }
 
 pub fn nearest(
@@ -80,12 +55,7 @@ pub fn nearest(
     asked: &str,
     book: &[u8],
     value: f64,
-    expected: Answer,
+    expected: Result<Option<usize>, Refusal>,
 ) -> io::Result<()> {
-    row(
-        rt,
-        asked,
-        Answer::from(tools::nearest_hour(book, value)),
-        expected,
-    )
+    print_found(rt, asked, tools::nearest_hour(book, value), expected)
 }

@@ -1,9 +1,10 @@
 // What the engine refuses.
-use book::Verdict;
+use book::BookError;
 use std::error::Error;
-use std::fmt;
+use std::fmt::{self, Display};
+use tools::QuestionError;
 
-// The refusals that the rows meet, by their numbers in the documents.
+// The refusals that the rows meet. Their numbers are written here as the documents give them: the rows lay them beside the engine's.
 #[derive(Clone, Copy, Debug, PartialEq, Eq)]
 pub enum Cause {
     HeadShort = 1,
@@ -25,7 +26,8 @@ pub enum Cause {
     QuestionValue = 20,
 }
 
-// A refusal of the zone, the book or a question, with the index of the element or the hour that it is about, 0 where it is about none.
+// A refusal of the zone, the book or a question, with the index of the element or the hour that it is about, 0 where it is about none. By
+// number, since the rows show numbers.
 #[derive(Clone, Copy, Debug, PartialEq, Eq)]
 pub struct Refusal {
     pub number: u32,
@@ -42,7 +44,7 @@ impl Cause {
 }
 
 // No index of the rows is above 9.
-impl fmt::Display for Refusal {
+impl Display for Refusal {
     fn fmt<W: fmt::Write>(&self, f: &mut fmt::Formatter<W>) -> fmt::Result {
         let Refusal { number, index } = *self;
         let length = if number < 10 { 14 } else { 15 };
@@ -55,6 +57,18 @@ impl Error for Refusal {}
 
 impl From<zone::Refusal> for Refusal {
     fn from(refusal: zone::Refusal) -> Refusal {
+        Refusal::from(BookError::from(refusal))
+    }
+}
+
+impl From<BookError> for Refusal {
+    fn from(refusal: BookError) -> Refusal {
+        Refusal::from(QuestionError::from(refusal))
+    }
+}
+
+impl From<QuestionError> for Refusal {
+    fn from(refusal: QuestionError) -> Refusal {
         Refusal {
             number: refusal.number(),
             index: refusal.index(),
@@ -62,10 +76,15 @@ impl From<zone::Refusal> for Refusal {
     }
 }
 
-// The verdict on a book as a result.
-pub fn outcome(verdict: Verdict) -> Result<(), Refusal> {
-    match verdict {
-        Verdict::Accepted => Ok(()),
-        Verdict::Refused { number, index } => Err(Refusal { number, index }),
+// What a call answers, in a row's column of eighteen.
+#[derive(Clone, Copy, PartialEq, Eq)]
+pub struct Answer<T>(pub Result<T, Refusal>);
+
+impl<T: Display> Display for Answer<T> {
+    fn fmt<W: fmt::Write>(&self, f: &mut fmt::Formatter<W>) -> fmt::Result {
+        match &self.0 {
+            Ok(answer) => Display::fmt(answer, f),
+            Err(refusal) => Display::fmt(refusal, f),
+        }
     }
 }

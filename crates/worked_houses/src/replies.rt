@@ -1,5 +1,5 @@
 // What a call on a book is given, and the rows of what it hands back.
-use crate::refusal::{Cause, Refusal, outcome};
+use crate::refusal::{Cause, Refusal};
 use crate::table::row;
 use book::{BookState, Reply};
 use std::io;
@@ -20,6 +20,7 @@ pub const MADE_UP: Counts = Counts {
     last_version: 77,
 };
 
+// A program makes up its own values: others than those of its books.
 pub fn nothing() -> BookState {
     BookState {
         state: State {
@@ -36,19 +37,16 @@ pub fn taken_up(bytes: &[u8]) -> Reply {
     book::take_up(nothing(), bytes)
 }
 
-// The number of a refusal, 0 for none.
-pub fn number_of<T>(outcome: &Result<T, Refusal>) -> u32 {
+// Number and index of a refusal, 0 twice for none.
+fn number_and_index<T>(outcome: &Result<T, Refusal>) -> (u32, usize) {
     match outcome {
-        Ok(_) => 0,
-        Err(refusal) => refusal.number,
+        Ok(_) => (0, 0),
+        Err(refusal) => (refusal.number, refusal.index),
     }
 }
 
-fn index_of<T>(outcome: &Result<T, Refusal>) -> usize {
-    match outcome {
-        Ok(_) => 0,
-        Err(refusal) => refusal.index,
-    }
+pub fn number_of<T>(outcome: &Result<T, Refusal>) -> u32 {
+    number_and_index(outcome).0
 }
 
 pub fn print_outcome<T>(
@@ -56,8 +54,10 @@ pub fn print_outcome<T>(
     came: &Result<T, Refusal>,
     expected: Result<(), Refusal>,
 ) -> io::Result<()> {
-    row(rt, "  refusal", number_of(came), number_of(&expected))?;
-    row(rt, "  index", index_of(came), index_of(&expected))
+    let (number, index) = number_and_index(came);
+    let (expected_number, expected_index) = number_and_index(&expected);
+    row(rt, "  refusal", number, expected_number)?;
+    row(rt, "  index", index, expected_index)
 }
 
 impl Counts {
@@ -93,7 +93,7 @@ impl Counts {
 
 impl Expected {
     pub fn print(self, rt: &impl Print, came: Reply) -> io::Result<()> {
-        print_outcome(rt, &outcome(came.verdict), self.outcome)?;
+        print_outcome(rt, &came.answer.map_err(Refusal::from), self.outcome)?;
         self.counts.print(rt, came.values)
     }
 }

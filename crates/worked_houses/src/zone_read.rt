@@ -5,6 +5,9 @@ use crate::replies::nothing;
 use book::{BookState, Reply};
 use zone::{Demand, HeatBalance, Load, Reason, State, Zone};
 
+// As a ventilation setpoint, none.
+pub const NO_CONTROL: f64 = 1.4e32;
+
 #[derive(Drop)]
 pub struct ZoneRead<'a> {
     bytes: &'a [u8],

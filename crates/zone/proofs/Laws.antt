@@ -1,6 +1,5 @@
 -- Laws that several proofs cite.
 pub mod Lists
-pub mod Counted
 pub mod Element
 pub mod Bytes
 pub mod Nan
@@ -21,6 +20,7 @@ pub mod Elements
 pub mod Counts
 pub mod Copies
 pub mod Terms
+pub mod FromFn
 pub mod Agree
 pub mod Surfaces
 pub mod System

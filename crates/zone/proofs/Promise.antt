@@ -12,13 +12,12 @@ pub use Rattle.zone.proofs.Laws.Fits.{hour_behind, hour_fits, hour_nodes}
 pub use Rattle.zone.proofs.Laws.HeadAnswers.{head_no, head_yes}
 pub use Rattle.zone.proofs.Laws.Kept.{none_kept_in}
 pub use Rattle.zone.proofs.Laws.Limits.{limits_back, limits_length_lem, same_limits}
-pub use Rattle.zone.proofs.Laws.Lists.{drop_replicate}
+pub use Rattle.std.proofs.lemmas.List.{drop-replicate as drop_replicate}
 pub use Rattle.zone.proofs.Laws.NextHour.{next_then}
 pub use Rattle.zone.proofs.Laws.NextKept.{next_kept}
-pub use Rattle.zone.proofs.Laws.Nan.{nan_only}
 pub use Rattle.zone.proofs.Laws.Refusals.{because}
 pub use Rattle.zone.proofs.Laws.RoundTrip.{row_back}
-pub use Rattle.zone.proofs.Laws.StructuredHead.{head_as_tested, head_fails, head_judged, head_passes, head_then_test, head_wrong, structured_counts, structured_few, structured_within}
+pub use Rattle.zone.proofs.Laws.StructuredHead.{head_as_tested, head_fails, head_judged, head_passes, head_then_test, structured_counts, structured_few, structured_within}
 pub use Rattle.zone.proofs.Laws.StructuredHead.{demand_judges, hour_judges, operative_judges, start_up_judges, update_judges, why_judges}
 pub use Rattle.zone.proofs.Laws.Versions.{hour_version_bounds, hour_version_not}
 pub use Rattle.zone.proofs.Laws.Ranges.{counts_few}

@@ -54,10 +54,6 @@ module _ {A : Type 0} where
   answered_with (Err e) xs = refused (number_of e) (index_of e)
 
   -- an answer with the state that the call leaves
-  abbrev pub changed : Rust.Result A Refusal → State → Result (State × A)
-  changed (Ok a) s = ok (s, a)
-  changed (Err e) s = refused (number_of e) (index_of e)
-
   abbrev pub changed_by : Rust.Result A Refusal → State → Result (A × State)
   changed_by (Ok a) s = ok (a, s)
   changed_by (Err e) s = refused (number_of e) (index_of e)

@@ -1,6 +1,5 @@
 -- Words that only contracts need, of private functions and of those that one layer calls of the other: the code's split of a calculation. Nobody has to
 -- believe them: a law ties each to a definition outside, and no definition outside cites them.
-pub mod Counted
 pub mod Head
 pub mod NextHour
 pub mod Assembly
@@ -19,4 +18,3 @@ pub mod Why
 pub mod Check
 pub mod Format
 pub mod Temperatures
-pub mod Record

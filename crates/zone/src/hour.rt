@@ -1,7 +1,6 @@
 // An hour's solves: ventilation, load and demand.
 pub mod control;
 mod cooling_potential;
-pub mod delivered;
 mod demand;
 pub mod free;
 pub mod hour;
@@ -9,6 +8,7 @@ pub mod hour_kept;
 pub mod kept;
 pub mod load;
 pub mod reason;
+pub mod rule;
 pub mod simulation_time;
 pub mod solves;
 pub mod time_step;

@@ -8,4 +8,5 @@ pub mod matrix;
 pub mod node_layout;
 pub mod operative;
 pub mod slots;
+pub mod terms;
 pub mod ventilation;

@@ -1,34 +1,43 @@
--- The loops that write bytes, one turn and the end, and the comparison of bytes.
+-- Numbers as the library writes them, the loop that writes floats, one turn and the end, and the comparison of bytes.
 use Rattle.std.proofs.Common.{nat_eq}
-use Prim.Native.Nat.{ℕ, suc, ◌+◌, ◌-◌, ◌/◌, ◌%◌, ◌≤◌, ◌<◌}
+use Prim.Native.Nat.{ℕ, ◌+◌, ◌/◌, ◌%◌, ◌≤◌, ◌<◌}
 use mathlib.Core.Path.{◌≡◌, refl, sym, ap, ◌∙◌}
 use mathlib.Core.Bool.{Bool, true, false, cond, ◌&&◌}
 use mathlib.Core.List.{List, [], ◌∷◌, ◌++◌}
 use native.Mathlib.Omega.{arith}
-use lib.ListN.{length, drop, get_or, set, drop_of_length-le}
+use lib.ListN.{length, drop, get_or, drop_of_length-le}
 use lib.Pointwise.{pointwise}
 use lib.Ieee.{Float, nan, binary64, to_bits}
 use Rattle.zone.proofs.Promise.{drop_next, length_bytes_of}
+use Rattle.std.specs.Cmp.{nat_eq_equiv}
+use Rattle.std.specs.Int.{w32, w64, to_be_bytes}
 use Rattle.zone.specs.Format.Bytes.{bytes_of}
 use Rattle.zone.specs.Format.Encode.{float_bytes, row_bytes}
 use Rattle.book.specs.Model.Bytes.{equal_bytes}
 use Rattle.book.specs.Inner.Replace.{replace_at}
-use Rattle.book.proofs.Laws.Replace.{replace_none, replace_byte, replace_then}
+use Rattle.book.proofs.Laws.Replace.{replace_none, replace_then}
 
--- ---- a number, from its lowest byte on
+-- ---- numbers, as std writes them
 
-pub num_more : (b w : List ℕ) (at k m : ℕ) → 0 < k → at + k ≤ length b → replace_at at (bytes_of k m) b ≡ w
-    → replace_at at (bytes_of (k - 1) (m / 256)) (set b (at + (k - 1)) (m % 256)) ≡ w
+pub four_bytes : (n : ℕ) → to_be_bytes w32 n ≡ bytes_of 4 n
 unfolding bytes_of
-num_more b w at k m h r e =
-    let back : suc (k - 1) ≡ k = omega arith in
-    replace_byte at (k - 1) (m % 256) (bytes_of (k - 1) (m / 256)) b (length_bytes_of (k - 1) (m / 256)) (omega arith)
-    ∙ ap (λ (j : ℕ). replace_at at (bytes_of j m) b) back
-    ∙ e
+four_bytes n =
+    let e₃ : n / 16777216 % 256 ≡ n / 256 / 256 / 256 % 256 = omega arith in
+    let e₂ : n / 65536 % 256 ≡ n / 256 / 256 % 256 = omega arith in
+    let e₁ : n / 256 % 256 ≡ n / 256 % 256 = omega arith in
+    λ t. e₃ t ∷ e₂ t ∷ e₁ t ∷ n % 256 ∷ []
 
-pub num_done : (b w : List ℕ) (at k m : ℕ) → k ≡ 0 → replace_at at (bytes_of k m) b ≡ w → b ≡ w
+pub eight_bytes : (n : ℕ) → to_be_bytes w64 n ≡ bytes_of 8 n
 unfolding bytes_of
-num_done b w at k m z e = sym (replace_none at b) ∙ ap (λ (j : ℕ). replace_at at (bytes_of j m) b) (sym z) ∙ e
+eight_bytes n =
+    let e₇ : n / 72057594037927936 % 256 ≡ n / 256 / 256 / 256 / 256 / 256 / 256 / 256 % 256 = omega arith in
+    let e₆ : n / 281474976710656 % 256 ≡ n / 256 / 256 / 256 / 256 / 256 / 256 % 256 = omega arith in
+    let e₅ : n / 1099511627776 % 256 ≡ n / 256 / 256 / 256 / 256 / 256 % 256 = omega arith in
+    let e₄ : n / 4294967296 % 256 ≡ n / 256 / 256 / 256 / 256 % 256 = omega arith in
+    let e₃ : n / 16777216 % 256 ≡ n / 256 / 256 / 256 % 256 = omega arith in
+    let e₂ : n / 65536 % 256 ≡ n / 256 / 256 % 256 = omega arith in
+    let e₁ : n / 256 % 256 ≡ n / 256 % 256 = omega arith in
+    λ t. e₇ t ∷ e₆ t ∷ e₅ t ∷ e₄ t ∷ e₃ t ∷ e₂ t ∷ e₁ t ∷ n % 256 ∷ []
 
 -- ---- floats one behind the other
 
@@ -53,12 +62,12 @@ module _ (xs : List Float) (i : ℕ) (p : ℕ) (b w : List ℕ) (inv : replace_a
 
 -- ---- the comparison of bytes
 
-pub pointwise_equal : (xs ys : List ℕ) → pointwise nat_eq xs ys ≡ equal_bytes xs ys
-pointwise_equal [] [] = refl
-pointwise_equal [] (y ∷ ys) = refl
-pointwise_equal (x ∷ xs) [] = refl
-pointwise_equal (x ∷ xs) (y ∷ ys) = go (pointwise_equal xs ys) (nat_eq x y)
+pub compared : (xs ys : List ℕ) → pointwise nat_eq ys xs ≡ equal_bytes xs ys
+compared [] [] = refl
+compared [] (y ∷ ys) = refl
+compared (x ∷ xs) [] = refl
+compared (x ∷ xs) (y ∷ ys) = go (compared xs ys) (nat_eq y x) (nat_eq x y) (nat_eq_equiv.symm y x)
   where
-    go : pointwise nat_eq xs ys ≡ equal_bytes xs ys → (b : Bool) → b && pointwise nat_eq xs ys ≡ cond b (equal_bytes xs ys) false
-    go e true = e
-    go e false = refl
+    go : pointwise nat_eq ys xs ≡ equal_bytes xs ys → (b c : Bool) → b ≡ c → b && pointwise nat_eq ys xs ≡ cond c (equal_bytes xs ys) false
+    go e true c p = e ∙ ap (λ d. cond d (equal_bytes xs ys) false) p
+    go e false c p = ap (λ d. cond d (equal_bytes xs ys) false) p

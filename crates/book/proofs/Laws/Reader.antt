@@ -1,58 +1,28 @@
--- What is read of a book is what the plain book has: start-up's state, and entry by entry the state after it.
-use Rattle.std.specs.Prelude.{Ok, Err}
-use Rattle.std.specs.Prelude as Rust
+-- What is read of a book is what the plain book has: entry by entry the state after it.
 use Prim.Native.Nat.{ℕ, ◌+◌, ◌-◌, ◌*◌, ◌≤◌, ◌<◌}
 use mathlib.Core.Path.{◌≡◌, refl, sym, ap, subst, ◌∙◌}
-use mathlib.Core.Bool.{Bool, true, false, cond}
 use mathlib.Core.List.{List, [], ◌∷◌, ◌++◌, map, append-nil, append_assoc}
 use native.Mathlib.Omega.{arith}
 use lib.ListN.{length, take, drop, replicate, length-append, length-drop}
 use lib.Seq.{drop_at, length-take-le, take-length}
-use lib.Dec.{leb}
 use lib.Ieee.{Float}
 use borrow.Author.Tests.{le-leb, lt-leb}
-use Rattle.zone.specs.Promise.{Result, ok, zero64}
-use Rattle.zone.specs.Answers.{answered}
-use Rattle.zone.specs.Inner.Head.{structured_head, head_read}
+use Rattle.zone.specs.Promise.{ok, zero64}
 use Rattle.zone.specs.Record.BuildingElement.{node_count, standard_coefficients}
 use Rattle.zone.specs.Format.Bytes.{float_size}
 use Rattle.zone.specs.Format.Decode.{floats_at}
 use Rattle.zone.specs.Format.Encode.{row_bytes}
-use Rattle.zone.specs.Format.Head.{ReadHead}
 use Rattle.zone.specs.Inner.Temperatures.{most_nodes, temperatures_from}
 use Rattle.zone.specs.Calls.Hour.{HourResult}
-use Rattle.zone.specs.Calls.StartUp.{init_node_temps}
 use Rattle.zone.specs.declared.record.zone_record.Zone.{Zone}
-use Rattle.zone.specs.declared.record.refusal.Refusal.{Refusal}
-use Rattle.zone.specs.declared.calls.state.State.{State}
-use Rattle.zone.proofs.Promise.{ok_inj, drop_replicate, floats_length, hour_fits, hour_behind, hour_nodes, row_back, take_fits, temps_length, count_few, node_count_few, length_row}
+use Rattle.zone.proofs.Promise.{ok_inj, drop_replicate, hour_fits, hour_behind, hour_nodes, row_back, take_fits, temps_length, count_few, node_count_few, length_row}
 use Rattle.book.specs.Model.Interface.{Written}
 use Rattle.book.specs.Model.Plain.{entries_of}
 use Rattle.book.specs.Entry.{front_bytes, demand_bytes, entry_of}
 use Rattle.book.specs.Year.{Item, hour, body_conditions, body_limits, Carried, hour_entry, year_interface}
-use Rattle.book.specs.Inner.Reader.{start_in, temperatures_of, read_temperatures, state_in, ZerosBehind}
+use Rattle.book.specs.Inner.Reader.{temperatures_of, read_temperatures, state_in}
 use Rattle.book.proofs.Model.Laws.Entries.{Entries, bytes_of, entries_cons}
-use Rattle.book.proofs.Laws.Heads.{head_stops, head_goes_on, starts, starts_not}
 use Rattle.book.proofs.Laws.Interface.{HourEntered, step_hour}
-
--- ---- start-up
-
-module _ (bytes : List ℕ) (x : Rust.Result ℕ Refusal) (z : Zone) (e : head_read x z ≡ structured_head bytes) (given : State) where
-  abbrev after : ReadHead Zone → Carried → Result State
-  after y s = ok s.state
-
-  pub start_in_head : (r : Refusal) → x ≡ Err r → given ≡ start_in given bytes
-  unfolding start_in
-  start_in_head r f = rw (head_stops bytes x z e after r f) refl
-
-  module _ (n : ℕ) (f : x ≡ Ok n) (y : Rust.Result State Refusal) (i : answered y ≡ init_node_temps standard_coefficients z) where
-    pub start_in_start_up : (r : Refusal) → y ≡ Err r → given ≡ start_in given bytes
-    unfolding start_in
-    start_in_start_up r k = rw (head_goes_on bytes x z e after n f, starts_not z y i r k) refl
-
-    pub start_in_book : (s : State) → y ≡ Ok s → s ≡ start_in given bytes
-    unfolding start_in
-    start_in_book s k = rw (head_goes_on bytes x z e after n f, starts z y i s k) refl
 
 -- ---- the temperatures of an entry, as the code cuts them out
 
@@ -72,22 +42,8 @@ module _ (z : Zone) (entry : List ℕ) (temps : List Float) (n : ℕ) (n_is : n 
 
 -- ---- the state after an entry
 
-pub no_temperatures : (z : Zone) → ZerosBehind z (replicate most_nodes zero64)
+no_temperatures : (z : Zone) → drop (node_count z) (replicate most_nodes zero64) ≡ replicate (most_nodes - node_count z) zero64
 no_temperatures z = drop_replicate (node_count z) most_nodes zero64
-
-module _ (z : Zone) (e : List ℕ) (temps : List Float) (zeros : ZerosBehind z temps) where
-  -- what is read into it is the state, and it still does
-  pub read_state : read_temperatures z e temps ≡ (state_in z e).temps
-  unfolding read_temperatures
-  read_state = rw (zeros, no_temperatures z) refl
-
-  pub read_behind : ZerosBehind z (read_temperatures z e temps)
-  unfolding read_temperatures
-  read_behind = go (leb (float_size * node_count z) (length e))
-    where
-      go : (b : Bool) → drop (node_count z) (cond b (temperatures_of z e ++ drop (node_count z) temps) (replicate most_nodes zero64)) ≡ replicate (most_nodes - node_count z) zero64
-      go true = drop_at (temperatures_of z e) (drop (node_count z) temps) (node_count z) (floats_length (drop (length e - float_size * node_count z) e) 0 (node_count z)) ∙ zeros
-      go false = no_temperatures z
 
 -- an entry holds the state after its hour: every temperature is one that eight bytes spell
 module _ (z : Zone) (k : ℕ) (s : Carried) (version : ℕ) (i : List ℕ) (e : Written Carried) (p : hour_entry z k s (hour version i) ≡ ok e) where

@@ -1,11 +1,11 @@
 -- Bytes in place of others, one write behind the other.
-use Prim.Native.Nat.{ℕ, suc, ◌+◌, ◌-◌, ◌≤◌, ◌<◌}
+use Prim.Native.Nat.{ℕ, ◌+◌, ◌-◌, ◌≤◌}
 use mathlib.Core.Path.{◌≡◌, sym, ap, ◌∙◌}
-use mathlib.Core.List.{List, [], ◌∷◌, ◌++◌, append_assoc, append-nil}
+use mathlib.Core.List.{List, [], ◌++◌, append_assoc, append-nil}
 use native.Mathlib.Nat.{add-sub_cancel_left, zero-add}
 use native.Mathlib.Omega.{arith}
-use lib.ListN.{length, take, drop, set, length-append, length-set, length-take, take-append-drop}
-use lib.Seq.{take-set-le, drop-cons, get_or-set_same, drop-set-lt, take_at, drop-append-add, drop-drop, drop-length}
+use lib.ListN.{length, take, drop, length-append, length-take, take-append-drop}
+use lib.Seq.{take_at, drop-append-add, drop-drop, drop-length}
 use borrow.Rule.Slice.PartMut.{put_mid}
 use Rattle.book.specs.Inner.Replace.{replace_at}
 
@@ -13,16 +13,6 @@ use Rattle.book.specs.Inner.Replace.{replace_at}
 pub replace_none : (at : ℕ) (b : List ℕ) → replace_at at [] b ≡ b
 unfolding replace_at
 replace_none at b = let e : at + 0 ≡ at = omega arith in rw (e, append-nil (take at b)) (take-append-drop at b)
-
--- a byte is stored behind those that are still to be written before it
-pub replace_byte : (at k d : ℕ) (bs b : List ℕ) → length bs ≡ k → at + k < length b → replace_at at bs (set b (at + k) d) ≡ replace_at at (bs ++ (d ∷ [])) b
-unfolding replace_at
-replace_byte at k d bs b l h =
-    let inside : at + k < length (set b (at + k) d) = simp length-set (omega arith) in
-    let low : at ≤ at + k = omega arith in
-    let high : at + k < suc (at + k) = omega arith in
-    let next : at + length (bs ++ (d ∷ [])) ≡ suc (at + k) = simp length-append (omega arith) in
-    rw (l, take-set-le, drop-cons (set b (at + k) d) (at + k) 0, get_or-set_same, drop-set-lt, next) (simp append_assoc)
 
 module _ (at : ℕ) (xs ys b : List ℕ) (h : at ≤ length b) where
   front_length : length (take at b ++ xs) ≡ at + length xs

@@ -86,8 +86,8 @@ pub begins_within : (z : Zone) (rest : List ℕ) (n : ℕ) → Begins z rest n �
 begins_within z rest n (entire five k h) = (omega arith, h)
 begins_within z rest n (unknown five k) = (five, omega arith)
 
-pub record_inside : (z : Zone) (rest : List ℕ) (r : Rust.Option ℕ) → record_length r ≡ entry_length z rest → (n : ℕ) → r ≡ Some n → n ≤ length rest
-record_inside z rest r e n f = (begins_within z rest n (begins z rest n (sym e ∙ ap record_length f))).1
+pub record_bounds : (z : Zone) (rest : List ℕ) (r : Rust.Option ℕ) → record_length r ≡ entry_length z rest → (n : ℕ) → r ≡ Some n → (front_size ≤ n) × (n ≤ length rest)
+record_bounds z rest r e n f = begins_within z rest n (begins z rest n (sym e ∙ ap record_length f))
 
 -- of a version that hours have it has that version's length
 pub begins_known : (z : Zone) (rest : List ℕ) (n : ℕ) → Begins z rest n → hour_version (version_in rest) ≡ true → n ≡ whole_length z (version_in rest)

@@ -1,15 +1,19 @@
 -- An entry part by part: what the writers leave in the buffer, one behind the other.
 use Rattle.std.specs.Prelude.{None, Option, Some}
-use Prim.Native.Nat.{ℕ, ◌+◌, ◌≤◌}
-use mathlib.Core.Path.{◌≡◌, sym, ap, ◌∙◌}
+use Prim.Native.Nat.{ℕ, ◌+◌, ◌%◌, ◌≤◌}
+use Rattle.std.specs.Prelude.{nat_eq}
+use Rattle.std.specs.List.{starts_with}
+use Rattle.std.specs.Int.{w32, to_be_bytes}
+use Rattle.book.proofs.Laws.Loops.{four_bytes, compared}
+use mathlib.Core.Path.{◌≡◌, refl, sym, ap, ◌∙◌}
 use mathlib.Core.Bool.{Bool}
 use mathlib.Core.List.{List, [], ◌∷◌, ◌++◌, append_assoc}
 use native.Mathlib.Omega.{arith}
-use lib.ListN.{length, take, length-append}
+use lib.ListN.{length, take, replicate, length-append}
 use lib.Ieee.{Float}
 use Rattle.zone.specs.Record.BuildingElement.{node_count}
 use Rattle.zone.specs.Format.Bytes.{bytes_of}
-use Rattle.zone.proofs.Promise.{length_bytes_of, length_row, limits_length_lem}
+use Rattle.zone.proofs.Promise.{length_row, limits_length_lem}
 use Rattle.zone.specs.Format.Limits.{power_limits_size, limits_bytes}
 use Rattle.zone.specs.declared.format.limits.Limits.{Limits}
 use Rattle.zone.specs.declared.record.zone_record.Zone.{Zone}
@@ -27,20 +31,21 @@ use Rattle.book.proofs.Laws.Entry.{length_front, length_demand}
 
 module _ (at : ℕ) (b b₁ b₂ : List ℕ) where
   pub front_written : (z : Zone) (version m : ℕ) → m ≡ following_length z version → at + front_size ≤ length b
-      → b₁ ≡ replace_at at (bytes_of length_size m) b → b₂ ≡ replace_at (at + length_size) (bytes_of version_size version) b₁ → b₂ ≡ replace_at at (front_bytes z version) b
+      → b₁ ≡ replace_at at (to_be_bytes w32 m) b → b₂ ≡ replace_at (at + length_size) (version % 256 ∷ []) b₁ → b₂ ≡ replace_at at (front_bytes z version) b
+  unfolding bytes_of
   front_written z version m l h e₁ e₂ =
-      replace_then at (at + length_size) (bytes_of length_size m) (bytes_of version_size version) b b₁ b₂ (omega arith) (omega (arith, length_bytes_of length_size m)) e₁ e₂
-      ∙ (λ i. replace_at at (bytes_of length_size (l i) ++ bytes_of version_size version) b)
+      replace_then at (at + length_size) (to_be_bytes w32 m) (version % 256 ∷ []) b b₁ b₂ (omega arith) refl e₁ e₂
+      ∙ (λ i. replace_at at ((four_bytes m ∙ ap (bytes_of length_size) l) i ++ bytes_of version_size version) b)
 
   module _ (t : Option Float) (h : at + trigger_size ≤ length b) where
-    pub trigger_absent : t ≡ None → b₁ ≡ replace_at at (bytes_of 1 0) b → b₂ ≡ replace_at (at + 1) (bytes_of 8 0) b₁ → b₂ ≡ replace_at at (trigger_bytes t) b
-    trigger_absent f e₁ e₂ =
-        replace_then at (at + 1) (bytes_of 1 0) (bytes_of 8 0) b b₁ b₂ (omega arith) (omega (arith, length_bytes_of 1 0)) e₁ e₂
-        ∙ ap (λ (y : Option Float). replace_at at (trigger_bytes y) b) (sym f)
+    pub trigger_absent : t ≡ None → b₁ ≡ replace_at at (replicate trigger_size 0) b → b₁ ≡ replace_at at (trigger_bytes t) b
+    unfolding bytes_of
+    trigger_absent f e = e ∙ ap (λ (y : Option Float). replace_at at (trigger_bytes y) b) (sym f)
 
-    pub trigger_at : (x : Float) → t ≡ Some x → b₁ ≡ replace_at at (bytes_of 1 1) b → b₂ ≡ replace_at (at + 1) (float_bytes x) b₁ → b₂ ≡ replace_at at (trigger_bytes t) b
+    pub trigger_at : (x : Float) → t ≡ Some x → b₁ ≡ replace_at at (1 ∷ []) b → b₂ ≡ replace_at (at + 1) (float_bytes x) b₁ → b₂ ≡ replace_at at (trigger_bytes t) b
+    unfolding bytes_of
     trigger_at x f e₁ e₂ =
-        replace_then at (at + 1) (bytes_of 1 1) (float_bytes x) b b₁ b₂ (omega arith) (omega (arith, length_bytes_of 1 1)) e₁ e₂
+        replace_then at (at + 1) (1 ∷ []) (float_bytes x) b b₁ b₂ (omega arith) refl e₁ e₂
         ∙ ap (λ (y : Option Float). replace_at at (trigger_bytes y) b) (sym f)
 
   pub demand_written : (d : Demand) → at + demand_size ≤ length b
@@ -84,6 +89,6 @@ module _ (z : Zone) (version : ℕ) (i j : List ℕ) (d : Demand) (s : State) wh
 
   -- the entry written anew into a buffer's start, compared with a whole entry
   pub entry_compared : (c b b₁ : List ℕ) (t : Bool) → length c ≡ whole_length z version → length (entry_of z version (i ++ j) d s) ≡ whole_length z version
-      → b₁ ≡ replace_at 0 (entry_of z version (i ++ j) d s) b → t ≡ equal_bytes (take (length c) b₁) c → t ≡ equal_bytes (entry_of z version (i ++ j) d s) c
+      → b₁ ≡ replace_at 0 (entry_of z version (i ++ j) d s) b → t ≡ starts_with nat_eq b₁ c → t ≡ equal_bytes (entry_of z version (i ++ j) d s) c
   entry_compared c b b₁ t l m e f =
-      f ∙ ap (λ (y : List ℕ). equal_bytes y c) (ap (take (length c)) e ∙ replace_start (entry_of z version (i ++ j) d s) b (length c) (m ∙ sym l))
+      f ∙ compared (take (length c) b₁) c ∙ ap (λ (y : List ℕ). equal_bytes y c) (ap (take (length c)) e ∙ replace_start (entry_of z version (i ++ j) d s) b (length c) (m ∙ sym l))

@@ -1,5 +1,4 @@
--- The laws that the types of a book's functions meet: all values are some of theirs, and every answer that a call gives is read back from its reply, so
--- that no two answers have the same one.
+-- The laws that the types of a book's functions meet: all values are some of theirs, and every answer that a call gives is some reply's.
 use mathlib.Core.Path.{◌≡◌}
 use mathlib.Core.List.{List}
 use Prim.Native.Nat.{ℕ}
@@ -15,4 +14,4 @@ pub data AnswerOfCall (L : Interface) : Book.Answer L.State → Type 0 where
 
 pub record CodeLaws (L : Interface) (T : CodeTypes L) : Type 0 where
   pub given_back : (v : Book.BookState L.State) → (w : T.BookState) × (T.given_of w ≡ v)
-  pub answer_back : (a : Book.Answer L.State) → AnswerOfCall L a → T.answer_of (T.reply_in a) ≡ a
+  pub reply_for : (a : Book.Answer L.State) → AnswerOfCall L a → (r : T.Reply) × (T.answer_of r ≡ a)

@@ -24,29 +24,24 @@ use Rattle.book.proofs.Model.Laws.Bytes.{none_not_some}
 use Rattle.book.proofs.Model.Whole.{agrees}
 
 module _ (L : Interface) (T : CodeTypes L) (C : CodeLaws L T) where
-  -- a reply that is an answer's stands for that answer
-  stands : (r : T.Reply) (a : Book.Answer L.State) → AnswerOfCall L a → r ≡ T.reply_in a → T.answer_of r ≡ a
-  stands r a p e = ap T.answer_of e ∙ C.answer_back a p
-
-  returned_is : (r : T.Reply) (out : List ℕ) (d : Book.Outcome L.State) → AnswerOfCall L d.answer → CallSpec L T r out d → returned L T r out ≡ d
-  returned_is r out d p m = λ t. record { answer = stands r d.answer p m.reply t; buffer = m.bytes t }
+  returned_is : (r : T.Reply) (out : List ℕ) (d : Book.Outcome L.State) → CallSpec L T r out d → returned L T r out ≡ d
+  returned_is r out d m = λ t. record { answer = m.answer t; buffer = m.bytes t }
 
   -- ---- a call that was made has the event of the definitions
 
   made_is : {h : HeldBook L} {c : Call L.State L.Item} {e : Event L.State} → Made L T h c e → e ≡ make L h c
   unfolding make
-  made_is (begins h head buf g r out m) = ap (after_begin L h) (returned_is r out (Book.begin L head (T.given_of g) buf) (of_begin head (T.given_of g) buf) m)
-  made_is (takes_up h bytes g r m) = ap (after_take_up L h bytes) (stands r (Book.take_up L (T.given_of g) bytes) (of_take_up (T.given_of g) bytes) m)
+  made_is (begins h head buf g r out m) = ap (after_begin L h) (returned_is r out (Book.begin L head (T.given_of g) buf) m)
+  made_is (takes_up h bytes g r m) = ap (after_take_up L h bytes) m
   made_is (appends v h i spare g r out hd same m) =
       rw hd
       (ap (after_append L)
-      (returned_is r out (Book.append L h.zone (T.given_of g) i (v.bytes ++ spare)) (of_append h.zone (T.given_of g) i (v.bytes ++ spare)) m
+      (returned_is r out (Book.append L h.zone (T.given_of g) i (v.bytes ++ spare)) m
       ∙ ap (λ x. Book.append L h.zone x i (v.bytes ++ spare)) same))
   made_is (cuts v h at g r hd lo hi same m) =
       rw (hd, le-leb h.length at lo, le-leb at v.values.used hi)
       (ap (after_take_up L (some v) (take at v.bytes))
-      (stands r (Book.take_up L (T.given_of g) (take at v.bytes)) (of_take_up (T.given_of g) (take at v.bytes)) m
-      ∙ ap (λ x. Book.take_up L x (take at v.bytes)) same))
+      (m ∙ ap (λ x. Book.take_up L x (take at v.bytes)) same))
 
   has_answer : {h : HeldBook L} {c : Call L.State L.Item} {e : Event L.State} → Made L T h c e → (a : Book.Answer L.State) × (e.answer ≡ some a)
   has_answer (begins h head buf g r out m) = (T.answer_of r, refl)
@@ -62,26 +57,35 @@ module _ (L : Interface) (T : CodeTypes L) (C : CodeLaws L T) where
   not_made : (h : HeldBook L) (c : Call L.State L.Item) → MayBe h c (not_made_event L h)
   not_made h c x = none_not_some x.0 x.1
 
-  -- the reply for an answer
-  meets : (d : Book.Outcome L.State) → CallSpec L T (T.reply_in d.answer) d.buffer d
-  meets d = record { reply = refl; bytes = refl }
+  -- a reply for an answer
+  module _ (d : Book.Outcome L.State) (p : AnswerOfCall L d.answer) where
+    abbrev reply : T.Reply
+    reply = (C.reply_for d.answer p).0
+
+    meets : CallSpec L T reply d.buffer d
+    meets = record { answer = (C.reply_for d.answer p).1; bytes = refl }
+
+    returned_as : returned L T reply d.buffer ≡ d
+    returned_as = returned_is reply d.buffer d meets
 
   begin_made : (h : HeldBook L) (head : List ℕ) (g : Book.BookState L.State) (buf : List ℕ)
       → Made L T h (call_begin head g buf) (after_begin L h (Book.begin L head g buf))
   begin_made h head g buf =
       let w = C.given_back g in
       let d : Book.Outcome L.State = Book.begin L head (T.given_of w.0) buf in
+      let p : AnswerOfCall L d.answer = of_begin head (T.given_of w.0) buf in
       subst (λ x. Made L T h (call_begin head x buf) (after_begin L h (Book.begin L head x buf))) w.1
       (subst (λ x. Made L T h (call_begin head (T.given_of w.0) buf) (after_begin L h x))
-      (returned_is _ _ d (of_begin head (T.given_of w.0) buf) (meets d)) (begins h head buf w.0 _ _ (meets d)))
+      (returned_as d p) (begins h head buf w.0 _ _ (meets d p)))
 
   take_up_made : (h : HeldBook L) (g : Book.BookState L.State) (bytes : List ℕ)
       → Made L T h (call_take_up g bytes) (after_take_up L h bytes (Book.take_up L g bytes))
   take_up_made h g bytes =
       let w = C.given_back g in
+      let r = C.reply_for _ (of_take_up (T.given_of w.0) bytes) in
       subst (λ x. Made L T h (call_take_up x bytes) (after_take_up L h bytes (Book.take_up L x bytes))) w.1
       (subst (λ x. Made L T h (call_take_up (T.given_of w.0) bytes) (after_take_up L h bytes x))
-      (C.answer_back _ (of_take_up (T.given_of w.0) bytes)) (takes_up h bytes w.0 _ refl))
+      r.1 (takes_up h bytes w.0 r.0 r.1))
 
   append_made : (v : Snapshot L.State) (i : L.Item) (spare : List ℕ) (x : Result (ReadHead L.Zone)) → L.head_of v.bytes ≡ x
       → MayBe (some v) (call_append i spare) (make_append L v i spare x)
@@ -90,9 +94,10 @@ module _ (L : Interface) (T : CodeTypes L) (C : CodeLaws L T) where
       λ _.
       let w = C.given_back v.values in
       let d : Book.Outcome L.State = Book.append L h.zone (T.given_of w.0) i (v.bytes ++ spare) in
+      let p : AnswerOfCall L d.answer = of_append h.zone (T.given_of w.0) i (v.bytes ++ spare) in
       subst (λ x. Made L T (some v) (call_append i spare) (after_append L x))
-      (returned_is _ _ d (of_append h.zone (T.given_of w.0) i (v.bytes ++ spare)) (meets d) ∙ ap (λ x. Book.append L h.zone x i (v.bytes ++ spare)) w.1)
-      (appends v h i spare w.0 _ _ e w.1 (meets d))
+      (returned_as d p ∙ ap (λ x. Book.append L h.zone x i (v.bytes ++ spare)) w.1)
+      (appends v h i spare w.0 _ _ e w.1 (meets d p))
 
   module _ (v : Snapshot L.State) (at : ℕ) where
     abbrev bytes : List ℕ
@@ -105,9 +110,10 @@ module _ (L : Interface) (T : CodeTypes L) (C : CodeLaws L T) where
         λ _.
         let both = and_true (leb h.length at) (leb at v.values.used) t in
         let w = C.given_back v.values in
+        let r = C.reply_for _ (of_take_up (T.given_of w.0) bytes) in
         subst (λ x. Made L T (some v) (call_cut at) (after_take_up L (some v) bytes x))
-        (C.answer_back _ (of_take_up (T.given_of w.0) bytes) ∙ ap (λ x. Book.take_up L x bytes) w.1)
-        (cuts v h at w.0 _ e (leb-true _ _ both.0) (leb-true _ _ both.1) w.1 refl)
+        (r.1 ∙ ap (λ x. Book.take_up L x bytes) w.1)
+        (cuts v h at w.0 r.0 e (leb-true _ _ both.0) (leb-true _ _ both.1) w.1 r.1)
 
     cut_may : (x : Result (ReadHead L.Zone)) → L.head_of v.bytes ≡ x → MayBe (some v) (call_cut at) (make_cut L v at x)
     cut_may (refused c j) e = not_made (some v) (call_cut at)

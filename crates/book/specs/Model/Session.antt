@@ -8,18 +8,16 @@ use Rattle.book.specs.Model.Calls as Book
 use Rattle.book.specs.Model.Plain.{Snapshot}
 use Rattle.book.specs.Model.Run.{Call, call_begin, call_append, call_take_up, call_cut, Calls, Event}
 
--- The types of the functions' values and replies, and what they stand for: the values; and "this paper's number and values for each" reply. The
--- contracts say which reply an answer has.
+-- The types of the functions' values and replies, and what they stand for: the values; and "this paper's number and values for each" reply.
 pub record CodeTypes (L : Interface) : Type 1 where
   pub BookState : Type 0
   pub Reply : Type 0
   pub given_of : BookState → Book.BookState L.State
   pub answer_of : Reply → Book.Answer L.State
-  pub reply_in : Book.Answer L.State → Reply
 
 -- a reply and the whole lent buffer after the call, for what the call's definition says: the contracts of begin and append
 pub record CallSpec (L : Interface) (T : CodeTypes L) (r : T.Reply) (buffer : List ℕ) (d : Book.Outcome L.State) : Type 0 where
-  pub reply : r ≡ T.reply_in d.answer
+  pub answer : T.answer_of r ≡ d.answer
   pub bytes : buffer ≡ d.buffer
 
 module _ (L : Interface) where
@@ -58,7 +56,7 @@ module _ (L : Interface) (T : CodeTypes L) where
         → CallSpec L T r out (Book.begin L head (T.given_of g) buf)
         → Made h (call_begin head (T.given_of g) buf) (after_begin L h (returned r out))
     takes_up : (h : HeldBook L) (bytes : List ℕ) (g : T.BookState) (r : T.Reply)
-        → r ≡ T.reply_in (Book.take_up L (T.given_of g) bytes)
+        → T.answer_of r ≡ Book.take_up L (T.given_of g) bytes
         → Made h (call_take_up (T.given_of g) bytes) (after_take_up L h bytes (T.answer_of r))
     -- the buffer has the used bytes, and any bytes behind them
     appends : (v : Snapshot L.State) (h : ReadHead L.Zone) (i : L.Item) (spare : List ℕ) (g : T.BookState) (r : T.Reply) (out : List ℕ)
@@ -68,7 +66,7 @@ module _ (L : Interface) (T : CodeTypes L) where
     -- "Cut at a byte from the head's end to the used length"
     cuts : (v : Snapshot L.State) (h : ReadHead L.Zone) (at : ℕ) (g : T.BookState) (r : T.Reply)
         → L.head_of v.bytes ≡ ok h → h.length ≤ at → at ≤ v.values.used → T.given_of g ≡ v.values
-        → r ≡ T.reply_in (Book.take_up L (T.given_of g) (take at v.bytes))
+        → T.answer_of r ≡ Book.take_up L (T.given_of g) (take at v.bytes)
         → Made (some v) (call_cut at) (after_take_up L (some v) (take at v.bytes) (T.answer_of r))
 
   -- A list of calls, each made with the book that the one before it left.

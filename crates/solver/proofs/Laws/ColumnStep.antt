@@ -7,6 +7,7 @@ use native.Mathlib.Numerals.{add-one}
 use native.Mathlib.Omega.{arith}
 use lib.ListN.{length, get_or, set, length-set}
 use lib.Ieee.{Float, nan}
+use Rattle.std.proofs.lemmas.Bool.{cases_eq}
 use Rattle.solver.specs.F64.{◌*ᶠ◌, ◌/ᶠ◌, one64}
 use Rattle.solver.specs.Repeat.{repeat}
 use Rattle.solver.specs.Rows.{entry, row, eliminate_row}
@@ -16,7 +17,7 @@ use Rattle.solver.specs.Inner.Columns.{factor_column_by}
 use Rattle.solver.proofs.Laws.Signed.{add_neg_product}
 use Rattle.solver.proofs.Laws.Turns.{repeat_last}
 use Rattle.solver.proofs.Laws.Stores.{less_or_not}
-use Rattle.solver.proofs.Laws.Interchanges.{equal_or_not, swapped, swapped_first, swapped_by, swap_at, swap_length, row_at, exchange_length, exchange_at}
+use Rattle.solver.proofs.Laws.Interchanges.{swapped, swapped_first, swapped_by, swap_at, swap_length, row_at, exchange_length, exchange_at}
 use Rattle.solver.proofs.Laws.Elimination.{eliminated, eliminated_before, eliminated_beyond, eliminated_factor, eliminated_later, rows_length, rows_out, rows_in}
 use Rattle.solver.proofs.Laws.Forward.{forward_out, forward_in, forward_moved, interchanges_length, interchanges_next}
 
@@ -53,7 +54,7 @@ eliminated_narrow n k p p' r j x y h o e =
     (λ (c : j < n). eliminated_later (n + 1) k p r j x y (omega arith) (omega arith) ∙ rw e (sym (eliminated_later n k p' r j x y (omega arith) c)))
     (λ (c : n ≤ j). eliminated_beyond (n + 1) k p r j x y (omega arith) (omega arith) ∙ sym (eliminated_beyond n k p' r j x y (omega arith) c))
     (less_or_not j n))
-    (equal_or_not j k))
+    (cases_eq j k))
     (less_or_not j k)
 
 -- one column, its pivot row q known

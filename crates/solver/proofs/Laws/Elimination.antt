@@ -10,12 +10,12 @@ use lib.ListN.{length, get_or, set, length-set}
 use lib.Seq.{get_or-set_same, get_or-set_other}
 use lib.Ieee.{Float, nan, neg}
 use borrow.Author.Tests.{eq-eqb, ne_eqb, lt-ltb, le-ltb}
+use Rattle.std.proofs.lemmas.Bool.{cases_eq}
 use Rattle.solver.specs.F64.{◌+ᶠ◌, ◌*ᶠ◌}
 use Rattle.solver.specs.Repeat.{repeat}
 use Rattle.solver.specs.Rows.{entry, set_entry, eliminate_row}
 use Rattle.solver.proofs.Laws.Turns.{repeat_keeps}
 use Rattle.solver.proofs.Laws.Stores.{less_or_not, stores_length, stores_out, stores_in}
-use Rattle.solver.proofs.Laws.Interchanges.{equal_or_not}
 
 -- entry j of a row of w columns from which column k was eliminated: of what stood there, x, and of what stood in column k, y
 unfoldable pub eliminated : ℕ → ℕ → List Float → Float → ℕ → Float → Float → Float
@@ -75,7 +75,7 @@ module _ (w k : ℕ) (pivots : List Float) (reciprocal : Float) where
         ∙ sym (eliminated_later j x y (omega arith) v))
         (λ (v : w ≤ j). stays (λ u z. omega arith) n ∙ sym (eliminated_beyond j x y (omega arith) v))
         (less_or_not j w))
-        (equal_or_not j k))
+        (cases_eq j k))
         (less_or_not j k)
       where
         f : Float

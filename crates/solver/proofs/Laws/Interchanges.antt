@@ -1,7 +1,7 @@
 -- Two rows, or two places of a right side, that change places: what stands where afterwards.
 use mathlib.Core.Path.{◌≡◌, refl, sym, ap, ◌∙◌}
-use mathlib.Core.Logic.{◌⊎◌, inl, inr, ⊎_elim}
-use mathlib.Core.Bool.{Bool, true, false, cond}
+use mathlib.Core.Logic.{⊎_elim}
+use mathlib.Core.Bool.{cond}
 use mathlib.Core.List.{List}
 use Prim.Native.Nat.{ℕ, ◌+◌, ◌*◌, ◌<◌}
 use native.Mathlib.Omega.{arith}
@@ -9,18 +9,12 @@ use lib.Dec.{eqb}
 use lib.ListN.{length, get_or, set, length-set}
 use lib.Seq.{get_or-set_same, get_or-set_other}
 use lib.Ieee.{Float, nan}
-use borrow.Author.Tests.{eqb-true, eqb-false, eq-eqb, ne_eqb}
+use borrow.Author.Tests.{eq-eqb, ne_eqb}
+use Rattle.std.proofs.lemmas.Bool.{cases_eq}
 use Rattle.solver.specs.Rows.{entry, row, set_row}
 use Rattle.solver.specs.Lu.{interchange_rows, swap}
 use Rattle.solver.proofs.Laws.Sums.{terms_at}
 use Rattle.solver.proofs.Laws.Stores.{stores_length, stores_out, stores_in}
-
-pub equal_or_not : (a b : ℕ) → (a ≡ b) ⊎ (a ≡ b → ⊥)
-equal_or_not a b = by (eqb a b) refl
-  where
-    by : (t : Bool) → eqb a b ≡ t → (a ≡ b) ⊎ (a ≡ b → ⊥)
-    by true e = inl (eqb-true a b e)
-    by false e = inr (eqb-false a b e)
 
 -- where the content of place i stood before k and q changed places
 unfoldable pub swapped : ℕ → ℕ → ℕ → ℕ
@@ -33,7 +27,7 @@ module _ (k q : ℕ) where
 
   swapped_second : swapped k q q ≡ k
   unfolding swapped
-  swapped_second = ⊎_elim (λ (e : q ≡ k). rw (eq-eqb q k e) e) (λ (n : q ≡ k → ⊥). rw (ne_eqb q k n, eq-eqb q q refl)) (equal_or_not q k)
+  swapped_second = ⊎_elim (λ (e : q ≡ k). rw (eq-eqb q k e) e) (λ (n : q ≡ k → ⊥). rw (ne_eqb q k n, eq-eqb q q refl)) (cases_eq q k)
 
   pub swapped_other : (i : ℕ) → (i ≡ k → ⊥) → (i ≡ q → ⊥) → swapped k q i ≡ i
   unfolding swapped
@@ -44,8 +38,8 @@ module _ (k q : ℕ) where
   swapped_by P i a b c =
       ⊎_elim
       (λ (e : i ≡ k). rw (e, swapped_first) b)
-      (λ (n : i ≡ k → ⊥). ⊎_elim (λ (e : i ≡ q). rw (e, swapped_second) a) (λ (o : i ≡ q → ⊥). rw (swapped_other i n o) c) (equal_or_not i q))
-      (equal_or_not i k)
+      (λ (n : i ≡ k → ⊥). ⊎_elim (λ (e : i ≡ q). rw (e, swapped_second) a) (λ (o : i ≡ q → ⊥). rw (swapped_other i n o) c) (cases_eq i q))
+      (cases_eq i k)
 
 -- on a right side
 pub swap_at : (k q : ℕ) (l : List Float) (i : ℕ) → k < length l → q < length l → get_or (swap k q l) i nan ≡ get_or l (swapped k q i) nan
@@ -61,8 +55,8 @@ swap_at k q l i hk hq =
     ∙ ⊎_elim
     (λ (e : i ≡ k). rw (e, swapped_first k q) (get_or-set_same l k x nan hk))
     (λ (o : i ≡ k → ⊥). rw (swapped_other k q i o n) (get_or-set_other l k i x nan o))
-    (equal_or_not i k))
-    (equal_or_not i q)
+    (cases_eq i k))
+    (cases_eq i q)
 
 pub swap_length : (k q : ℕ) (l : List Float) → length (swap k q l) ≡ length l
 swap_length k q l = length-set (set l k (get_or l q nan)) q (get_or l k nan) ∙ length-set l k (get_or l q nan)
@@ -94,7 +88,7 @@ module _ (k q : ℕ) (m : List Float) (hk : k < 25) (hq : q < 25) (hm : length m
       ⊎_elim
       (λ (e : q ≡ k). rw (eq-eqb q k e) hm)
       (λ (n : q ≡ k → ⊥). rw (ne_eqb q k n) (set_row_length k (row q m) (set_row q (row k m) m) ∙ set_row_length q (row k m) m ∙ hm))
-      (equal_or_not q k)
+      (cases_eq q k)
 
   apart : (q ≡ k → ⊥) → (i j : ℕ) → i < 25 → j < 25 → entry i j (set_row k (row q m) (set_row q (row k m) m)) ≡ entry (swapped k q i) j m
   apart d i j hi hj =
@@ -107,8 +101,8 @@ module _ (k q : ℕ) (m : List Float) (hk : k < 25) (hq : q < 25) (hm : length m
       ∙ ⊎_elim
       (λ (e : i ≡ q). rw (e, swapped_second k q) (set_row_at q (row k m) m j hj (omega arith) ∙ row_at k m j hj))
       (λ (o : i ≡ q → ⊥). rw (swapped_other k q i n o) (set_row_other q (row k m) m i j hj o))
-      (equal_or_not i q))
-      (equal_or_not i k)
+      (cases_eq i q))
+      (cases_eq i k)
 
   pub exchange_at : (i j : ℕ) → i < 25 → j < 25 → entry i j (interchange_rows k q (row q m) m) ≡ entry (swapped k q i) j m
   unfolding interchange_rows
@@ -116,9 +110,9 @@ module _ (k q : ℕ) (m : List Float) (hk : k < 25) (hq : q < 25) (hm : length m
       ⊎_elim
       (λ (e : q ≡ k). rw (eq-eqb q k e) (ap (λ (x : ℕ). entry x j m) (stay e)))
       (λ (d : q ≡ k → ⊥). rw (ne_eqb q k d) (apart d i j hi hj))
-      (equal_or_not q k)
+      (cases_eq q k)
     where
       stay : q ≡ k → i ≡ swapped k q i
       stay e =
           ⊎_elim (λ (f : i ≡ k). f ∙ sym e ∙ sym (swapped_first k q) ∙ ap (swapped k q) (sym f))
-          (λ (n : i ≡ k → ⊥). sym (swapped_other k q i n (λ g. n (g ∙ e)))) (equal_or_not i k)
+          (λ (n : i ≡ k → ⊥). sym (swapped_other k q i n (λ g. n (g ∙ e)))) (cases_eq i k)

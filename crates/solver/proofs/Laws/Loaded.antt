@@ -1,6 +1,6 @@
 -- A load is added at the inner surfaces and the air alone: it may be added once the chains are reduced (specs/Inner/Reduced.antt).
 use mathlib.Core.Path.{◌≡◌, refl, sym, ap, ◌∙◌}
-use mathlib.Core.Bool.{Bool, false}
+use mathlib.Core.Bool.{Bool}
 use mathlib.Core.List.{List}
 use Prim.Native.Nat.{ℕ, ◌+◌, ◌*◌, ◌≤◌, ◌<◌}
 use native.Mathlib.Omega.{arith}
@@ -9,13 +9,13 @@ use lib.Seq.{get_or-set_same, get_or-set_other, set-set, set_comm}
 use lib.Ieee.{Float, nan}
 use Rattle.solver.specs.F64.{◌+ᶠ◌, ◌-ᶠ◌, ◌*ᶠ◌, ◌/ᶠ◌, zero64}
 use Rattle.solver.specs.Repeat.{repeat}
-use Rattle.solver.specs.Chain.{outer_slot, adjust_right_side, reduce_right_sides}
-use Rattle.solver.specs.Inner.Reduced.{reduce_chain, reduce_chains, inner_share, set_inner_share, inner_shares, gather_reduced_inner, gather_reduced, add_gains, with_load, gather_loaded_inner, gather_loaded}
+use Rattle.solver.specs.Chain.{reduce_right_sides}
+use Rattle.solver.specs.Inner.Reduced.{reduce_chain, reduce_chains, set_inner_share, inner_shares, gather_reduced_inner, gather_reduced, add_gains, with_load, gather_loaded_inner, gather_loaded}
 use Rattle.solver.specs.FastSolver.{gather_dense, scatter_dense}
 use Rattle.solver.specs.Inner.Reduced.{scatter_inner}
-use Rattle.solver.proofs.Laws.Turns.{repeat_keeps, repeat_same, repeat_commutes, repeat_overwrites}
-use Rattle.solver.proofs.Laws.Stores.{store, stores_length, stores_out, stores_in}
-use Rattle.solver.proofs.Laws.Reduction.{outer_most, outer_least, reduce_beside, lasts_apart, lasts_store, reduced_length, gather_reduced_lem, scatter_reduced}
+use Rattle.solver.proofs.Laws.Turns.{repeat_same, repeat_commutes, repeat_overwrites}
+use Rattle.solver.proofs.Laws.Stores.{stores_length, stores_out, stores_in}
+use Rattle.solver.proofs.Laws.Reduction.{reduce_beside, reduced_length, gather_reduced_lem, scatter_reduced}
 
 -- a load does not see the chains, nor they it
 module _ (diag prev : List Float) (two_nodes : List Bool) (n : ℕ) (gains air : Float) (hn : n ≤ 24) where
@@ -101,46 +101,3 @@ module _ (diag prev : List Float) (two_nodes : List Bool) (n : ℕ) (gains air :
       let y = reduce_chains n two_nodes diag prev b in
       scatter_reduced diag prev two_nodes n (with_load n gains air b) shares hn load_length hs v
       ∙ rw (load_after diag prev two_nodes n gains air hn b) (scatter_load n gains air y hn (reduced_length diag prev two_nodes n b shares hn hb hs) v)
-
-  -- Slot by slot: the inner surface of element e has (its right side + gains) - what the chain's last step subtracts; the slots before it are those of the right
-  -- side without the load.
-  chain_inner : (d e : ℕ) (t : List Float) → get_or (reduce_chain two_nodes diag prev d t) (5 * e + 4) nan ≡ get_or t (5 * e + 4) nan
-  unfolding reduce_chain
-  chain_inner d e t =
-      let lo = outer_least (get_or two_nodes d false) d in
-      repeat_keeps (λ (s : ℕ) (u : List Float). get_or u (5 * e + 4) nan ≡ get_or t (5 * e + 4) nan) (adjust_right_side diag prev) (outer_slot two_nodes d) (5 * d + 3) t (outer_most (get_or two_nodes d false) d)
-      (λ s u h g q. get_or-set_other u (s + 1) (5 * e + 4) (get_or u (s + 1) nan -ᶠ get_or u s nan *ᶠ get_or prev (s + 1) nan /ᶠ get_or diag s nan) nan (λ z. omega arith) ∙ q) refl
-
-  chains_inner : (e : ℕ) → get_or (reduce_chains n two_nodes diag prev b) (5 * e + 4) nan ≡ get_or b (5 * e + 4) nan
-  unfolding reduce_chains
-  chains_inner e =
-      repeat_keeps (λ (d : ℕ) (u : List Float). get_or u (5 * e + 4) nan ≡ get_or b (5 * e + 4) nan) (reduce_chain two_nodes diag prev) 0 n b (omega arith)
-      (λ d u h g q. chain_inner d e u ∙ q) refl
-
-  loaded_at : (p : ℕ) → (p ≡ 120 → ⊥) → ((e : ℕ) → e < n → p ≡ 5 * e + 4 → ⊥) → get_or (with_load n gains air (reduce_chains n two_nodes diag prev b)) p nan ≡ get_or (reduce_chains n two_nodes diag prev b) p nan
-  unfolding with_load
-  loaded_at p o q =
-      let y = reduce_chains n two_nodes diag prev b in
-      get_or-set_other (repeat 0 n (add_gains gains) y) 120 p air nan o
-      ∙ stores_out nan (λ e. 5 * e + 4) (λ e x. x +ᶠ gains) 0 n y p (omega arith) (λ e u v. q e v)
-
-  gained_at : (e : ℕ) → e < n → get_or (with_load n gains air (reduce_chains n two_nodes diag prev b)) (5 * e + 4) nan ≡ get_or b (5 * e + 4) nan +ᶠ gains
-  unfolding with_load
-  gained_at e h =
-      let y = reduce_chains n two_nodes diag prev b in
-      let l = reduced_length diag prev two_nodes n b shares hn hb hs in
-      get_or-set_other (repeat 0 n (add_gains gains) y) 120 (5 * e + 4) air nan (λ z. omega arith)
-      ∙ stores_in nan (λ i. 5 * i + 4) (λ i x. x +ᶠ gains) 0 n y e (λ u v o z. o (omega arith)) (omega arith) h (omega arith)
-      ∙ rw (chains_inner e)
-
-  reduced_loaded : reduce_right_sides n two_nodes diag prev (with_load n gains air b)
-      ≡ repeat 0 n (store nan (λ e. 5 * e + 4) (λ e x. x -ᶠ inner_share diag prev (with_load n gains air (reduce_chains n two_nodes diag prev b)) e)) (with_load n gains air (reduce_chains n two_nodes diag prev b))
-  reduced_loaded =
-      lasts_apart diag prev two_nodes n (with_load n gains air b)
-      ∙ rw (load_after diag prev two_nodes n gains air hn b) (lasts_store diag prev n (with_load n gains air (reduce_chains n two_nodes diag prev b)))
-
-  loaded_length : length (with_load n gains air (reduce_chains n two_nodes diag prev b)) ≡ 121
-  unfolding with_load
-  loaded_length =
-      let y = reduce_chains n two_nodes diag prev b in
-      length-set (repeat 0 n (add_gains gains) y) 120 air ∙ gains_length n gains air y hn (reduced_length diag prev two_nodes n b shares hn hb hs)

@@ -1,25 +1,15 @@
 -- Loops that store one place a turn, each place once: what stands where afterwards.
 use mathlib.Core.Path.{◌≡◌, refl, ap, ◌∙◌}
-use mathlib.Core.Logic.{◌⊎◌, inl, inr, ⊎_elim}
-use mathlib.Core.Bool.{Bool, true, false}
+use mathlib.Core.Logic.{⊎_elim}
 use mathlib.Core.List.{List}
 use Prim.Native.Nat.{ℕ, suc, ◌≤◌, ◌<◌}
 use native.Mathlib.Omega.{arith}
-use lib.Dec.{ltb}
 use lib.ListN.{length, get_or, set, length-set}
 use lib.Seq.{get_or-set_same, get_or-set_other}
-use borrow.Author.Tests.{ltb-true, ltb-false}
+pub use Rattle.std.proofs.lemmas.Bool.{cases_lt as less_or_not}
 use Rattle.solver.specs.Repeat.{repeat}
 use Rattle.solver.proofs.Laws.Counting.{repeat_done}
 use Rattle.solver.proofs.Laws.Turns.{repeat_keeps}
-
--- two numbers compared
-pub less_or_not : (a b : ℕ) → (a < b) ⊎ (b ≤ a)
-less_or_not a b = by (ltb a b) refl
-  where
-    by : (t : Bool) → ltb a b ≡ t → (a < b) ⊎ (b ≤ a)
-    by true e = inl (ltb-true a b e)
-    by false e = inr (ltb-false a b e)
 
 module _ {A : Type 0} (d : A) where
   -- the store of turn i: at place `at i`, from what stands there

@@ -13,6 +13,8 @@ use lib.ListN.{length, get_or, set, replicate, length-set}
 use lib.Seq.{get_or-set_same, get_or-set_other}
 use lib.Ieee.{Float, nan}
 use borrow.Author.Tests.{ltb-false}
+use Rattle.std.proofs.Math.Bool.{and_assoc}
+use Rattle.std.proofs.lemmas.Bool.{cases_eq}
 use Rattle.solver.specs.declared.system.Matrix.{Matrix}
 use Rattle.solver.specs.declared.lu.Lu.{Lu}
 use Rattle.solver.specs.declared.system.Factors.{Factors}
@@ -35,7 +37,6 @@ use Rattle.solver.specs.Inner.Factored.{Factored, factored, factor_dense, factor
 use Rattle.solver.specs.Inner.Apart.{Columns, columns, valid_in, diag_in, dense_in, interchanges_in, factor_apart, temperatures_apart, substitute_apart, factored_columns, reduced_base}
 use Rattle.solver.proofs.Laws.Turns.{repeat_relates}
 use Rattle.solver.proofs.Laws.Stores.{stores_length, stores_in}
-use Rattle.solver.proofs.Laws.Interchanges.{equal_or_not}
 use Rattle.solver.proofs.Laws.ColumnStep.{Apart}
 use Rattle.solver.proofs.Laws.Columns.{FactoredApart, factored_apart, columns_apart}
 use Rattle.solver.proofs.Laws.Apart.{pivots_apart, solve_apart}
@@ -77,7 +78,7 @@ rate_apart n full m c x hn hc a =
           (λ (e : i ≡ n). rw e (get_or-set_same full (25 * n + n) x nan (omega (arith, a.full_length)) ∙ sym (get_or-set_same c n x nan (omega arith))))
           (λ (o : i ≡ n → ⊥).
           get_or-set_other full (25 * n + n) (25 * i + n) x nan (λ e. o (omega arith)) ∙ a.column i u ∙ sym (get_or-set_other c n i x nan o))
-          (equal_or_not i n);
+          (cases_eq i n);
     }
 
 -- the inner diagonals leave the last column as it is
@@ -93,7 +94,7 @@ store_apart n full m c e x hn h a =
           (get_or-set_same full (25 * e + e) x nan (omega (arith, a.full_length)) ∙ sym (get_or-set_same m (25 * e + e) x nan (omega (arith, a.m_length)))))
           (λ (q : 25 * i + j ≡ 25 * e + e → ⊥).
           get_or-set_other full (25 * e + e) (25 * i + j) x nan q ∙ a.others i j u v o ∙ sym (get_or-set_other m (25 * e + e) (25 * i + j) x nan q))
-          (equal_or_not (25 * i + j) (25 * e + e));
+          (cases_eq (25 * i + j) (25 * e + e));
       column = λ i u. get_or-set_other full (25 * e + e) (25 * i + n) x nan (λ q. omega arith) ∙ a.column i u;
     }
 
@@ -102,10 +103,6 @@ unfolding set_inner_diagonals
 diagonals_apart n diag full m c hn a =
     repeat_relates (λ (e : ℕ) (u v : List Float). Apart n u v c) (set_inner_diagonal diag) (set_inner_diagonal diag) 0 n full m (omega arith)
     (λ e u v lo hi r. store_apart n u v c e (get_or diag (5 * e + 4) nan) hn hi r) a
-
-and_assoc : (a b c : Bool) → (a && (b && c)) ≡ ((a && b) && c)
-and_assoc true b c = refl
-and_assoc false b c = refl
 
 -- What `factor` makes of a matrix, and what `factor_apart` makes of it, whatever stands in column n of its dense part.
 pub data FactorsApart (n : ℕ) (c : List Float) : Factored → Columns → Type 0 where
@@ -128,7 +125,7 @@ tests_apart : (n : ℕ) (two_nodes : List Bool) (diag c : List Float) (x y : Lu)
     FactorsApart n c (test_divisors n two_nodes diag x) (test_columns n two_nodes diag y)
 tests_apart n two_nodes diag c x y hn (factored_apart full m interchanges hx a) =
     let last = factor_last n m interchanges c in
-    rw (pivots_apart n full m last hn a, and_assoc (divisors_valid n two_nodes diag) (pivots_valid n m) (valid_divisor (get_or last n nan)))
+    rw (pivots_apart n full m last hn a, ← and_assoc (divisors_valid n two_nodes diag) (pivots_valid n m) (valid_divisor (get_or last n nan)))
     (factors_apart (divisors_valid n two_nodes diag && pivots_valid n m) diag full m interchanges hx a)
 
 factors_apart_lem : (a : Matrix) (m c : List Float) (interchanges : List ℕ) → length c ≡ 25 → length interchanges ≡ 25 → Apart (at_most24 a.n) a.dense m c →

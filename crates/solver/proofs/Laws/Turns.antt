@@ -1,9 +1,10 @@
 -- Laws of `repeat` and `repeat_down` themselves: the last turn, what every turn keeps, two runs side by side.
 use mathlib.Core.Path.{◌≡◌, refl, sym, ap, ◌∙◌}
-use mathlib.Core.Bool.{Bool, true, false, ◌&&◌}
+use mathlib.Core.Bool.{Bool, ◌&&◌}
 use Prim.Native.Nat.{ℕ, zero, suc, ◌+◌, ◌-◌, ◌≤◌, ◌<◌}
 use native.Mathlib.Numerals.{add-one}
 use native.Mathlib.Omega.{arith}
+use Rattle.std.proofs.Math.Bool.{and_assoc, and-true}
 use Rattle.solver.specs.Repeat.{repeat_of, repeat, repeat_down, all_of, all}
 use Rattle.solver.proofs.Laws.Counting.{repeat_done}
 
@@ -125,20 +126,12 @@ module _ {A B : Type 0} where
       rw e at (relate R f g (b - a) a s t (λ j u v x y q. step j u v x (omega arith) q) p)
 
 -- a test of every number: the last one apart, and two tests that say the same
-and_assoc : (a b c : Bool) → (a && (b && c)) ≡ ((a && b) && c)
-and_assoc true b c = refl
-and_assoc false b c = refl
-
-and_true : (a : Bool) → (a && true) ≡ (true && a)
-and_true true = refl
-and_true false = refl
-
 all_of_last : (test : ℕ → Bool) (n i : ℕ) → all_of (suc n) i test ≡ (all_of n i test && test (i + n))
 unfolding all_of
-all_of_last test zero i = let e : i + 0 ≡ i = omega arith in rw e (and_true (test i))
+all_of_last test zero i = let e : i + 0 ≡ i = omega arith in rw e (and-true (test i))
 all_of_last test (suc n) i =
     let e : i + suc n ≡ suc i + n = omega arith in
-    rw e (ap (λ (x : Bool). test i && x) (all_of_last test n (suc i)) ∙ and_assoc (test i) (all_of n (suc i) test) (test (suc i + n)))
+    rw e (ap (λ (x : Bool). test i && x) (all_of_last test n (suc i)) ∙ sym (and_assoc (test i) (all_of n (suc i) test) (test (suc i + n))))
 
 pub all_last : (test : ℕ → Bool) (a b : ℕ) → a ≤ b → all a (b + 1) test ≡ (all a b test && test b)
 all_last test a b h =

@@ -45,6 +45,11 @@ substitute_apart n two_nodes diag next dense last interchanges v y =
     let t = temperatures_apart n two_nodes diag next dense last interchanges v y in
     solved (cond (nodes_within n two_nodes t) 0 temperature) t
 
+-- the same, of a matrix that is factored
+abbrev pub substitute_factors : Factors → (last v y : List Float) → Solved
+substitute_factors f last v y =
+    substitute_apart (at_most24 f.chains.n) f.chains.two_nodes f.chains.diag f.chains.next f.lu.matrix last f.lu.interchanges v y
+
 -- the matrix that is kept, with its columns before the last factored
 abbrev pub with_columns : Factors → Columns → Factors
 with_columns f c =

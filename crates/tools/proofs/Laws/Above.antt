@@ -1,9 +1,9 @@
 -- The loop of the first hour above a value: what holds before an hour, one turn, and both ends.
+use Rattle.std.specs.Prelude.{None, Some}
 use Prim.Native.Nat.{ℕ, ◌+◌, ◌<◌}
 use mathlib.Core.Path.{◌≡◌, refl, sym, subst, ◌∙◌}
 use mathlib.Core.Bool.{Bool, true, false}
 use mathlib.Core.List.{List, [], ◌∷◌}
-use mathlib.Core.Option.{none, some}
 use native.Mathlib.Numerals.{add-one}
 use native.Mathlib.Omega.{arith}
 use lib.ListN.{length, drop}
@@ -29,7 +29,7 @@ module _ (value start : Float) (ts : List Float) where
   none_at_first = record { left = refl; last_is = refl; none_yet = λ j h. absurd (omega arith) }
 
   module _ (hour : ℕ) (last : Float) (rest : List Float) (so_far : NoneYet hour last rest) where
-    pub above_none : rest ≡ [] → first_above value start ts ≡ none
+    pub above_none : rest ≡ [] → first_above value start ts ≡ None
     unfolding first_above
     above_none e =
         let l = none_from ts hour (so_far.left ∙ e) in
@@ -41,7 +41,7 @@ module _ (value start : Float) (ts : List Float) where
           let f = from_now ts hour t nan others (so_far.left ∙ e) in
           λ i. goes_above value (sym so_far.last_is i) (f.here i)
 
-      pub above_found : goes_above value last t ≡ true → first_above value start ts ≡ some hour
+      pub above_found : goes_above value last t ≡ true → first_above value start ts ≡ Some hour
       unfolding first_above
       above_found h =
           let f = from_now ts hour t nan others (so_far.left ∙ e) in

@@ -1,26 +1,27 @@
 -- The first hour that passes a test: what it is told by, and what it tells.
+use Rattle.std.specs.Prelude.{None, Some}
+use Rattle.std.proofs.lemmas.Option.{none-some, same_Some}
 use Prim.Native.Nat.{ℕ, zero, suc, ◌+◌, ◌≤◌, ◌<◌}
 use mathlib.Core.Path.{◌≡◌, refl, sym, ap, ◌∙◌}
 use mathlib.Core.Bool.{Bool, true, false, cond, ◌&&◌}
 use mathlib.Core.List.{List, [], ◌∷◌}
-use mathlib.Core.Option.{none, some}
 use native.Mathlib.Omega.{arith}
 use lib.ListN.{length, get_or, drop}
 use lib.Dec.{ltb}
 use borrow.Author.Tests.{ltb-true, ltb-false, lt-ltb, le-ltb}
 use Rattle.solver.specs.Repeat.{all_of}
 use Rattle.book.specs.Model.Bytes.{first_below}
-use Rattle.book.proofs.Model.Laws.Bytes.{first_is, First, first_of, true_not_false, some_inj, none_not_some}
+use Rattle.book.proofs.Model.Laws.Bytes.{first_is, First, first_of, true_not_false}
 use Rattle.tools.specs.Questions.{first_hour}
 
 module _ (n : ℕ) (test : ℕ → Bool) where
-  pub first_hour_lem : (i : ℕ) → i < n → ((j : ℕ) → j < i → test j ≡ false) → test i ≡ true → first_hour n test ≡ some i
+  pub first_hour_lem : (i : ℕ) → i < n → ((j : ℕ) → j < i → test j ≡ false) → test i ≡ true → first_hour n test ≡ Some i
   unfolding first_hour
   first_hour_lem i h earlier here =
       let e : first_below n test ≡ i = first_is n i test (omega arith) earlier (λ l. here) in
       rw (e, lt-ltb i n h) refl
 
-  pub no_hour : ((j : ℕ) → j < n → test j ≡ false) → first_hour n test ≡ none
+  pub no_hour : ((j : ℕ) → j < n → test j ≡ false) → first_hour n test ≡ None
   unfolding first_hour
   no_hour never =
       let e : first_below n test ≡ n = first_is n n test (omega arith) never (λ l. absurd (omega arith)) in
@@ -41,26 +42,26 @@ module _ (n : ℕ) (test : ℕ → Bool) where
   at_zero : (j : ℕ) → test (0 + j) ≡ test j
   at_zero j = let z : 0 + j ≡ j = omega arith in ap test z
 
-  pub first_found : (i : ℕ) → first_hour n test ≡ some i → FirstFound i
+  pub first_found : (i : ℕ) → first_hour n test ≡ Some i → FirstFound i
   unfolding first_hour
-  first_found i e = go (ltb F.m n) refl (sym (ap (λ (k : ℕ). cond (ltb k n) (some k) none) found_at) ∙ e)
+  first_found i e = go (ltb F.m n) refl (sym (ap (λ (k : ℕ). cond (ltb k n) (Some k) None) found_at) ∙ e)
     where
-      go : (b : Bool) → ltb F.m n ≡ b → cond (ltb F.m n) (some F.m) none ≡ some i → FirstFound i
+      go : (b : Bool) → ltb F.m n ≡ b → cond (ltb F.m n) (Some F.m) None ≡ Some i → FirstFound i
       go true t q =
-          let same : F.m ≡ i = some_inj (rw t at q) in
+          let same : F.m ≡ i = same_Some F.m i (rw t at q) in
           rw (← same) (record {
             inside = ltb-true F.m n t;
             earlier = λ j l. sym (at_zero j) ∙ F.before j l;
             here = sym (at_zero F.m) ∙ F.here (ltb-true F.m n t);
           })
-      go false t q = none_not_some i (rw t at q)
+      go false t q = absurd (none-some i (rw t at q))
 
-  pub none_found : first_hour n test ≡ none → (j : ℕ) → j < n → test j ≡ false
+  pub none_found : first_hour n test ≡ None → (j : ℕ) → j < n → test j ≡ false
   unfolding first_hour
-  none_found e = go (ltb F.m n) refl (sym (ap (λ (k : ℕ). cond (ltb k n) (some k) none) found_at) ∙ e)
+  none_found e = go (ltb F.m n) refl (sym (ap (λ (k : ℕ). cond (ltb k n) (Some k) None) found_at) ∙ e)
     where
-      go : (b : Bool) → ltb F.m n ≡ b → cond (ltb F.m n) (some F.m) none ≡ none → (j : ℕ) → j < n → test j ≡ false
-      go true t q j l = none_not_some F.m (sym (rw t at q))
+      go : (b : Bool) → ltb F.m n ≡ b → cond (ltb F.m n) (Some F.m) None ≡ None → (j : ℕ) → j < n → test j ≡ false
+      go true t q j l = absurd (none-some F.m (sym (rw t at q)))
       go false t q j l = sym (at_zero j) ∙ F.before j (omega (arith, ltb-false F.m n t, F.le))
 
 -- ---- a test of every number of a range

@@ -1,81 +1,89 @@
--- The loops over a book's hours: the next entry of the bytes, and what each turn and each end of a loop needs.
+-- The hours of a book as they are read, one after the other.
 use Rattle.std.specs.Prelude.{None, Some}
 use Rattle.std.specs.Prelude as Rust
-use Prim.Native.Nat.{ℕ, ◌+◌, ◌-◌, ◌≤◌, ◌<◌}
+use Prim.Native.Nat.{ℕ, zero, suc, ◌+◌, ◌-◌, ◌^◌, ◌≤◌, ◌<◌}
 use mathlib.Core.Path.{◌≡◌, refl, sym, ap, ◌∙◌}
+use mathlib.Core.Bool.{Bool, true, false, cond}
 use mathlib.Core.List.{List, [], ◌∷◌, map}
 use mathlib.Core.Option.{Option, none, some}
 use native.Mathlib.Omega.{arith}
-use lib.ListN.{length, take, drop, length-drop}
-use lib.Seq.{drop-drop}
+use lib.ListN.{length, take, drop, replicate, length-map}
+use lib.Dec.{leb}
 use lib.Ieee.{Float}
-use borrow.Author.Tests.{le-leb}
+use denote.Ref.{Bor}
 use Rattle.solver.proofs.Laws.Parts.{part_to_end}
+use Rattle.zone.specs.Promise.{zero64}
+use Rattle.zone.specs.Inner.Temperatures.{most_nodes}
 use Rattle.zone.specs.Calls.State.{operative_of}
 use Rattle.zone.specs.declared.record.zone_record.Zone.{Zone}
-use Rattle.book.specs.Model.Calls.{whole_entries}
+use Rattle.book.specs.Model.Calls.{whole_entries_up_to, whole_entries}
+use Rattle.book.specs.Model.Bytes.{from_option}
 use Rattle.book.specs.Year.{entry_length, year_interface}
-use Rattle.book.specs.Inner.Reader.{most_elements, read_temperatures, read_length, read_first, ZerosBehind}
+use Rattle.book.specs.Inner.Reader.{most_elements, read_length, read_first}
 use Rattle.book.specs.Inner.Record.{record_length}
-use Rattle.book.proofs.Model.Laws.Bytes.{some_inj, none_not_some}
+use Rattle.book.proofs.Model.Laws.Bytes.{none_not_some}
 use Rattle.book.proofs.Model.Laws.Decode.{whole_none, whole_some}
 use Rattle.book.proofs.Laws.Interface.{year_laws}
 use Rattle.book.proofs.Laws.Rest.{begins, begins_within}
-use Rattle.book.proofs.Laws.Reader.{read_state, read_behind}
-use Rattle.tools.specs.Inner.Hours.{entry_temperature, temperatures_in, first_entry_of, first_entry_in}
-use Rattle.tools.specs.declared.hours.NextHour.{NextHour}
+use Rattle.tools.specs.Inner.Hours.{entry_temperature, temperatures_in, hours_left}
+use Rattle.tools.specs.declared.hours.Hours.{Hours}
 
--- ---- what `read_entry` says of a rest
+pub hour_inside : (z : Zone) (bs : List ℕ) (r : Rust.Option ℕ) → record_length r ≡ read_length z bs → (n : ℕ) → r ≡ Some n → n ≤ length bs
+hour_inside z bs r length_is n w = go (leb z.count most_elements) (sym length_is ∙ ap record_length w)
+  where
+    go : (b : Bool) → cond b (entry_length z bs) none ≡ some n → n ≤ length bs
+    go false q = none_not_some n q
+    go true q = (begins_within z bs n (begins z bs n q)).1
 
-module _ (z : Zone) (few : z.count ≤ most_elements) (rest : List ℕ) (temps : List Float) (zeros : ZerosBehind z temps)
-    (r : Rust.Option ℕ) (length_is : record_length r ≡ read_length z rest) (out : List Float) (out_is : out ≡ read_first z rest temps) where
-  in_few : read_length z rest ≡ entry_length z rest
-  in_few = rw (le-leb z.count most_elements few) refl
+module _ (h : Hours) (r : Rust.Option ℕ) (length_is : record_length r ≡ read_length h.zone.now h.entries.now) where
+  abbrev z : Zone
+  z = h.zone.now
 
-  pub entry_none : r ≡ None → (first_entry_of None ≡ first_entry_in z rest) × ZerosBehind z out
-  entry_none d =
-      let e : entry_length z rest ≡ none = sym in_few ∙ sym length_is ∙ ap record_length d in
-      let same : out ≡ temps = out_is ∙ rw (in_few, e) refl in
-      (rw e refl, rw same zeros)
+  abbrev bs : List ℕ
+  bs = h.entries.now
 
-  pub entry_next : (n : ℕ) → r ≡ Some n → (x : Float) → x ≡ operative_of z out → (first_entry_of (Some (record { length = n; temperature = x })) ≡ first_entry_in z rest) × ZerosBehind z out
-  entry_next n w x x_is =
-      let e : entry_length z rest ≡ some n = sym in_few ∙ sym length_is ∙ ap record_length w in
-      let same : out ≡ read_temperatures z (take n rest) temps = out_is ∙ rw (in_few, e) refl in
-      let t : x ≡ entry_temperature z (take n rest) = x_is ∙ ap (operative_of z) (same ∙ read_state z (take n rest) temps zeros) in
-      (rw (e, t) refl, rw same (read_behind z (take n rest) temps zeros))
-
--- ---- the hours from byte `at` on
-
-module _ (z : Zone) (at : ℕ) (b : List ℕ) (found : Rust.Option NextHour) (read : first_entry_of found ≡ first_entry_in z (take (length b - at) (drop at b))) where
-  read_is : first_entry_of found ≡ first_entry_in z (drop at b)
-  read_is = read ∙ ap (first_entry_in z) (part_to_end b at)
-
-  pub hours_end : found ≡ None → temperatures_in z (drop at b) ≡ []
-  hours_end h = go (entry_length z (drop at b)) refl
+  pub no_hour_left : r ≡ None → hours_left h ≡ []
+  unfolding hours_left
+  no_hour_left d = go (leb z.count most_elements) refl (sym length_is ∙ ap record_length d)
     where
-      go : (o : Option ℕ) → entry_length z (drop at b) ≡ o → temperatures_in z (drop at b) ≡ []
-      go none e = ap (map (entry_temperature z)) (whole_none year_interface year_laws z (drop at b) e)
-      go (some n) e = none_not_some _ (sym (ap first_entry_of h) ∙ (rw e at read_is))
+      go : (b : Bool) → leb z.count most_elements ≡ b → cond b (entry_length z bs) none ≡ none → cond b (temperatures_in z bs) [] ≡ []
+      go false e q = refl
+      go true e q = ap (map (entry_temperature z)) (whole_none year_interface year_laws z bs q)
 
-  pub record NextTurn (m : ℕ) (t : Float) : Type 0 where
-    pub some_bytes : 0 < m
-    pub inside : m ≤ length b - at
-    pub opened : temperatures_in z (drop at b) ≡ t ∷ temperatures_in z (drop (at + m) b)
+  module _ (n : ℕ) (w : r ≡ Some n) where
+    pub hour_next : (out : List Float) → out ≡ read_first z bs (replicate most_nodes zero64) → (others : Bor (List ℕ)) → others.now ≡ take (length bs - n) (drop n bs)
+        → hours_left h ≡ operative_of z out ∷ hours_left (record { zone = h.zone; entries = others })
+    unfolding hours_left
+    hour_next out out_is others others_are = go (leb z.count most_elements) refl (sym length_is ∙ ap record_length w)
+      where
+        go : (b : Bool) → leb z.count most_elements ≡ b → cond b (entry_length z bs) none ≡ some n
+            → cond b (temperatures_in z bs) [] ≡ operative_of z out ∷ cond b (temperatures_in z others.now) []
+        go false e q = none_not_some n q
+        go true e q =
+            let t : operative_of z out ≡ entry_temperature z (take n bs) = ap (operative_of z) (out_is ∙ rw (e, q) refl) in
+            rw (t, others_are, part_to_end bs n) (ap (map (entry_temperature z)) (whole_some year_interface year_laws z bs n q))
 
-  pub hours_next : (next : NextHour) → found ≡ Some next → NextTurn next.length next.temperature
-  hours_next next h = go (entry_length z (drop at b)) refl
-    where
-      go : (o : Option ℕ) → entry_length z (drop at b) ≡ o → NextTurn next.length next.temperature
-      go none e = none_not_some _ (sym (rw e at read_is) ∙ ap first_entry_of h)
-      go (some n) e =
-          let q = some_inj (sym (ap first_entry_of h) ∙ (rw e at read_is)) in
-          let size : next.length ≡ n = ap (λ x. x.length) q in
-          let own : next.temperature ≡ entry_temperature z (take n (drop at b)) = ap (λ x. x.temperature) q in
-          let w = begins_within z (drop at b) n (begins z (drop at b) n e) in
-          let all = whole_some year_interface year_laws z (drop at b) n e ∙ ap (λ (l : List ℕ). take n (drop at b) ∷ whole_entries year_interface z l) (drop-drop n at b) in
-          record {
-            some_bytes = omega (arith, size, w.0);
-            inside = omega (arith, size, w.1, length-drop at b);
-            opened = rw (own, size) (ap (map (entry_temperature z)) all);
-          }
+-- no more hours than bytes
+few_entries : (of : Zone) (f : ℕ) (bytes : List ℕ) → length (whole_entries_up_to year_interface of f bytes) ≤ f
+unfolding whole_entries_up_to
+few_entries of zero bytes = omega arith
+few_entries of (suc f) bytes = go (entry_length of bytes) (λ n. few_entries of f (drop n bytes))
+  where
+    go : (o : Option ℕ) → ((n : ℕ) → length (whole_entries_up_to year_interface of f (drop n bytes)) ≤ f)
+        → length (from_option [] (λ n. take n bytes ∷ whole_entries_up_to year_interface of f (drop n bytes)) o) ≤ suc f
+    go none few = omega arith
+    go (some n) few = let k = few n in omega (arith, k)
+
+pub few_hours : (h : Hours) → length (hours_left h) ≤ length h.entries.now
+unfolding hours_left whole_entries
+few_hours h = go (leb h.zone.now.count most_elements)
+  where
+    go : (b : Bool) → length (cond b (temperatures_in h.zone.now h.entries.now) []) ≤ length h.entries.now
+    go false = omega arith
+    go true =
+        let few = few_entries h.zone.now (length h.entries.now) h.entries.now in
+        omega (arith, few, length-map (whole_entries year_interface h.zone.now h.entries.now) (entry_temperature h.zone.now))
+
+-- their numbers fit, from 0 on
+pub numbers_fit : (h : Hours) → length h.entries.now < 2 ^ 64 → (n : ℕ) → n ≡ 0 → (left : Hours) → left ≡ h → n + length (hours_left left) < 2 ^ 64
+numbers_fit h size n n_is left left_is = let e = ap (λ x. length (hours_left x)) left_is in omega (arith, size, n_is, e, few_hours h)

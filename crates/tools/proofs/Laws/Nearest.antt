@@ -1,19 +1,19 @@
 -- The loop of the nearest hour: what holds before an hour, one turn, and the end.
+use Rattle.std.specs.Prelude.{Option, None, Some, IsTrue, MatchOption, option_map}
 use Prim.Native.Nat.{ℕ, zero, suc, ◌+◌, ◌-◌, ◌≤◌, ◌<◌}
 use mathlib.Core.Path.{◌≡◌, refl, sym, ap, subst, ◌∙◌}
-use mathlib.Core.Bool.{Bool, true, false, not, ◌||◌}
+use mathlib.Core.Bool.{Bool, true, false, not}
 use mathlib.Core.List.{List, [], ◌∷◌}
-use mathlib.Core.Option.{none, some}
 use native.Mathlib.Omega.{arith}
 use lib.ListN.{length, drop}
-use lib.Dec.{ltb, eqb}
+use lib.Dec.{ltb}
 use lib.Ieee.{Float, nan}
-use borrow.Author.Tests.{ltb-true, ltb-false, eqb-true, eqb-false}
-use Rattle.book.proofs.Model.Laws.Bytes.{or_false, true_not_false}
+use borrow.Author.Tests.{ltb-true, ltb-false}
+use Rattle.book.proofs.Model.Laws.Bytes.{true_not_false}
 use Rattle.tools.specs.Questions.{distance, nearer, none_nearer, nearest_hour}
 use Rattle.tools.specs.Questions as Temperature
 use Rattle.tools.proofs.Laws.Nearer.{nearer_trans, nearer_other, nearer_itself}
-use Rattle.tools.proofs.Laws.FirstHour.{first_hour_lem, no_hour, all_true, all_false, from_now, none_from}
+use Rattle.tools.proofs.Laws.FirstHour.{first_hour_lem, no_hour, all_true, all_false, FromNow, from_now, none_from}
 
 module _ (value : Float) (ts : List Float) where
   abbrev pub distance_of : ℕ → Float
@@ -25,17 +25,21 @@ module _ (value : Float) (ts : List Float) where
     pub none_nearer_lem : (j : ℕ) → j < k → nearer (distance_of j) (distance_of i) ≡ false
     pub earlier_farther : (j : ℕ) → j < i → nearer (distance_of i) (distance_of j) ≡ true
 
-  -- the hours that are left, and the nearest of those that were seen
-  pub record NearestYet (hour nearest : ℕ) (least : Float) (rest : List Float) : Type 0 where
-    pub left : drop hour ts ≡ rest
-    pub nearest_yet : 0 < hour → NearestOf hour nearest
-    pub least_is : 0 < hour → least ≡ distance_of nearest
+  -- of the hours that were seen the nearest, with its distance
+  abbrev pub NearestSeen : (k : ℕ) → Option (ℕ × Float) → Type 0
+  NearestSeen k None = k ≡ 0
+  NearestSeen k (Some x) = NearestOf k x.0 × (x.1 ≡ distance_of x.0)
 
-  pub nearest_at_first : (least : Float) → NearestYet 0 0 least ts
-  nearest_at_first least = record { left = refl; nearest_yet = λ h. absurd (omega arith); least_is = λ h. absurd (omega arith) }
+  pub record NearestYet (hour : ℕ) (nearest : Option (ℕ × Float)) (rest : List Float) : Type 0 where
+    pub left : drop hour ts ≡ rest
+    pub among_all : hour ≤ length ts
+    pub seen : NearestSeen hour nearest
+
+  pub nearest_at_first : NearestYet 0 None ts
+  nearest_at_first = record { left = refl; among_all = omega arith; seen = refl }
 
   -- the nearest of all
-  of_all : (i : ℕ) → NearestOf (length ts) i → nearest_hour value ts ≡ some i
+  of_all : (i : ℕ) → NearestOf (length ts) i → nearest_hour value ts ≡ Some i
   unfolding nearest_hour none_nearer
   of_all i n =
       first_hour_lem (length ts) (none_nearer value ts) i n.among
@@ -83,7 +87,7 @@ module _ (value : Float) (ts : List Float) where
         earlier_farther = λ j l. absurd (omega arith);
       }
 
-  -- of some hours one is the nearest
+  -- of Some hours one is the nearest
   nearest_of : (k : ℕ) → (i : ℕ) × NearestOf (k + 1) i
   nearest_of zero = (0, only_one 0 refl)
   nearest_of (suc k) =
@@ -95,62 +99,45 @@ module _ (value : Float) (ts : List Float) where
       go i n true q = (k + 1, nearer_one (k + 1) i n q)
       go i n false q = (i, as_near (k + 1) i n q)
 
-  pub some_nearest : 0 < length ts → (i : ℕ) × (nearest_hour value ts ≡ some i)
+  pub some_nearest : 0 < length ts → (i : ℕ) × (nearest_hour value ts ≡ Some i)
   some_nearest h =
       let same : length ts - 1 + 1 ≡ length ts = omega arith in
       let r = nearest_of (length ts - 1) in
       (r.0, of_all r.0 (subst (λ (m : ℕ). NearestOf m r.0) same r.1))
 
-  module _ (hour nearest : ℕ) (least : Float) (rest : List Float) (so_far : NearestYet hour nearest least rest) where
-    positive : eqb hour 0 ≡ false → 0 < hour
-    positive z = go (ltb 0 hour) refl
-      where
-        go : (b : Bool) → ltb 0 hour ≡ b → 0 < hour
-        go true t = ltb-true 0 hour t
-        go false t = let none : hour ≡ 0 = omega (arith, ltb-false 0 hour t) in absurd (eqb-false hour 0 z none)
+  -- none is left
+  pub nearest_end : (hour : ℕ) (nearest : Option (ℕ × Float)) (rest : List Float) → NearestYet hour nearest rest → rest ≡ [] → option_map (λ x. x.0) nearest ≡ nearest_hour value ts
+  unfolding nearest_hour
+  nearest_end hour None rest so_far e =
+      let l = none_from ts hour (so_far.left ∙ e) in
+      sym (no_hour (length ts) (none_nearer value ts) (λ j h. absurd (omega (arith, l, h, so_far.seen))))
+  nearest_end hour (Some x) rest so_far e =
+      let m : hour ≡ length ts = omega (arith, none_from ts hour (so_far.left ∙ e), so_far.among_all) in
+      sym (of_all x.0 (subst (λ (k : ℕ). NearestOf k x.0) m so_far.seen.0))
 
-    pub nearest_none : rest ≡ [] → hour ≡ 0 → nearest_hour value ts ≡ none
-    unfolding nearest_hour
-    nearest_none e z = let l = none_from ts hour (so_far.left ∙ e) in no_hour (length ts) (none_nearer value ts) (λ j h. absurd (omega (arith, l)))
-
-    pub nearest_found : rest ≡ [] → 0 < hour → hour ≤ length ts → nearest_hour value ts ≡ some nearest
-    nearest_found e h l = let m : hour ≡ length ts = omega (arith, none_from ts hour (so_far.left ∙ e)) in of_all nearest (subst (λ (k : ℕ). NearestOf k nearest) m (so_far.nearest_yet h))
-
-    module _ (t : Float) (others : List Float) (e : rest ≡ t ∷ others) where
-      here : Temperature.after ts hour ≡ t
-      here = (from_now ts hour t nan others (so_far.left ∙ e)).here
+  -- the next one, which `less` says is the first or nearer
+  module _ (hour : ℕ) (rest : List Float) (t : Float) (others : List Float) (e : rest ≡ t ∷ others) (less : Bool) where
+    module _ (left : drop hour ts ≡ rest) where
+      abbrev turn : FromNow ts hour t nan others
+      turn = from_now ts hour t nan others (left ∙ e)
 
       own : distance value t ≡ distance_of hour
-      own = ap (distance value) (sym here)
+      own = ap (distance value) (sym turn.here)
 
-      gone_on : drop (hour + 1) ts ≡ others
-      gone_on = (from_now ts hour t nan others (so_far.left ∙ e)).others
+      more : hour + 1 ≤ length ts
+      more = let inside = turn.inside in omega (arith, inside)
 
-      pub hour_inside : hour < length ts
-      hour_inside = (from_now ts hour t nan others (so_far.left ∙ e)).inside
+    pub nearest_changes : (nearest : Option (ℕ × Float)) → NearestYet hour nearest rest → MatchOption nearest (IsTrue less) (λ x. less ≡ nearer (distance value t) x.1) → less ≡ true
+        → NearestYet (hour + 1) (Some (hour, distance value t)) others
+    nearest_changes None so_far told h =
+        record { left = (turn so_far.left).others; among_all = more so_far.left; seen = (only_one hour so_far.seen, own so_far.left) }
+    nearest_changes (Some x) so_far told h =
+        let q : nearer (distance_of hour) (distance_of x.0) ≡ true = rw (← own so_far.left, ← so_far.seen.1) (sym told ∙ h) in
+        record { left = (turn so_far.left).others; among_all = more so_far.left; seen = (nearer_one hour x.0 so_far.seen.0 q, own so_far.left) }
 
-      -- the next hour is the first, or nearer
-      nearest_new_first : hour ≡ 0 → NearestYet (hour + 1) hour (distance value t) others
-      nearest_new_first z = record { left = gone_on; nearest_yet = λ h. only_one hour z; least_is = λ h. own }
-
-      nearest_new : 0 < hour → nearer (distance value t) least ≡ true → NearestYet (hour + 1) hour (distance value t) others
-      nearest_new p n =
-          let q : nearer (distance_of hour) (distance_of nearest) ≡ true = subst (λ (x : Float). nearer (distance_of hour) x ≡ true) (so_far.least_is p) (subst (λ (x : Float). nearer x least ≡ true) own n) in
-          record { left = gone_on; nearest_yet = λ h. nearer_one hour nearest (so_far.nearest_yet p) q; least_is = λ h. own }
-
-      nearest_old : 0 < hour → nearer (distance value t) least ≡ false → NearestYet (hour + 1) nearest least others
-      nearest_old p n =
-          let q : nearer (distance_of hour) (distance_of nearest) ≡ false = subst (λ (x : Float). nearer (distance_of hour) x ≡ false) (so_far.least_is p) (subst (λ (x : Float). nearer x least ≡ false) own n) in
-          record { left = gone_on; nearest_yet = λ h. as_near hour nearest (so_far.nearest_yet p) q; least_is = λ h. so_far.least_is p }
-
-      -- as the code tells them apart
-      module _ (less : Bool) (less_is : less ≡ nearer (distance value t) least) where
-        pub nearest_changes : (eqb hour 0 || less) ≡ true → NearestYet (hour + 1) hour (distance value t) others
-        nearest_changes h = go (eqb hour 0) refl h
-          where
-            go : (b : Bool) → eqb hour 0 ≡ b → (b || less) ≡ true → NearestYet (hour + 1) hour (distance value t) others
-            go true z q = nearest_new_first (eqb-true hour 0 z)
-            go false z q = nearest_new (positive z) (sym less_is ∙ q)
-
-        pub nearest_stays : (eqb hour 0 || less) ≡ false → NearestYet (hour + 1) nearest least others
-        nearest_stays h = let both = or_false (eqb hour 0) less h in nearest_old (positive both.0) (sym less_is ∙ both.1)
+    pub nearest_stays : (nearest : Option (ℕ × Float)) → NearestYet hour nearest rest → MatchOption nearest (IsTrue less) (λ x. less ≡ nearer (distance value t) x.1) → less ≡ false
+        → NearestYet (hour + 1) nearest others
+    nearest_stays None so_far told h = true_not_false (sym told ∙ h)
+    nearest_stays (Some x) so_far told h =
+        let q : nearer (distance_of hour) (distance_of x.0) ≡ false = rw (← own so_far.left, ← so_far.seen.1) (sym told ∙ h) in
+        record { left = (turn so_far.left).others; among_all = more so_far.left; seen = (as_near hour x.0 so_far.seen.0 q, so_far.seen.1) }

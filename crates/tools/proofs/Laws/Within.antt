@@ -1,31 +1,25 @@
--- The loop of the number of hours within a band: the hours that are counted and those that are left make all.
+-- The number of hours within a band.
 use Prim.Native.Nat.{ℕ, zero, suc, ◌+◌, ◌≤◌, ◌<◌}
 use mathlib.Core.Path.{◌≡◌, refl, sym, ap, ◌∙◌}
 use mathlib.Core.Bool.{Bool, true, false, cond}
 use mathlib.Core.List.{List, [], ◌∷◌}
 use native.Mathlib.Omega.{arith}
-use native.Mathlib.Nat.{add-zero}
+use Rattle.std.specs.List.{filter}
 use lib.ListN.{length}
 use lib.Ieee.{Float}
 use Rattle.tools.specs.Questions.{after, within, hours_within}
 use Rattle.tools.specs.Claims.{count_of}
 
-module _ (lower upper : Float) (all : ℕ) (hours : ℕ) (rest : List Float) (so_far : hours + hours_within lower upper rest ≡ all) where
-  pub within_all : rest ≡ [] → hours ≡ all
-  unfolding hours_within
-  within_all e = sym (add-zero hours) ∙ ap (λ (l : List Float). hours + hours_within lower upper l) (sym e) ∙ so_far
-
-  module _ (t : Float) (others : List Float) (e : rest ≡ t ∷ others) where
-    opened : hours + hours_within lower upper (t ∷ others) ≡ all
-    opened = ap (λ (l : List Float). hours + hours_within lower upper l) (sym e) ∙ so_far
-
-    pub within_one : within lower upper t ≡ true → hours + 1 + hours_within lower upper others ≡ all
-    unfolding hours_within
-    within_one h = let q = rw h at opened in omega (arith, q)
-
-    pub within_not : within lower upper t ≡ false → hours + hours_within lower upper others ≡ all
-    unfolding hours_within
-    within_not h = let q = rw h at opened in omega (arith, q)
+-- as the code counts them
+pub within_filtered : (lower upper : Float) (ts : List Float) → length (filter (within lower upper) ts) ≡ hours_within lower upper ts
+unfolding hours_within
+within_filtered lower upper [] = refl
+within_filtered lower upper (t ∷ ts) = go (within lower upper t) (within_filtered lower upper ts)
+  where
+    go : (b : Bool) → length (filter (within lower upper) ts) ≡ hours_within lower upper ts
+        → length (cond b (t ∷ filter (within lower upper) ts) (filter (within lower upper) ts)) ≡ cond b 1 0 + hours_within lower upper ts
+    go true e = omega (arith, e)
+    go false e = omega (arith, e)
 
 -- ---- none of them and all of them
 

@@ -7,7 +7,7 @@ use native.Mathlib.Omega.{arith}
 use lib.ListN.{length, length-append, take, drop}
 use lib.Dec.{eqb}
 use lib.Pointwise.{pointwise}
-use borrow.Author.Tests.{le-leb, lt-leb}
+use borrow.Author.Tests.{le-leb}
 use Rattle.std.specs.Prelude.{Option, Some, None}
 use Rattle.std.proofs.lemmas.Iterator.{YieldsList}
 use Rattle.std.proofs.lemmas.List.Folds.{list_all-append}
@@ -19,28 +19,25 @@ use Rattle.weather.specs.Decimal.{Decimal, is_digit, all_digits, is_digits, unsi
 use Rattle.weather.specs.Inner.Decimals.{short, of_digits, short_unsigned, short_decimal, WrittenAs, Reads}
 use Rattle.weather.proofs.Laws.Digits.{number_append, number_less, power_few}
 
-module _ (minus : Bool) (w f : List ℕ) where
-  pub digits_long : most_digits < length w + length f → short (Some (of_digits minus w f)) ≡ None
-  digits_long m = rw (lt-leb (length (w ++ f)) most_digits (omega (arith, m, length-append w f))) refl
+module _ (minus : Bool) (w f : List ℕ) (W : all_digits w ≡ true) (F : all_digits f ≡ true) (m : length w + length f ≤ most_digits) where
+  -- their number has room
+  pub digits_few : number w * 10 ^ length f + number f < 10 ^ most_digits
+  digits_few =
+      let both : all_digits (w ++ f) ≡ true = rw (list_all-append is_digit w f, W, F) refl in
+      omega (arith, number_append w f, number_less (w ++ f) both, power_few (length (w ++ f)) (omega (arith, m, length-append w f)))
 
-  module _ (W : all_digits w ≡ true) (F : all_digits f ≡ true) (m : length w + length f ≤ most_digits) where
-    -- their number has room
-    pub digits_few : number w * 10 ^ length f + number f < 10 ^ most_digits
-    digits_few =
-        let both : all_digits (w ++ f) ≡ true = rw (list_all-append is_digit w f, W, F) refl in
-        omega (arith, number_append w f, number_less (w ++ f) both, power_few (length (w ++ f)) (omega (arith, m, length-append w f)))
+  pub whole_few : number w < 10 ^ most_digits
+  whole_few = omega (arith, number_less w W, power_few (length w) (omega (arith, m)))
 
-    pub whole_few : number w < 10 ^ most_digits
-    whole_few = omega (arith, number_less w W, power_few (length w) (omega (arith, m)))
-
-    pub digits_read : (r : Fraction) → r.minus ≡ minus → r.number ≡ number w * 10 ^ length f + number f → r.power ≡ 10 ^ length f → WrittenAs (short (Some (of_digits minus w f))) r
-    digits_read r t s q = record {
-      decimal = of_digits minus w f;
-      wanted_is = rw (le-leb (length (w ++ f)) most_digits (omega (arith, m, length-append w f))) refl;
-      minus_is = t;
-      number_is = s ∙ sym (number_append w f);
-      power_is = q;
-    }
+  pub digits_read : (r : Fraction) → r.minus ≡ minus → r.number ≡ number w * 10 ^ length f + number f → r.power ≡ 10 ^ length f
+      → WrittenAs (short (Some (of_digits minus w f))) r
+  digits_read r t s q = record {
+    decimal = of_digits minus w f;
+    wanted_is = rw (le-leb (length (w ++ f)) most_digits (omega (arith, m, length-append w f))) refl;
+    minus_is = t;
+    number_is = s ∙ sym (number_append w f);
+    power_is = q;
+  }
 
 -- ---- the parts that three calls of an iterator give
 

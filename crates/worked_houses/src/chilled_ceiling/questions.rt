@@ -1,6 +1,5 @@
 // A book of the room asked when it got warm (document 02 (c)). Its temperatures are those of the call `temp_operative` on
 // the state after each hour: of a wall and a window the mean goes by their areas.
-use crate::answers::Answer::{Hour, Hours, NoHour};
 use crate::answers::{above, nearest, within};
 use crate::chilled_ceiling::hours::KEPT;
 use crate::chilled_ceiling::limit_entries::{COOLING, HEATING};
@@ -42,6 +41,7 @@ fn write_four(
     zone: &ZoneRead,
     book: &mut [u8; BUFFER],
 ) -> anyhow::Result<Temperatures> {
+    // Row by row, since each state has a name of its own.
     let meeting = |version| Meeting::with(version, HEATING, COOLING);
     let warm = warm_hour();
     let cold = cold_hour();
@@ -67,22 +67,22 @@ fn print_own(rt: &impl Print, book: &[u8], t: Temperatures) -> io::Result<()> {
         ("  hour 2's", t.cooled, 2),
         ("  hour 3's", t.limited, 3),
     ] {
-        nearest(rt, asked, book, value, Hour(hour))?;
+        nearest(rt, asked, book, value, Ok(Some(hour)))?;
     }
     for (asked, value, expected) in [
-        ("  first above hour 0's", t.too_warm, Hour(3)),
-        ("  above hour 1's", t.heated, Hour(2)),
-        ("  above hour 2's", t.cooled, Hour(0)),
-        ("  above hour 3's", t.limited, NoHour),
+        ("  first above hour 0's", t.too_warm, Some(3)),
+        ("  above hour 1's", t.heated, Some(2)),
+        ("  above hour 2's", t.cooled, Some(0)),
+        ("  above hour 3's", t.limited, None),
     ] {
-        above(rt, asked, book, value, expected)?;
+        above(rt, asked, book, value, Ok(expected))?;
     }
     for (asked, lower, upper, hours) in [
         ("  hours from hour 1's to hour 2's", t.heated, t.cooled, 2),
         ("  from hour 2's to hour 0's", t.cooled, t.too_warm, 2),
         ("  from hour 1's to hour 3's", t.heated, t.limited, 4),
     ] {
-        within(rt, asked, book, lower, upper, Hours(hours))?;
+        within(rt, asked, book, lower, upper, Ok(hours))?;
     }
     Ok(())
 }
@@ -93,14 +93,14 @@ fn print_setpoints(rt: &impl Print, book: &[u8]) -> io::Result<()> {
         "  nearest the cooling setpoint",
         book,
         COOLING_SETPOINT,
-        Hour(2),
+        Ok(Some(2)),
     )?;
     nearest(
         rt,
         "  nearest the heating setpoint",
         book,
         HEATING_SETPOINT,
-        Hour(1),
+        Ok(Some(1)),
     )?;
     within(
         rt,
@@ -108,7 +108,7 @@ fn print_setpoints(rt: &impl Print, book: &[u8]) -> io::Result<()> {
         book,
         HEATING_SETPOINT - KEPT,
         COOLING_SETPOINT + KEPT,
-        Hours(2),
+        Ok(2),
     )
 }
 

@@ -1,5 +1,6 @@
-// The room and its hours, in bytes: 20 m2 with a wall and a window, operative temperature under control.
-use crate::zone_read::ZoneRead;
+// The room and its hours, in bytes, place by place as the paper gives them: each room writes its own, to be read beside its rows. 20 m2 with a wall and
+// a window, operative temperature under control.
+use crate::zone_read::{NO_CONTROL, ZoneRead};
 use big_endian::write_f64s_be;
 use zone::State;
 
@@ -33,9 +34,6 @@ pub const COOLING_FRACTION: f64 = 0.7;
 pub const HEATING_SETPOINT: f64 = 21.0;
 
 pub const COOLING_SETPOINT: f64 = 24.0;
-
-// No ventilation setpoint.
-const NO_CONTROL: f64 = 1.4e32;
 
 // An element's part of an hour: external temperature, sun, shading.
 fn part(outside: f64, sun: f64) -> [f64; 5] {

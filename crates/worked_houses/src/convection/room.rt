@@ -1,4 +1,4 @@
-// A room of six inner surfaces and its hours, in bytes.
+// A room of six inner surfaces and its hours, in bytes, place by place as the paper gives them: each room writes its own, to be read beside its rows.
 //
 // Nothing passes the outer surfaces (their h_ce is 0), and it is 0 outside. So a surface takes up what the air gives it by
 // convection: k / 3600 (x - x0) = h_ci (y - x), x0 and x being the surface before and after the hour, y the air after it.
@@ -7,6 +7,7 @@
 // The air: 100 (y - y0) + bridges y + the sum of what it gives = the power, where 100 W/K are its capacity over the hour. The
 // bridges of each room make 100 + bridges + the sum of area h_ci / 2 = 144 W/K, so 144 y = 100 y0 + the sum of area h_ci x0 / 2
 // + the power.
+use crate::zone_read::NO_CONTROL;
 use big_endian::write_f64s_be;
 use std::num::f64_to_bits_with_nan;
 use zone::State;
@@ -32,9 +33,6 @@ pub const K_HORIZONTAL: f64 = 9000.0;
 pub const K_UPWARDS: f64 = 18000.0;
 
 pub const K_DOWNWARDS: f64 = 2520.0;
-
-// No ventilation setpoint.
-const NO_CONTROL: f64 = 1.4e32;
 
 // The temperatures of air and surfaces are those before the hour.
 #[derive(Clone, Copy)]

@@ -1,7 +1,7 @@
 // The rows about a book of House P.
 use crate::house_p::house::{ENTRY, HEAD, HOUSE_P, Hour};
 use crate::limits::Meeting;
-use crate::refusal::outcome;
+use crate::refusal::Refusal;
 use crate::replies::{Counts, number_of, taken_up};
 use crate::table::row;
 use crate::zone_read::ZoneRead;
@@ -22,7 +22,8 @@ fn print_used(
     used: usize,
 ) -> io::Result<()> {
     println!(rt; "{title}")?;
-    row(rt, "  refusal", number_of(&outcome(reply.verdict)), 0)?;
+    let answer = reply.answer.map_err(Refusal::from);
+    row(rt, "  refusal", number_of(&answer), 0)?;
     let counts = Counts {
         entries,
         used,

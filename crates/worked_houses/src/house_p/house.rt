@@ -1,4 +1,5 @@
 // House P and its hours, in bytes.
+use crate::zone_read::NO_CONTROL;
 use big_endian::write_f64s_be;
 use zone::State;
 
@@ -8,9 +9,6 @@ pub const CONDITIONS: usize = 154;
 
 // An entry of version 1 or 2.
 pub const ENTRY: usize = 216;
-
-// No ventilation setpoint.
-const NO_CONTROL: f64 = 1.4e32;
 
 // An element's part of an hour: external temperature 20, no sun, shading 1.
 const PART: [f64; 5] = [20.0, 0.0, 0.0, 1.0, 1.0];
@@ -40,13 +38,11 @@ pub const SINGULAR: House = House {
 };
 
 impl House {
-    // Length 176, version 1, air basis, one element, limit 10.
+    // Length 176, version 1, air basis, one element, limit 10. Place by place, as the paper gives the bytes: each house has its own, to be read beside
+    // its rows.
     pub fn head(self) -> [u8; HEAD] {
         let mut b = [0; HEAD];
-        b[3] = 176;
-        b[4] = 1;
-        b[6] = 1;
-        b[8] = 10;
+        b[..9].copy_from_slice(&[0, 0, 0, 176, 1, 0, 1, 0, 10]);
         let front = [
             self.useful_area,
             100.0,

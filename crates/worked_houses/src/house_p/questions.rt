@@ -4,11 +4,10 @@
 // x0 above 20, the gains A lead to 144 y = 100 y0 + 0.625 x0 + A and x = 0.625 y + 0.25 x0 (house_p/limited.rt has the
 // equations from balance). The surface's area is all there is, so the operative temperature is the mean of y and x. Every
 // number here is a float, and so is every step to it.
-use crate::answers::Answer::{self, Hours, NoHour};
 use crate::answers::{above, nearest, within};
 use crate::house_p::house::{ENTRY, HEAD, HOUSE_P, Hour};
 use crate::limits::{MOST as MOST_POWER, Meeting};
-use crate::refusal::Cause;
+use crate::refusal::{Cause, Refusal};
 use crate::zone_read::ZoneRead;
 use book::BookState;
 use std::io;
@@ -78,20 +77,20 @@ const EIGHT: [(f64, u64); 8] = [
 // "from at or below a given value to above it"; start-up is at 20.
 fn print_above(rt: &impl Print, book: &[u8]) -> io::Result<()> {
     for (asked, value, expected) in [
-        ("  first above 20.5", 20.5, Answer::Hour(0)),
-        ("  20, start-up's own", 20.0, Answer::Hour(0)),
-        ("  19.9, below start-up's", 19.9, Answer::Hour(2)),
-        ("  20.9, below the air's", 20.9, Answer::Hour(4)),
-        ("  19.875, that of hours 1 and 3", 19.875, Answer::Hour(2)),
-        ("  20.8125, that of hours 0 and 2", 20.8125, Answer::Hour(4)),
-        ("  19.75, that of hour 5", 19.75, Answer::Hour(6)),
-        ("  21.625, that of hour 4", 21.625, Answer::Hour(7)),
-        ("  that of hour 7, the greatest", WARMEST, NoHour),
-        ("  19.7, below all", 19.7, NoHour),
-        ("  1e6", MOST, NoHour),
-        ("  -1e6", -MOST, NoHour),
+        ("  first above 20.5", 20.5, Some(0)),
+        ("  20, start-up's own", 20.0, Some(0)),
+        ("  19.9, below start-up's", 19.9, Some(2)),
+        ("  20.9, below the air's", 20.9, Some(4)),
+        ("  19.875, that of hours 1 and 3", 19.875, Some(2)),
+        ("  20.8125, that of hours 0 and 2", 20.8125, Some(4)),
+        ("  19.75, that of hour 5", 19.75, Some(6)),
+        ("  21.625, that of hour 4", 21.625, Some(7)),
+        ("  that of hour 7, the greatest", WARMEST, None),
+        ("  19.7, below all", 19.7, None),
+        ("  1e6", MOST, None),
+        ("  -1e6", -MOST, None),
     ] {
-        above(rt, asked, book, value, expected)?;
+        above(rt, asked, book, value, Ok(expected))?;
     }
     Ok(())
 }
@@ -108,7 +107,7 @@ fn print_within(rt: &impl Print, book: &[u8]) -> io::Result<()> {
         ("  -1e6 to 1e6", -MOST, MOST, 8),
         ("  0.0 to -0.0", 0.0, -0.0, 0),
     ] {
-        within(rt, asked, book, lower, upper, Hours(hours))?;
+        within(rt, asked, book, lower, upper, Ok(hours))?;
     }
     Ok(())
 }
@@ -126,7 +125,7 @@ fn print_nearest(rt: &impl Print, book: &[u8]) -> io::Result<()> {
         ("  1e6, hours 4 and 7 when rounded", MOST, 4),
         ("  -1e6", -MOST, 5),
     ] {
-        nearest(rt, asked, book, value, Answer::Hour(hour))?;
+        nearest(rt, asked, book, value, Ok(Some(hour)))?;
     }
     Ok(())
 }
@@ -137,29 +136,29 @@ fn print_value(
     book: &[u8],
     title: &str,
     x: f64,
-    expected: Answer,
+    refusal: Refusal,
 ) -> io::Result<()> {
     println!(rt; "{title}")?;
-    above(rt, "  first above", book, x, expected)?;
-    within(rt, "  hours from there to 1e6", book, x, MOST, expected)?;
-    within(rt, "  from -1e6 to there", book, -MOST, x, expected)?;
-    nearest(rt, "  nearest", book, x, expected)
+    above(rt, "  first above", book, x, Err(refusal))?;
+    within(rt, "  hours from there to 1e6", book, x, MOST, Err(refusal))?;
+    within(rt, "  from -1e6 to there", book, -MOST, x, Err(refusal))?;
+    nearest(rt, "  nearest", book, x, Err(refusal))
 }
 
 // Of a book that is refused, and of one whose values are turned away.
-fn print_each(rt: &impl Print, book: &[u8], expected: Answer) -> io::Result<()> {
-    print_value(rt, book, "a value that is no number", f64::NAN, expected)?;
-    within(rt, "  hours from 21 to 20", book, 21.0, 20.0, expected)
+fn print_each(rt: &impl Print, book: &[u8], refusal: Refusal) -> io::Result<()> {
+    print_value(rt, book, "a value that is no number", f64::NAN, refusal)?;
+    within(rt, "  hours from 21 to 20", book, 21.0, 20.0, Err(refusal))
 }
 
 const TURNED_AWAY: Cause = Cause::QuestionValue;
 
 // An empty book has no hour, and its values are tested too.
 fn print_empty(rt: &impl Print, book: &[u8]) -> io::Result<()> {
-    let turned_away = Answer::Refused(TURNED_AWAY.at(0));
-    above(rt, "  first above 19", book, 19.0, NoHour)?;
-    within(rt, "  hours from -1e6 to 1e6", book, -MOST, MOST, Hours(0))?;
-    nearest(rt, "  nearest 20", book, 20.0, NoHour)?;
+    let turned_away = TURNED_AWAY.at(0);
+    above(rt, "  first above 19", book, 19.0, Ok(None))?;
+    within(rt, "  hours from -1e6 to 1e6", book, -MOST, MOST, Ok(0))?;
+    nearest(rt, "  nearest 20", book, 20.0, Ok(None))?;
     print_each(rt, book, turned_away)?;
     for (title, x) in [
         ("infinite", f64::INFINITY),
@@ -175,17 +174,13 @@ fn print_empty(rt: &impl Print, book: &[u8]) -> io::Result<()> {
 fn print_cuts(rt: &impl Print, book: &[u8; ROOM]) -> io::Result<()> {
     let seven = &book[..USED - 1];
     println!(rt; "without the last byte: hour 7 is dropped")?;
-    above(rt, "  first above 21.625", seven, 21.625, NoHour)?;
-    within(rt, "  hours from -1e6 to 1e6", seven, -MOST, MOST, Hours(7))?;
-    nearest(rt, "  nearest 22", seven, 22.0, Answer::Hour(4))?;
+    above(rt, "  first above 21.625", seven, 21.625, Ok(None))?;
+    within(rt, "  hours from -1e6 to 1e6", seven, -MOST, MOST, Ok(7))?;
+    nearest(rt, "  nearest 22", seven, 22.0, Ok(Some(4)))?;
     println!(rt; "the head alone")?;
     print_empty(rt, &book[..HEAD])?;
     println!(rt; "the head without its last byte: 1 before 20")?;
-    print_each(
-        rt,
-        &book[..HEAD - 1],
-        Answer::Refused(Cause::HeadShort.at(0)),
-    )
+    print_each(rt, &book[..HEAD - 1], Cause::HeadShort.at(0))
 }
 
 // Of air and surface at 0 the mean is 0. Two hours of version 1: the air at -28 leads to the surface at -10 and the mean of
@@ -194,18 +189,12 @@ fn print_frozen(rt: &impl Print, zone: &ZoneRead) -> io::Result<()> {
     let mut book = [0; TWO_HOURS];
     write_hours(zone, &[(-28.0, 1), (0.0, 1)], &mut book);
     println!(rt; "two hours, at -19 and 0")?;
-    within(rt, "  hours from 0.0 to -0.0", &book, 0.0, -0.0, Hours(1))?;
-    within(rt, "  from -0.0 to 0.0", &book, -0.0, 0.0, Hours(1))?;
-    above(rt, "  first above -0.0", &book, -0.0, NoHour)?;
-    above(rt, "  first above -19", &book, -19.0, Answer::Hour(1))?;
-    nearest(
-        rt,
-        "  nearest -9.5, between both",
-        &book,
-        -9.5,
-        Answer::Hour(0),
-    )?;
-    nearest(rt, "  20, start-up's own", &book, 20.0, Answer::Hour(1))
+    within(rt, "  hours from 0.0 to -0.0", &book, 0.0, -0.0, Ok(1))?;
+    within(rt, "  from -0.0 to 0.0", &book, -0.0, 0.0, Ok(1))?;
+    above(rt, "  first above -0.0", &book, -0.0, Ok(None))?;
+    above(rt, "  first above -19", &book, -19.0, Ok(Some(1)))?;
+    nearest(rt, "  nearest -9.5, between both", &book, -9.5, Ok(Some(0)))?;
+    nearest(rt, "  20, start-up's own", &book, 20.0, Ok(Some(1)))
 }
 
 fn print_whole(rt: &impl Print, book: &[u8; ROOM]) -> io::Result<()> {
@@ -213,14 +202,14 @@ fn print_whole(rt: &impl Print, book: &[u8; ROOM]) -> io::Result<()> {
     print_above(rt, book)?;
     print_within(rt, book)?;
     print_nearest(rt, book)?;
-    print_each(rt, book, Answer::Refused(TURNED_AWAY.at(0)))?;
+    print_each(rt, book, TURNED_AWAY.at(0))?;
     print_cuts(rt, book)
 }
 
 fn print_damaged(rt: &impl Print, book: &[u8]) -> io::Result<()> {
-    let false_entry = Answer::Refused(Cause::FalseEntry.at(3));
+    let false_entry = Cause::FalseEntry.at(3);
     println!(rt; "hour 3 damaged: 18 before 20")?;
-    above(rt, "  first above 20.5", book, 20.5, false_entry)?;
+    above(rt, "  first above 20.5", book, 20.5, Err(false_entry))?;
     print_each(rt, book, false_entry)
 }
 

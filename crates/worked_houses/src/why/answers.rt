@@ -1,5 +1,5 @@
 // A row for an hour of a room: its reason and its load, and those expected.
-use crate::refusal::Refusal;
+use crate::refusal::{Answer, Refusal};
 use crate::table::row;
 use crate::why::room::{Hour, Room};
 use crate::zone_read::ZoneRead;
@@ -7,14 +7,11 @@ use std::fmt::{self, Display};
 use std::io;
 use zone::{Load, Reason, State};
 
+// Why an hour has its rate and its load.
 #[derive(Clone, Copy, PartialEq, Eq)]
-pub enum Answer {
-    Because(Reason, Load),
-    Demand,
-    Refused(Refusal),
-}
+pub struct Because(pub Reason, pub Load);
 
-// As document 02 (e) counts them.
+// As document 02 (e) counts them, and not as the engine orders them: the rows lay the two beside each other.
 fn number_of(reason: Reason) -> u8 {
     match reason {
         Reason::NoChoice => 1,
@@ -35,18 +32,10 @@ fn name_of(load: Load) -> &'static str {
 }
 
 // Reason and load fill all but two columns of eighteen.
-impl Display for Answer {
+impl Display for Because {
     fn fmt<W: fmt::Write>(&self, f: &mut fmt::Formatter<W>) -> fmt::Result {
-        match self {
-            Answer::Because(reason, load) => write!(
-                f,
-                "  reason {} {}",
-                number_of(*reason),
-                name_of(*load)
-            ),
-            Answer::Demand => f.pad("a demand"),
-            Answer::Refused(refusal) => Display::fmt(refusal, f),
-        }
+        let Because(reason, load) = *self;
+        write!(f, "  reason {} {}", number_of(reason), name_of(load))
     }
 }
 
@@ -56,13 +45,12 @@ pub fn why(
     zone: &ZoneRead,
     before: State,
     conditions: &[u8],
-    expected: Answer,
+    expected: Result<Because, Refusal>,
 ) -> io::Result<()> {
-    let came = match zone.why(before, conditions) {
-        Ok((reason, load)) => Answer::Because(reason, load),
-        Err(refusal) => Answer::Refused(refusal),
-    };
-    row(rt, asked, came, expected)
+    let came = zone
+        .why(before, conditions)
+        .map(|(reason, load)| Because(reason, load));
+    row(rt, asked, Answer(came), Answer(expected))
 }
 
 pub fn print_why(
@@ -75,7 +63,7 @@ pub fn print_why(
 ) -> anyhow::Result<()> {
     let head = room.head();
     let zone = ZoneRead::read(&head)?;
-    let expected = Answer::Because(reason, load);
+    let expected = Ok(Because(reason, load));
     why(
         rt,
         asked,

@@ -5,7 +5,7 @@
 // are lost among the gains, and what rounding leaves of the two temperatures' difference decides the sign of the demand. With twice the
 // useful area the same hours are cooled.
 use crate::house_p::house::{CONDITIONS, HEAD, Hour, House};
-use crate::why::answers::{Answer, why};
+use crate::why::answers::{Because, why};
 use crate::why::room::NODES;
 use crate::zone_read::ZoneRead;
 use big_endian::{write_f64_be, write_f64s_be};
@@ -71,7 +71,7 @@ fn print_loads(rt: &impl Print, title: &str, useful_area: f64, load: Load) -> an
             StillAboveCoolingSetpoint,
         ),
     ] {
-        let expected = Answer::Because(reason, load);
+        let expected = Ok(Because(reason, load));
         why(rt, asked, &zone, before, &conditions, expected)?;
     }
     Ok(())

@@ -1,7 +1,8 @@
 // Hours of the room at 27 for which two reasons hold or more: the earliest is named. Free is 27 and with the windows open 19, if
 // nothing else is said.
 use crate::why::answers::print_hours;
-use crate::why::room::{Hour, NO_CONTROL, Room};
+use crate::why::room::{Hour, Room};
+use crate::zone_read::NO_CONTROL;
 use zone::Load::{Cooling, Neither};
 use zone::Reason::{NoChoice, NotAboveSupply, NotAboveVentilationSetpoint, WindowsDoNotCool};
 

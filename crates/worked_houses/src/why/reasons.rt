@@ -1,6 +1,7 @@
 // The first four reasons, which no rate has to be found for, with each load that can stand beside them.
 use crate::why::answers::print_hours;
-use crate::why::room::{Hour, NO_CONTROL, Room};
+use crate::why::room::{Hour, Room};
+use crate::zone_read::NO_CONTROL;
 use zone::Load::{Cooling, Heating, Neither};
 use zone::Reason::{
     NoChoice, NotAboveSupply, NotAboveVentilationSetpoint, WindowsDoNotCool, WindowsEnough,

@@ -1,7 +1,7 @@
 // Hours that the demand refuses, each asked for its demand and for its reason: the same number and index, before any reason.
-use crate::refusal::{Cause, Refusal};
+use crate::refusal::{Answer, Cause, Refusal};
 use crate::table::row;
-use crate::why::answers::{Answer, why};
+use crate::why::answers::why;
 use crate::why::room::{CONDITIONS, Hour, Room};
 use crate::zone_read::ZoneRead;
 use big_endian::write_f64_be;
@@ -27,14 +27,10 @@ fn print_both(
     conditions: &[u8],
     expected: Refusal,
 ) -> io::Result<()> {
-    let demand = match zone.demand(before, conditions) {
-        Ok(_) => Answer::Demand,
-        Err(refusal) => Answer::Refused(refusal),
-    };
-    let expected = Answer::Refused(expected);
+    let demand = zone.demand(before, conditions).map(|_| "a demand");
     println!(rt; "{title}")?;
-    row(rt, "  demand", demand, expected)?;
-    why(rt, "  reason", zone, before, conditions, expected)
+    row(rt, "  demand", Answer(demand), Answer(Err(expected)))?;
+    why(rt, "  reason", zone, before, conditions, Err(expected))
 }
 
 // A room with these bytes as its conditions.

@@ -1,4 +1,4 @@
-// A room with one surface and its hours, in bytes.
+// A room with one surface and its hours, in bytes, place by place as the paper gives them: each room writes its own, to be read beside its rows.
 //
 // Nothing passes the outer surface (its h_ce is 0). The inner one takes up what the air gives it: k / 3600 (x - x0) = h_ci (y - x),
 // x0 and x being the surface before and after the hour, y the air after it. Its k is 3600 h_ci, so x = (x0 + y) / 2, midway, and
@@ -9,6 +9,7 @@
 //
 // In the rooms of these rows x0 + y0 + g / 80 is 54, if nothing else is said. With a supply at 15 their air is at 27 after an hour
 // without ventilation, at 23 with one air change, at 21 with two and at 19 with four.
+use crate::zone_read::NO_CONTROL;
 use big_endian::write_f64s_be;
 use zone::{AirChangesPerHourArgument as Rates, State, ZoneTemperatureControlBasis as Basis};
 
@@ -20,9 +21,6 @@ pub const CONDITIONS: usize = 154;
 pub const NODES: usize = 3;
 
 pub const AIR: usize = 2;
-
-// No ventilation setpoint.
-pub const NO_CONTROL: f64 = 1.4e32;
 
 // Of which 80 W/K go with an air change an hour, by the float that is found for it.
 const VOLUME: f64 = 237.7760017965298;

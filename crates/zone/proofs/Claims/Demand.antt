@@ -19,9 +19,9 @@ use Rattle.zone.proofs.Laws.Accepted.{hour_made}
 use Rattle.zone.proofs.Laws.Demand.{demand_made}
 use Rattle.zone.specs.Hour.Demand.{demand_record, space_heat_cool_demand}
 
-below_le : (x y : Float) → lt x y ≡ true → le x y ≡ true
+lt_le : (x y : Float) → lt x y ≡ true → le x y ≡ true
 unfolding le
-below_le x y h = rw h
+lt_le x y h = rw h
 
 zero_le : le zero64 zero64 ≡ true
 unfolding le lt eq of_bits
@@ -32,8 +32,8 @@ unfolding demand_record
 signs_by kwh v = go (lt kwh zero64) refl (lt zero64 kwh) refl
   where
     go : (b : Bool) → lt kwh zero64 ≡ b → (a : Bool) → lt zero64 kwh ≡ a → Signs (demand_record kwh v)
-    go true p a q = record { heating = rw p zero_le; cooling = rw p (below_le kwh zero64 p); one = inl (rw p refl) }
-    go false p true q = record { heating = rw (p, q) (below_le zero64 kwh q); cooling = rw p zero_le; one = inr (rw p refl) }
+    go true p a q = record { heating = rw p zero_le; cooling = rw p (lt_le kwh zero64 p); one = inl (rw p refl) }
+    go false p true q = record { heating = rw (p, q) (lt_le zero64 kwh q); cooling = rw p zero_le; one = inr (rw p refl) }
     go false p false q = record { heating = rw (p, q) zero_le; cooling = rw p zero_le; one = inl (rw (p, q) refl) }
 
 demand_signs : (c : Coefficients) (z : Zone) (t : List Float) (h : Conditions) (d : Demand) → space_heat_cool_demand c z t h ≡ ok d → Signs d

@@ -13,11 +13,13 @@ use Rattle.solver.specs.F64.{zero64}
 use Rattle.solver.specs.Result.{ok, require_at}
 use Rattle.solver.proofs.Laws.Result.{bind_ok, require_ok}
 use Rattle.zone.specs.Record.Numbers.{zone_value}
-use Rattle.zone.specs.Format.Layout.{length_size, version_at, basis_at, count_at, limit_at, limit_size, zone_floats, length_field, basis_in, count_in, first_element, element_floats, element_arrays, element_hour_size}
+use Rattle.zone.specs.Format.Layout.{length_size, version_at, basis_at, count_at, limit_at, limit_size, zone_floats}
+use Rattle.zone.specs.Format.Layout.{length_field, basis_in, count_in, first_element, element_floats, element_arrays, element_hour_size}
 use Rattle.zone.specs.Format.Bytes.{num_at, Bytes, float_at, bytes_of}
 use Rattle.zone.specs.Format.ElementLayout.{h_count, kind_of, kind_at, treatments_at, max_treatments, element_size, size_at, sizes}
 use Rattle.zone.specs.Format.Decode.{floats_at, element_hour_at, element_at, elements_at, basis_of, zone_at}
-use Rattle.zone.specs.Check.Ranges.{area_range, pitch_range, coefficient_range, h_pli_range, k_pli_range, fraction_range, sky_range, delta_r_range, temperature_range, heating_setpoint_range, setpoint_range, limit_range, all_in, open_within}
+use Rattle.zone.specs.Check.Ranges.{area_range, pitch_range, coefficient_range, h_pli_range, k_pli_range, fraction_range, sky_range}
+use Rattle.zone.specs.Check.Ranges.{delta_r_range, temperature_range, heating_setpoint_range, setpoint_range, limit_range, all_in, open_within}
 use Rattle.zone.specs.Check.ZoneTest.{element_hour_in_range, element_in_range, front_in_range, all_required, values_test}
 use Rattle.zone.specs.Inner.Check.{arrays_in_range}
 use Rattle.zone.specs.Record.BuildingElement.{is_two_nodes, number_of_nodes}
@@ -30,7 +32,8 @@ use Rattle.solver.proofs.Laws.Tests.{and_true}
 use Rattle.zone.proofs.Laws.ElementLayout.{shaped, treatments_few}
 use Rattle.zone.proofs.Laws.Structure.{Whole, whole_of, Structured, structured}
 use Rattle.zone.proofs.Laws.RoundTrip.{Number, Numbers, part, part_add, part_one, number_part, row_part}
-use Rattle.zone.proofs.Laws.Numbers.{area_number, pitch_number, coefficient_number, h_pli_number, k_pli_number, fraction_number, sky_number, delta_r_number, temperature_number, heating_setpoint_number, setpoint_number}
+use Rattle.zone.proofs.Laws.Numbers.{area_number, pitch_number, coefficient_number, h_pli_number, k_pli_number, fraction_number}
+use Rattle.zone.proofs.Laws.Numbers.{sky_number, delta_r_number, temperature_number, heating_setpoint_number, setpoint_number}
 use Rattle.zone.proofs.Laws.StructuredHead.{zone_elements}
 use Rattle.zone.proofs.Claims.Head.{accepted, end_is}
 use Rattle.zone.proofs.Claims.ConditionsBytes.{six, hour_part}
@@ -107,6 +110,7 @@ arrays_told s t kc hc at ah ad m1 m2 m3 e =
 told : (s : List ℕ) (p : ℕ) → element_in_range (element_at s p) ≡ true → Told s p (treatments_at s p) (number_of_nodes (kind_at s p)) (h_count (kind_at s p))
 unfolding element_in_range arrays_in_range Numbers
 told s p e =
+    let x = element_float s p in
     let k = kind_at s p in
     let t = treatments_at s p in
     let at = p + element_arrays in
@@ -115,18 +119,29 @@ told s p e =
     let hour = element_hour_at s (p + element_arrays + 8 * number_of_nodes k + 8 * h_count k + 8 * t) in
     let arrays = arrays_in_range (number_of_nodes k) (h_count k) t (element_at s p).k_pli (element_at s p).h_pli (element_at s p).delta_r in
     let open_good = open_within t hour.treatments_open in
-    let six_good = area_range (element_float s p 0) && pitch_range (element_float s p 1) && coefficient_range (element_float s p 2) && coefficient_range (element_float s p 3) && coefficient_range (element_float s p 4) && fraction_range (element_float s p 5) in
-    let a = and_true (six_good && sky_range (element_float s p 6)) (arrays && element_hour_in_range hour && open_good) e in
-    let b = and_true six_good (sky_range (element_float s p 6)) a.0 in
+    let six_good = area_range (x 0) && pitch_range (x 1) && coefficient_range (x 2) && coefficient_range (x 3) && coefficient_range (x 4) && fraction_range (x 5) in
+    let a = and_true (six_good && sky_range (x 6)) (arrays && element_hour_in_range hour && open_good) e in
+    let b = and_true six_good (sky_range (x 6)) a.0 in
     let r =
-    six (area_range (element_float s p 0)) (pitch_range (element_float s p 1)) (coefficient_range (element_float s p 2)) (coefficient_range (element_float s p 3)) (coefficient_range (element_float s p 4)) (fraction_range (element_float s p 5)) b.0 in
+    six (area_range (x 0)) (pitch_range (x 1)) (coefficient_range (x 2)) (coefficient_range (x 3)) (coefficient_range (x 4)) (fraction_range (x 5)) b.0 in
     let d = and_true (arrays && element_hour_in_range hour) open_good a.1 in
     let f = and_true arrays (element_hour_in_range hour) d.0 in
     let n = arrays_told s t (number_of_nodes k) (h_count k) at ah ad (5 - number_of_nodes k) (4 - h_count k) (4 - t) f.0 in
     record {
       seven =
-          rw (seven_floats s p)
-          (area_number (element_float s p 0) r.0, (pitch_number (element_float s p 1) r.1, (coefficient_number (element_float s p 2) r.2, (coefficient_number (element_float s p 3) r.3, (coefficient_number (element_float s p 4) r.4, (fraction_number (element_float s p 5) r.5, (sky_number (element_float s p 6) b.1, tt)))))));
+          rw (seven_floats s p) (
+            area_number (x 0) r.0,
+            (
+              pitch_number (x 1) r.1,
+              (
+                coefficient_number (x 2) r.2,
+                (
+                  coefficient_number (x 3) r.3,
+                  (coefficient_number (x 4) r.4, (fraction_number (x 5) r.5, (sky_number (x 6) b.1, tt))),
+                ),
+              ),
+            ),
+          );
       ks = n.0;
       hs = n.1;
       ds = n.2;
@@ -136,7 +151,11 @@ told s p e =
 module _ (s : List ℕ) (b : Bytes s) where
   -- an element's bytes past the first two
   rest_part : (p t kc hc : ℕ) → p + (element_arrays + 8 * kc + 8 * hc + 8 * t + element_hour_size) ≤ length s → Told s p t kc hc
-      → row_bytes (floats_at s (p + element_floats) 7) ++ (row_bytes (floats_at s (p + element_arrays) kc) ++ (row_bytes (floats_at s (p + element_arrays + 8 * kc) hc) ++ (row_bytes (floats_at s (p + element_arrays + 8 * kc + 8 * hc) t) ++ element_hour_bytes (element_hour_at s (p + element_arrays + 8 * kc + 8 * hc + 8 * t)))))
+      → row_bytes (floats_at s (p + element_floats) 7)
+      ++ (row_bytes (floats_at s (p + element_arrays) kc)
+      ++ (row_bytes (floats_at s (p + element_arrays + 8 * kc) hc)
+      ++ (row_bytes (floats_at s (p + element_arrays + 8 * kc + 8 * hc) t)
+      ++ element_hour_bytes (element_hour_at s (p + element_arrays + 8 * kc + 8 * hc + 8 * t)))))
       ≡ part s (p + element_floats) (8 * 7 + (8 * kc + (8 * hc + (8 * t + element_hour_size))))
   rest_part p t kc hc h w =
       let e : p + element_floats + 8 * 7 ≡ p + element_arrays = omega arith in
@@ -159,7 +178,8 @@ module _ (s : List ℕ) (b : Bytes s) where
       let f : p + 1 + 1 ≡ p + element_floats = omega arith in
       rw (e, part_add s p 1 (1 + m), part_add s (p + 1) 1 m, part_one s p (omega arith), part_one s (p + 1) (omega arith), f)
 
-  element_part : (end left i p q : ℕ) → end ≤ length s → Whole s end left i p q → element_in_range (element_at s p) ≡ true → element_bytes (element_at s p) ≡ part s p (size_at s p)
+  element_part : (end left i p q : ℕ) → end ≤ length s → Whole s end left i p q → element_in_range (element_at s p) ≡ true
+      → element_bytes (element_at s p) ≡ part s p (size_at s p)
   unfolding element_bytes
   element_part end left i p q h w e =
       let k = kind_at s p in
@@ -171,9 +191,16 @@ module _ (s : List ℕ) (b : Bytes s) where
       (ap (part s p) z
       ∙ front_part p (8 * 7 + (8 * number_of_nodes k + (8 * h_count k + (8 * t + element_hour_size)))) (omega (arith, w.front))
       ∙ ap (λ (l : List ℕ). get_or s p 0 ∷ t ∷ l) (sym (rest_part p t (number_of_nodes k) (h_count k) (omega (arith, f.sized, w.rest)) (told s p e)))
-      ∙ sym (rw (kind_back (get_or s p 0) five, front_floats s (p + element_arrays) (number_of_nodes k) (5 - number_of_nodes k), front_floats s (p + element_arrays + 8 * number_of_nodes k) (h_count k) (4 - h_count k), front_floats s (p + element_arrays + 8 * number_of_nodes k + 8 * h_count k) t (4 - t), seven_floats s p)))
+      ∙ sym (rw (
+        kind_back (get_or s p 0) five,
+        front_floats s (p + element_arrays) (number_of_nodes k) (5 - number_of_nodes k),
+        front_floats s (p + element_arrays + 8 * number_of_nodes k) (h_count k) (4 - h_count k),
+        front_floats s (p + element_arrays + 8 * number_of_nodes k + 8 * h_count k) t (4 - t),
+        seven_floats s p,
+      )))
 
-  elements_part : (end left i p q j : ℕ) → end ≤ length s → elements_end s end left i p ≡ ok q → all_required element_in_range zone_value (elements_at s p left) j ≡ ok tt
+  elements_part : (end left i p q j : ℕ) → end ≤ length s → elements_end s end left i p ≡ ok q
+      → all_required element_in_range zone_value (elements_at s p left) j ≡ ok tt
       → elements_bytes (elements_at s p left) ≡ part s p (sizes (elements_at s p left))
   unfolding elements_at elements_bytes sizes all_required
   elements_part end zero i p q j h e v = refl
@@ -188,18 +215,32 @@ module _ (s : List ℕ) (b : Bytes s) where
   front_numbers : front_in_range (zone_at s) ≡ true → Numbers (floats_at s zone_floats 6)
   unfolding front_in_range zone_at Numbers floats_at
   front_numbers e =
+      let x = zone_float s in
       let r =
-      six (limit_range (num_at s limit_at limit_size) && area_range (zone_float s 0)) (area_range (zone_float s 1)) (coefficient_range (zone_float s 2)) (temperature_range (zone_float s 3)) (heating_setpoint_range (zone_float s 4)) (setpoint_range (zone_float s 5)) e in
-      let a = and_true (limit_range (num_at s limit_at limit_size)) (area_range (zone_float s 0)) r.0 in
-      (area_number (zone_float s 0) a.1, (area_number (zone_float s 1) r.1, (coefficient_number (zone_float s 2) r.2, (temperature_number (zone_float s 3) r.3, (heating_setpoint_number (zone_float s 4) r.4, (setpoint_number (zone_float s 5) r.5, tt))))))
+      six (limit_range (num_at s limit_at limit_size) && area_range (x 0)) (area_range (x 1)) (coefficient_range (x 2)) (temperature_range (x 3))
+      (heating_setpoint_range (x 4)) (setpoint_range (x 5)) e in
+      let a = and_true (limit_range (num_at s limit_at limit_size)) (area_range (x 0)) r.0 in (
+        area_number (x 0) a.1,
+        (
+          area_number (x 1) r.1,
+          (
+            coefficient_number (x 2) r.2,
+            (temperature_number (x 3) r.3, (heating_setpoint_number (x 4) r.4, (setpoint_number (x 5) r.5, tt))),
+          ),
+        ),
+      )
 
-  six_part : first_element ≤ length s → front_in_range (zone_at s) ≡ true → row_bytes (zone_float s 0 ∷ zone_float s 1 ∷ zone_float s 2 ∷ zone_float s 3 ∷ zone_float s 4 ∷ zone_float s 5 ∷ []) ≡ part s zone_floats (8 * 6)
+  six_part : first_element ≤ length s → front_in_range (zone_at s) ≡ true
+      → row_bytes (zone_float s 0 ∷ zone_float s 1 ∷ zone_float s 2 ∷ zone_float s 3 ∷ zone_float s 4 ∷ zone_float s 5 ∷ []) ≡ part s zone_floats (8 * 6)
   unfolding floats_at
   six_part h e = row_part s b zone_floats 6 (omega arith) (front_numbers e)
 
   -- the front, with what follows it
   front_bytes : (n m : ℕ) → Structured s n → front_in_range (zone_at s) ≡ true → n - length_size ≡ length_field s → n ≡ first_element + m
-      → bytes_of length_size (n - length_size) ++ (1 ∷ basis_number (basis_of (basis_in s)) ∷ count_in s ∷ (bytes_of limit_size (num_at s limit_at limit_size) ++ (row_bytes (zone_float s 0 ∷ zone_float s 1 ∷ zone_float s 2 ∷ zone_float s 3 ∷ zone_float s 4 ∷ zone_float s 5 ∷ []) ++ part s first_element m)))
+      → bytes_of length_size (n - length_size)
+      ++ (1 ∷ basis_number (basis_of (basis_in s)) ∷ count_in s
+      ∷ (bytes_of limit_size (num_at s limit_at limit_size)
+      ++ (row_bytes (zone_float s 0 ∷ zone_float s 1 ∷ zone_float s 2 ∷ zone_float s 3 ∷ zone_float s 4 ∷ zone_float s 5 ∷ []) ++ part s first_element m)))
       ≡ take n s
   front_bytes n m q good four ends =
       let total : n ≡ length_size + (1 + (1 + (1 + (limit_size + (8 * 6 + m))))) = omega (arith, ends) in

@@ -12,7 +12,7 @@ use Rattle.zone.specs.declared.calls.state.State.{State}
 use Rattle.zone.specs.declared.calls.state.Demand.{Demand}
 use Rattle.zone.specs.declared.calls.state.Reply.{Reply}
 use Rattle.zone.specs.Calls.Hour.{HourResult}
-use Rattle.zone.specs.Calls.Answers.{reply_in, update_reply, hour_step_reply}
+use Rattle.zone.specs.Calls.Answers.{reply_in, update_reply, hour_step_reply, hour_stepped}
 
 module _ {A : Type 0} (d : Result A) (x : Rust.Result A Refusal) (e : answered x ≡ d) where
   pub answered_no : (r : Refusal) → x ≡ Err r → d ≡ refused (number_of r) (index_of r)
@@ -30,6 +30,12 @@ module _ {A : Type 0} (x : Reply A) (y : Result A × State) (e : reply_in x ≡ 
   reply_yes a f = sym (ap (λ (z : Result A × State). z.0) e) ∙ ap answered f
 
 module _ (s : State) where
+  -- the reply of an hour step, from its answer with the state after it
+  pub step_replied : (r : Rust.Result (State × (Demand × HeatBalance)) Refusal) (d : Result HourResult) (x : Result (Demand × HeatBalance) × State)
+      → x ≡ update_reply s (answered r) → hour_stepped r ≡ d → x ≡ hour_step_reply s d
+  step_replied (Ok r) d x e f = e ∙ ap (hour_step_reply s) f
+  step_replied (Err n) d x e f = e ∙ ap (hour_step_reply s) f
+
   update_no_lem : (d : Result (State × HeatBalance)) (n j : ℕ) → (update_reply s d).0 ≡ refused n j → d ≡ refused n j
   update_no_lem (ok a) n j f = ok_not_refused a.1 n j f
   update_no_lem (refused m k) n j f = let p : m ≡ n = cc in let q : k ≡ j = cc in λ i. refused (p i) (q i)

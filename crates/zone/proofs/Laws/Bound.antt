@@ -8,7 +8,7 @@ use native.Mathlib.Nat.{eq-or-lt_of_le}
 use native.Mathlib.Omega.{arith}
 use lib.ListN.{get_or, take, replicate}
 use lib.Ieee.{Float, nan}
-use borrow.Author.Tests.{eq-eqb, le-ltb}
+use borrow.Author.Tests.{eq-eqb}
 use Rattle.solver.specs.Repeat.{all_of}
 use Rattle.solver.specs.Closeness.{within_state_bound}
 use Rattle.solver.specs.Result.{ok, require}
@@ -26,7 +26,7 @@ use Rattle.zone.specs.Physics.System.{zone_two_nodes, matrix_a, vector_b}
 use Rattle.zone.specs.Physics.NodeLayout.{nodes_at, first_node}
 use Rattle.zone.specs.Physics.CalcTemperatures.{calc_temperatures}
 use Rattle.zone.specs.Calls.State.{all_within_state_bound, state_test, slots_of, state_of}
-use Rattle.zone.proofs.Laws.Nodes.{at_most_24_le, nodes_le, first_le, located, to_slots_at_lem, to_slots_air, to_nodes_at_lem, to_nodes_air}
+use Rattle.zone.proofs.Laws.Nodes.{at_most_24_le, at_most_twice, nodes_le, first_le, located, to_slots_at_lem, to_slots_air, to_nodes_at_lem, to_nodes_air}
 use Rattle.zone.proofs.Laws.Zones.{node_count_le}
 use Rattle.solver.specs.Numbers as SolveNumber
 
@@ -66,9 +66,6 @@ within count two_nodes t h =
       element = λ e j l m. element_at_lem two_nodes t e (all_at (at_most24 count - 0) 0 (element_within two_nodes t) both.1 e (omega arith) (omega arith)) j m;
       air = both.0;
     }
-
-pub at_most_twice : (n : ℕ) → at_most24 (at_most24 n) ≡ at_most24 n
-at_most_twice n = let h = at_most_24_le n in rw (le-ltb 24 (at_most24 n) h) refl
 
 -- an accepted step keeps the bound
 pub step_within : (c : Coefficients) (z : Zone) (t : List Float) (h : Conditions) (dt gains fraction ach : Float) (t' : List Float)

@@ -1,14 +1,14 @@
 -- The tests of an hour's conditions, one by one.
 use Prim.Native.Nat.{ℕ, ◌+◌, ◌*◌, ◌<◌, ◌≤◌}
-use mathlib.Core.Path.{◌≡◌, sym, ap, ◌∙◌}
+use mathlib.Core.Path.{◌≡◌, refl, ap, ◌∙◌}
 use mathlib.Core.Bool.{Bool, true, false, ◌&&◌}
 use mathlib.Core.List.{List, [], ◌∷◌, map}
 use native.Mathlib.Omega.{arith}
 use borrow.Author.Tests.{le-leb, lt-leb, eq-eqb, ne_eqb}
-use lib.ListN.{length, take, drop, get_or, drop_of_length-le}
-use Rattle.std.proofs.lemmas.List.{drop-map, take-map}
+use lib.ListN.{length, take, get_or}
+use Rattle.std.specs.List.{list_all, enumerate_from}
+use Rattle.std.proofs.lemmas.List.{take-map}
 use Rattle.solver.specs.Result.{refused}
-use Rattle.solver.proofs.Laws.Parts.{drop_next}
 use Rattle.zone.specs.Record.Numbers.{conditions_size, conditions_code}
 use Rattle.zone.specs.Check.Ranges.{open_within}
 use Rattle.zone.specs.Format.Layout.{conditions_length, open_byte, element_hour_size, first_element_hour}
@@ -20,36 +20,17 @@ use Rattle.zone.specs.declared.record.zone_record.Zone.{Zone}
 abbrev treatments : List Element → List ℕ
 treatments = map (λ (e : Element). e.treatments)
 
--- a loop over the elements, whose invariant is that the answer is that of the elements that are left
-module _ (s : List ℕ) (es : List Element) (i : ℕ) (w : Bool) (inv : open_bits_valid s (drop i (treatments es)) (first_element_hour + element_hour_size * i) ≡ w) where
-  module _ (d : Element) (h : i < length es) where
-    part : drop i (treatments es) ≡ (get_or es i d).treatments ∷ drop (i + 1) (treatments es)
-    part =
-        drop-map (λ (e : Element). e.treatments) i es
-        ∙ ap treatments (drop_next es i d h)
-        ∙ ap (λ (ts : List ℕ). (get_or es i d).treatments ∷ ts) (sym (drop-map (λ (e : Element). e.treatments) (i + 1) es))
+-- the test of an element and of its place, as an iterator's `all` makes it
+abbrev pub open_test : List ℕ → ℕ × Element → Bool
+open_test s (i, e) = open_within e.treatments (get_or s (first_element_hour + element_hour_size * i + open_byte) 0)
 
-    pub open_out : open_within (get_or es i d).treatments (get_or s (first_element_hour + element_hour_size * i + open_byte) 0) ≡ false → false ≡ w
-    unfolding open_bits_valid
-    open_out e =
-        let turn : open_bits_valid s (drop i (treatments es)) (first_element_hour + element_hour_size * i) ≡ false = rw (part, e) in
-        sym turn ∙ inv
-
-    pub open_in : open_within (get_or es i d).treatments (get_or s (first_element_hour + element_hour_size * i + open_byte) 0) ≡ true
-        → open_bits_valid s (drop (i + 1) (treatments es)) (first_element_hour + element_hour_size * (i + 1)) ≡ w
-    unfolding open_bits_valid
-    open_in e =
-        let past : first_element_hour + element_hour_size * i + element_hour_size ≡ first_element_hour + element_hour_size * (i + 1) = omega arith in
-        let turn : open_bits_valid s (drop i (treatments es)) (first_element_hour + element_hour_size * i)
-        ≡ open_bits_valid s (drop (i + 1) (treatments es)) (first_element_hour + element_hour_size * (i + 1)) = rw (part, e, past) in
-        sym turn ∙ inv
-
-  pub open_end : length es ≤ i → true ≡ w
-  unfolding open_bits_valid
-  open_end h =
-      let none : drop i (treatments es) ≡ [] = drop-map (λ (e : Element). e.treatments) i es ∙ ap treatments (drop_of_length-le es h) in
-      let turn : open_bits_valid s (drop i (treatments es)) (first_element_hour + element_hour_size * i) ≡ true = rw none in
-      sym turn ∙ inv
+pub open_all : (s : List ℕ) (es : List Element) (i : ℕ)
+    → list_all (open_test s) (enumerate_from i es) ≡ open_bits_valid s (treatments es) (first_element_hour + element_hour_size * i)
+unfolding open_bits_valid
+open_all s [] i = refl
+open_all s (e ∷ es) i =
+    let past : first_element_hour + element_hour_size * (i + 1) ≡ first_element_hour + element_hour_size * i + element_hour_size = omega arith in
+    ap (λ (b : Bool). open_test s (i, e) && b) (open_all s es (i + 1) ∙ ap (open_bits_valid s (treatments es)) past)
 
 module _ (z : Zone) where
   -- the treatments of the zone's elements

@@ -1,4 +1,5 @@
 -- What an accepted demand is made of: the choice of a rate, which it keeps, and so many kWh.
+use Rattle.std.specs.Prelude.{Option, Some, None}
 use mathlib.Core.Path.{◌≡◌, refl, sym, ap, ◌∙◌}
 use mathlib.Core.Bool.{not}
 use mathlib.Core.List.{List}
@@ -12,7 +13,6 @@ use Rattle.zone.specs.declared.format.conditions.Conditions.{Conditions}
 use Rattle.zone.specs.declared.calls.state.Demand.{Demand}
 use Rattle.zone.specs.declared.hour.windows.VentilationChoice.{VentilationChoice}
 use Rattle.zone.specs.declared.hour.load.HeatCoolLoad.{HeatCoolLoad}
-use Rattle.zone.specs.declared.hour.load.HeatCoolLoad.TheVariants.{NoLoad, Toward}
 use Rattle.zone.specs.Record.Numbers as Number
 use Rattle.zone.specs.Hour.Demand.{control_temperature, ach_target, wanted, gains_upper, frac_upper, interp_heat_cool_demand, demand_record, temperatures_with, free_temperatures, calc_cooling_potential_from_ventilation, demand_for_load, space_heat_cool_demand}
 
@@ -22,15 +22,15 @@ unfolding demand_record
 by_rate kwh v = refl
 
 module _ (c : Coefficients) (z : Zone) (t : List Float) (h : Conditions) where
-  demand_of : (v : VentilationChoice) (w : HeatCoolLoad) (d : Demand) → demand_for_load c z t h v w ≡ ok d → (kwh : Float) × (demand_record kwh v ≡ d)
+  demand_of : (v : VentilationChoice) (w : Option HeatCoolLoad) (d : Demand) → demand_for_load c z t h v w ≡ ok d → (kwh : Float) × (demand_record kwh v ≡ d)
   unfolding demand_for_load
-  demand_of v NoLoad d e = (zero64, ok_inj e)
-  demand_of v (Toward setpoint load fraction) d e =
-      let upper = bind_ok (temperatures_with c z t h (gains_upper h load) (frac_upper h load fraction) v.ach_cooling) _ d e in
-      let kwh = bind_ok (interp_heat_cool_demand h.delta_t_h setpoint load v.temp_free (control_temperature z upper.0)) _ d upper.2 in
+  demand_of v None d e = (zero64, ok_inj e)
+  demand_of v (Some w) d e =
+      let upper = bind_ok (temperatures_with c z t h (gains_upper h w.load) (frac_upper h w.load w.fraction) v.ach_cooling) _ d e in
+      let kwh = bind_ok (interp_heat_cool_demand h.delta_t_h w.setpoint w.load v.temp_free (control_temperature z upper.0)) _ d upper.2 in
       (kwh.0, ok_inj kwh.2)
 
-  pub towards_rate : (v : VentilationChoice) (w : HeatCoolLoad) (d : Demand) → demand_for_load c z t h v w ≡ ok d → d.ach_cooling ≡ v.ach_cooling
+  pub towards_rate : (v : VentilationChoice) (w : Option HeatCoolLoad) (d : Demand) → demand_for_load c z t h v w ≡ ok d → d.ach_cooling ≡ v.ach_cooling
   towards_rate v w d e =
       let k = demand_of v w d e in
       sym (ap (λ (x : Demand). x.ach_cooling) k.1) ∙ by_rate k.0 v

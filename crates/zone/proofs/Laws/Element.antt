@@ -33,6 +33,14 @@ pub nodes_few : (k : Kind) (n : ℕ) → n ≡ number_of_nodes k → n ≤ 5
 unfolding number_of_nodes
 nodes_few k n e = rw e (two_or_five (is_two_nodes k))
 
+one_or_more : (b : Bool) → 1 ≤ cond b 2 5
+one_or_more true = omega arith
+one_or_more false = omega arith
+
+pub nodes_some : (k : Kind) (n : ℕ) → n ≡ number_of_nodes k → 1 ≤ n
+unfolding number_of_nodes
+nodes_some k n e = rw e (one_or_more (is_two_nodes k))
+
 -- a loop over elements, whose invariant is that the nodes that are counted, with those of the elements that are left, are all
 module _ (es : List Element) (i total w : ℕ) (inv : total + nodes_of (drop i es) ≡ w) where
   pub nodes_next : (d : Element) (k : ℕ) → i < length es → k ≡ number_of_nodes (get_or es i d).kind → total + k + nodes_of (drop (i + 1) es) ≡ w

@@ -11,3 +11,6 @@ element_is es e d h = get_or_default es e d no_element h
 
 pub element_hour_is : (hours : List ElementHour) (e : ℕ) (d : ElementHour) → e < length hours → get_or hours e d ≡ element_hour hours e
 element_hour_is hours e d h = get_or_default hours e d no_element_hour h
+
+-- both, for the attribute of a function that reads elements of a zone and of an hour
+pub ruleset elements_are = (element_is, element_hour_is)

@@ -11,7 +11,6 @@ use Rattle.solver.proofs.Laws.Result.{ok_inj, ok_not_refused}
 use Rattle.zone.specs.declared.record.refusal.Refusal.{Refusal}
 use Rattle.zone.specs.declared.record.zone_record.Zone.{Zone}
 use Rattle.zone.specs.declared.format.conditions.Conditions.{Conditions}
-use Rattle.zone.specs.declared.format.limits.Limits.{Limits}
 use Rattle.zone.specs.Record.BuildingElement.{standard_coefficients}
 use Rattle.zone.specs.Physics.HeatBalance.{heat_balance}
 use Rattle.zone.specs.declared.calls.state.State.{State}
@@ -21,6 +20,8 @@ use Rattle.zone.specs.Hour.Demand.{delta_t, gains_heat_cool, temperatures_with, 
 use Rattle.zone.specs.Calls.Hour.{tested_hour_and_limits, tested_step, step, delivered_by, convective_share, hour_step}
 use Rattle.zone.specs.declared.hour.hour.Meeting.TheVariants.{NotMet, WithGains}
 use Rattle.zone.specs.declared.hour.hour.Asked.TheVariants as Asked
+use Rattle.zone.specs.declared.hour.rule.Rule.{Rule}
+use Rattle.zone.specs.declared.hour.time_step.HeatCoolGains.{HeatCoolGains}
 use Rattle.zone.specs.Answers.{answered, answered_with}
 use Rattle.zone.specs.Inner.Hour.{demand_solved, update_solved, hour_solved, step_balance, stepped}
 use Rattle.zone.specs.Inner.NextHour.{next_hour, solved_next}
@@ -38,34 +39,34 @@ demand_solved_lem z t h before = go (space_heat_cool_demand standard_coefficient
     go (refused n i) = refl
 
 -- the hour step
-module _ (z : Zone) (version : ℕ) (l : Limits) (s : State) (bytes : List ℕ) (h : Conditions) (read : tested_step z version l s bytes ≡ ok h) (t : List Float) (t_is : t ≡ slots_of z s) (before : List Float) where
-  hour_solved_lem : hour_step standard_coefficients z version l s bytes ≡ bind (hour_solved z t h (Asked.Demand (WithGains version l)) before) (stepped z version l t h)
+module _ (z : Zone) (r : Rule) (s : State) (bytes : List ℕ) (h : Conditions) (read : tested_step z r.version r.limits s bytes ≡ ok h) (t : List Float) (t_is : t ≡ slots_of z s) (before : List Float) where
+  hour_solved_lem : hour_step standard_coefficients z r.version r.limits s bytes ≡ bind (hour_solved z t h (Asked.Demand (WithGains r)) before) (stepped z r t h)
   unfolding hour_step step demand_solved
   hour_solved_lem = go (space_heat_cool_demand standard_coefficients z t h) refl
     where
       last : (d : Demand) → space_heat_cool_demand standard_coefficients z t h ≡ ok d → (y : Result (List Float))
-          → temperatures_with standard_coefficients z t h (gains_heat_cool h +ᶠ delivered_by version l h d) (convective_share version h (delivered_by version l h d) (gains_heat_cool h +ᶠ delivered_by version l h d)) d.ach_cooling ≡ y
-          → hour_step standard_coefficients z version l s bytes ≡ bind (hour_solved z t h (Asked.Demand (WithGains version l)) before) (stepped z version l t h)
+          → temperatures_with standard_coefficients z t h (gains_heat_cool h +ᶠ delivered_by r.version r.limits h d) (convective_share r.version h (delivered_by r.version r.limits h d) (gains_heat_cool h +ᶠ delivered_by r.version r.limits h d)) d.ach_cooling ≡ y
+          → hour_step standard_coefficients z r.version r.limits s bytes ≡ bind (hour_solved z t h (Asked.Demand (WithGains r)) before) (stepped z r t h)
       last d p (ok after) q = rw (read, ← t_is, p, q) refl
       last d p (refused n i) q = rw (read, ← t_is, p, q) refl
 
-      go : (x : Result Demand) → space_heat_cool_demand standard_coefficients z t h ≡ x → hour_step standard_coefficients z version l s bytes ≡ bind (hour_solved z t h (Asked.Demand (WithGains version l)) before) (stepped z version l t h)
+      go : (x : Result Demand) → space_heat_cool_demand standard_coefficients z t h ≡ x → hour_step standard_coefficients z r.version r.limits s bytes ≡ bind (hour_solved z t h (Asked.Demand (WithGains r)) before) (stepped z r t h)
       go (ok d) p = last d p _ refl
       go (refused n i) p = rw (read, ← t_is, p) refl
 
 -- the same without the heat balance
-module _ (z : Zone) (version : ℕ) (l : Limits) (s : State) (bytes : List ℕ) (h : Conditions) (read : tested_hour_and_limits z version l s bytes ≡ ok h) (t : List Float) (t_is : t ≡ slots_of z s) (before : List Float) where
-  pub next_solved : next_hour standard_coefficients z version l s bytes ≡ solved_next z (hour_solved z t h (Asked.Demand (WithGains version l)) before)
+module _ (z : Zone) (r : Rule) (s : State) (bytes : List ℕ) (h : Conditions) (read : tested_hour_and_limits z r.version r.limits s bytes ≡ ok h) (t : List Float) (t_is : t ≡ slots_of z s) (before : List Float) where
+  pub next_solved : next_hour standard_coefficients z r.version r.limits s bytes ≡ solved_next z (hour_solved z t h (Asked.Demand (WithGains r)) before)
   unfolding next_hour demand_solved
   next_solved = go (space_heat_cool_demand standard_coefficients z t h) refl
     where
       last : (d : Demand) → space_heat_cool_demand standard_coefficients z t h ≡ ok d → (y : Result (List Float))
-          → temperatures_with standard_coefficients z t h (gains_heat_cool h +ᶠ delivered_by version l h d) (convective_share version h (delivered_by version l h d) (gains_heat_cool h +ᶠ delivered_by version l h d)) d.ach_cooling ≡ y
-          → next_hour standard_coefficients z version l s bytes ≡ solved_next z (hour_solved z t h (Asked.Demand (WithGains version l)) before)
+          → temperatures_with standard_coefficients z t h (gains_heat_cool h +ᶠ delivered_by r.version r.limits h d) (convective_share r.version h (delivered_by r.version r.limits h d) (gains_heat_cool h +ᶠ delivered_by r.version r.limits h d)) d.ach_cooling ≡ y
+          → next_hour standard_coefficients z r.version r.limits s bytes ≡ solved_next z (hour_solved z t h (Asked.Demand (WithGains r)) before)
       last d p (ok after) q = rw (read, ← t_is, p, q) refl
       last d p (refused n i) q = rw (read, ← t_is, p, q) refl
 
-      go : (x : Result Demand) → space_heat_cool_demand standard_coefficients z t h ≡ x → next_hour standard_coefficients z version l s bytes ≡ solved_next z (hour_solved z t h (Asked.Demand (WithGains version l)) before)
+      go : (x : Result Demand) → space_heat_cool_demand standard_coefficients z t h ≡ x → next_hour standard_coefficients z r.version r.limits s bytes ≡ solved_next z (hour_solved z t h (Asked.Demand (WithGains r)) before)
       go (ok d) p = last d p _ refl
       go (refused n i) p = rw (read, ← t_is, p) refl
 
@@ -78,28 +79,28 @@ demand_answered z t h before (Ok d) after e = rw (demand_solved_lem z t h before
 demand_answered z t h before (Err n) after e = rw (demand_solved_lem z t h before, ← e) refl
 
 -- of an hour step
-pub hour_untested : (z : Zone) (version : ℕ) (l : Limits) (s : State) (bytes : List ℕ) (n i : ℕ) → refused n i ≡ tested_step z version l s bytes
-    → refused n i ≡ hour_step standard_coefficients z version l s bytes
+pub hour_untested : (z : Zone) (r : Rule) (s : State) (bytes : List ℕ) (n i : ℕ) → refused n i ≡ tested_step z r.version r.limits s bytes
+    → refused n i ≡ hour_step standard_coefficients z r.version r.limits s bytes
 unfolding hour_step
-hour_untested z version l s bytes n i e = rw (← e) refl
+hour_untested z r s bytes n i e = rw (← e) refl
 
-module _ (z : Zone) (version : ℕ) (l : Limits) (s : State) (bytes : List ℕ) (h : Conditions) (read : ok h ≡ tested_step z version l s bytes)
+module _ (z : Zone) (r : Rule) (s : State) (bytes : List ℕ) (h : Conditions) (read : ok h ≡ tested_step z r.version r.limits s bytes)
     (t before : List Float) (t_is : t ≡ slots_of z s) where
-  pub hour_refused : (n i : ℕ) → refused n i ≡ hour_solved z t h (Asked.Demand (WithGains version l)) before → refused n i ≡ hour_step standard_coefficients z version l s bytes
-  hour_refused n i e = rw (hour_solved_lem z version l s bytes h (sym read) t t_is before, ← e) refl
+  pub hour_refused : (n i : ℕ) → refused n i ≡ hour_solved z t h (Asked.Demand (WithGains r)) before → refused n i ≡ hour_step standard_coefficients z r.version r.limits s bytes
+  hour_refused n i e = rw (hour_solved_lem z r s bytes h (sym read) t t_is before, ← e) refl
 
-  pub hour_accepted : (d : Demand) (after : List Float) → ok (d, after) ≡ hour_solved z t h (Asked.Demand (WithGains version l)) before
-      → ok (record { demand = d; state = state_of z after; balance = step_balance z t h version l d after }) ≡ hour_step standard_coefficients z version l s bytes
-  hour_accepted d after e = rw (hour_solved_lem z version l s bytes h (sym read) t t_is before, ← e) refl
+  pub hour_accepted : (d : Demand) (after : List Float) → ok (d, after) ≡ hour_solved z t h (Asked.Demand (WithGains r)) before
+      → ok (record { demand = d; state = state_of z after; balance = step_balance z t h r d after }) ≡ hour_step standard_coefficients z r.version r.limits s bytes
+  hour_accepted d after e = rw (hour_solved_lem z r s bytes h (sym read) t t_is before, ← e) refl
 
 -- of one time step
-module _ (z : Zone) (s : State) (h : Conditions) (gains fraction ach : Float) (t before : List Float) (t_is : t ≡ slots_of z s) where
-  pub step_refused : (n i : ℕ) → refused n i ≡ hour_solved z t h (Asked.Update gains fraction ach) before → refused n i ≡ step standard_coefficients z s h gains fraction ach
+module _ (z : Zone) (s : State) (h : Conditions) (g : HeatCoolGains) (ach : Float) (t before : List Float) (t_is : t ≡ slots_of z s) where
+  pub step_refused : (n i : ℕ) → refused n i ≡ hour_solved z t h (Asked.Update g ach) before → refused n i ≡ step standard_coefficients z s h g.gains_heat_cool g.f_hc_c ach
   unfolding step update_solved
-  step_refused n i = go (temperatures_with standard_coefficients z t h gains fraction ach) refl
+  step_refused n i = go (temperatures_with standard_coefficients z t h g.gains_heat_cool g.f_hc_c ach) refl
     where
-      go : (y : Result (List Float)) → temperatures_with standard_coefficients z t h gains fraction ach ≡ y
-          → refused n i ≡ hour_solved z t h (Asked.Update gains fraction ach) before → refused n i ≡ step standard_coefficients z s h gains fraction ach
+      go : (y : Result (List Float)) → temperatures_with standard_coefficients z t h g.gains_heat_cool g.f_hc_c ach ≡ y
+          → refused n i ≡ hour_solved z t h (Asked.Update g ach) before → refused n i ≡ step standard_coefficients z s h g.gains_heat_cool g.f_hc_c ach
       go (ok after) q e = ok_not_refused _ n i (sym (rw q at e))
       go (refused m j) q e =
           let same : ◌≡◌ {A = Result (Demand × List Float)} (refused n i) (refused m j) = rw q at e in
@@ -107,13 +108,13 @@ module _ (z : Zone) (s : State) (h : Conditions) (gains fraction ach : Float) (t
           let b : i ≡ j = cc in
           rw (← t_is, q, a, b) refl
 
-  pub step_accepted : (d : Demand) (after : List Float) → ok (d, after) ≡ hour_solved z t h (Asked.Update gains fraction ach) before
-      → step standard_coefficients z s h gains fraction ach ≡ ok (state_of z after, heat_balance standard_coefficients z t h (delta_t h) gains fraction ach after)
+  pub step_accepted : (d : Demand) (after : List Float) → ok (d, after) ≡ hour_solved z t h (Asked.Update g ach) before
+      → step standard_coefficients z s h g.gains_heat_cool g.f_hc_c ach ≡ ok (state_of z after, heat_balance standard_coefficients z t h (delta_t h) g.gains_heat_cool g.f_hc_c ach after)
   unfolding step update_solved
-  step_accepted d after = go (temperatures_with standard_coefficients z t h gains fraction ach) refl
+  step_accepted d after = go (temperatures_with standard_coefficients z t h g.gains_heat_cool g.f_hc_c ach) refl
     where
-      go : (y : Result (List Float)) → temperatures_with standard_coefficients z t h gains fraction ach ≡ y
-          → ok (d, after) ≡ hour_solved z t h (Asked.Update gains fraction ach) before
-          → step standard_coefficients z s h gains fraction ach ≡ ok (state_of z after, heat_balance standard_coefficients z t h (delta_t h) gains fraction ach after)
+      go : (y : Result (List Float)) → temperatures_with standard_coefficients z t h g.gains_heat_cool g.f_hc_c ach ≡ y
+          → ok (d, after) ≡ hour_solved z t h (Asked.Update g ach) before
+          → step standard_coefficients z s h g.gains_heat_cool g.f_hc_c ach ≡ ok (state_of z after, heat_balance standard_coefficients z t h (delta_t h) g.gains_heat_cool g.f_hc_c ach after)
       go (ok after') q e = let same : after ≡ after' = ap (λ (u : Demand × List Float). u.1) (ok_inj (rw q at e)) in rw (← t_is, q, same) refl
       go (refused m j) q e = ok_not_refused _ m j (rw q at e)

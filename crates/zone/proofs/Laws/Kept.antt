@@ -6,8 +6,7 @@ use mathlib.Core.List.{List, [], ◌∷◌}
 use Prim.Native.Nat.{ℕ, ◌<◌, ◌≤◌}
 use native.Mathlib.Omega.{arith}
 use lib.Dec.{T}
-use lib.ListN.{length, get_or, drop, replicate}
-use lib.Seq.{get_or-drop}
+use lib.ListN.{length, get_or, replicate}
 use lib.Ieee.{Float, nan, binary64, of_bits, to_bits, fits}
 use lib.Ieee.Bits.{of_bits-to_bits}
 use Rattle.solver.specs.F64.{zero64}
@@ -16,42 +15,29 @@ use Rattle.solver.specs.Inner.Columns.{column_of}
 use Rattle.solver.specs.Inner.Apart.{columns, factor_apart}
 use Rattle.zone.specs.declared.record.building_element.Element.{Element}
 use Rattle.zone.specs.declared.record.building_element.ElementHour.{ElementHour}
-use Rattle.zone.specs.declared.record.building_element.Coefficients.{Coefficients}
 use Rattle.zone.specs.declared.record.building_element.HeatFlowDirection.{HeatFlowDirection}
-use Rattle.zone.specs.declared.record.building_element.HeatFlowDirection.TheVariants.{Horizontal, Upwards, Downwards}
+use Rattle.zone.specs.declared.record.building_element.HeatFlowDirection.TheVariants.{Horizontal}
 use Rattle.zone.specs.declared.record.zone_record.Zone.{Zone}
-use Rattle.zone.specs.Record.BuildingElement.{heat_flow_direction, direction_code, h_ci_of, h_ci, standard_coefficients}
-use Rattle.zone.specs.Physics.Slots.{air, inner_surface, element, element_hour, with_terms}
-use Rattle.zone.specs.Physics.System.{area_of, area_el_total, share_of, h_ci_at, two_nodes_of}
-use Rattle.zone.specs.Inner.Record.{h_ci_by_code}
+use Rattle.zone.specs.Record.BuildingElement.{h_ci_of, h_ci, standard_coefficients}
+use Rattle.zone.specs.Physics.Slots.{element_hour, with_terms}
+use Rattle.zone.specs.Physics.System.{area_of, area_el_total, share_of, direction_at, h_ci_at, two_nodes_of}
 use Rattle.zone.specs.Inner.Assembly.{convective_by, Chains, chains, element_rows}
 use Rattle.zone.specs.Inner.Assembled.{h_ri_of, convective_sum, element_chains, couplings_of}
-use Rattle.zone.specs.Inner.Kept.{direction_code_at, h_ci_in, rows_by, chains_by, couplings_by, convective_by_sum, Factors, factors, factors_in, factors_by, FactorsOf, Arrays, arrays, zeros, Held, held, none_held, factors_held, numbers_held, numbers_by, key_of, same_key, emptied, held_with, keep_factors, Kept}
+use Rattle.zone.specs.Inner.Kept.{h_ci_in, rows_by, chains_by, couplings_by, convective_by_sum, Factors, factors, factors_in, factors_by, FactorsOf, Arrays, arrays, zeros, Held, held, none_held, factors_held, numbers_held, numbers_by, Key, same_key, emptied, held_with, keep_factors, Kept}
 use borrow.Author.Tests.{eqb-true}
 use Rattle.solver.proofs.Laws.Tests.{and_true}
-use Rattle.zone.proofs.Laws.Key.{elements_same, key_direction, key_open}
+use Rattle.zone.proofs.Laws.Key.{elements_same}
 use Rattle.zone.proofs.Laws.Terms.{repeat_same, terms_at}
-use Rattle.zone.proofs.Laws.Nodes.{at_most_24_le}
 use Rattle.zone.proofs.Laws.Agree.{Agree, sum2_same, convective_agree, couplings_same}
 
--- h_ci by a direction's code
-of_code : (c : Coefficients) (d : HeatFlowDirection) → h_ci_by_code c (direction_code d) ≡ h_ci_of c d
-of_code c Horizontal = refl
-of_code c Upwards = refl
-of_code c Downwards = refl
-
-by_code : (c : Coefficients) (pitch air surface : Float) → h_ci_by_code c (direction_code (heat_flow_direction c pitch air surface)) ≡ h_ci c pitch air surface
-unfolding h_ci
-by_code c pitch air surface = of_code c (heat_flow_direction c pitch air surface)
-
 -- h_ci by the directions that an hour stores
-pub h_ci_in_lem : (n : ℕ) (es : List Element) (t : List Float) (directions : List ℕ) → n ≤ 24 →
-    directions ≡ with_terms n (direction_code_at standard_coefficients es t) (replicate 24 0) → Agree n (h_ci_in directions) (h_ci_at standard_coefficients es t)
+pub h_ci_in_lem : (n : ℕ) (es : List Element) (t : List Float) (directions : List HeatFlowDirection) → n ≤ 24 →
+    directions ≡ with_terms n (direction_at standard_coefficients es t) (replicate 24 Horizontal) → Agree n (h_ci_in directions) (h_ci_at standard_coefficients es t)
+unfolding h_ci
 h_ci_in_lem n es t directions small h e he =
-    let small' : n ≤ length {A = ℕ} (replicate 24 0) = small in
-    ap (λ (l : List ℕ). h_ci_by_code standard_coefficients (get_or l e 0)) h
-    ∙ ap (h_ci_by_code standard_coefficients) (terms_at (direction_code_at standard_coefficients es t) 0 n (replicate 24 0) e he small')
-    ∙ by_code standard_coefficients (element es e).pitch (air t) (inner_surface t e)
+    let small' : n ≤ length (replicate 24 Horizontal) = small in
+    ap (λ (l : List HeatFlowDirection). h_ci_of standard_coefficients (get_or l e Horizontal)) h
+    ∙ ap (h_ci_of standard_coefficients) (terms_at (direction_at standard_coefficients es t) Horizontal n (replicate 24 Horizontal) e he small')
 
 -- the parts of the matrix, of h_ci and open treatments that agree
 module _ (n : ℕ) (es : List Element) (f g : ℕ → Float) (p : Agree n f g) where
@@ -91,7 +77,7 @@ module _ (n : ℕ) (small : n ≤ 24) (es : List Element) (t : List Float) where
   sum_own = refl
 
 -- the same directions and open treatments
-module _ (z : Zone) (d d' o o' : List ℕ) (same : (e : ℕ) → e < at_most24 z.count → get_or d e 0 ≡ get_or d' e 0)
+module _ (z : Zone) (d d' : List HeatFlowDirection) (o o' : List ℕ) (same : (e : ℕ) → e < at_most24 z.count → get_or d e Horizontal ≡ get_or d' e Horizontal)
     (opened : (e : ℕ) → e < at_most24 z.count → get_or o e 0 ≡ get_or o' e 0) where
   abbrev n : ℕ
   n = at_most24 z.count
@@ -100,7 +86,7 @@ module _ (z : Zone) (d d' o o' : List ℕ) (same : (e : ℕ) → e < at_most24 z
   es = z.building_elements
 
   agree : Agree n (h_ci_in d) (h_ci_in d')
-  agree e h = ap (h_ci_by_code standard_coefficients) (same e h)
+  agree e h = ap (h_ci_of standard_coefficients) (same e h)
 
   factors_same : (dt dt' : Float) → dt ≡ dt' → (k : Factors) (sums : List Float) → FactorsOf z d o dt k sums → FactorsOf z d' o' dt' k sums
   unfolding factors_by
@@ -115,21 +101,18 @@ module _ (z : Zone) (d d' o o' : List ℕ) (same : (e : ℕ) → e < at_most24 z
 
 -- ---- what is held after an hour
 
-few_elements : (z : Zone) (e : ℕ) → e < at_most24 z.count → e < 24
-few_elements z e h = let small = at_most_24_le z.count in omega arith
-
 pub none_kept : (z : Zone) → Kept z none_held
 none_kept z = record { when_empty = λ _. refl; when_held = λ e. absurd (subst T (sym e) tt) }
 
 pub none_kept_in : (z : Zone) (k : Held) → k ≡ none_held → Kept z k
 none_kept_in z k e = subst (λ (x : Held). Kept z x) (sym e) (none_kept z)
 
-module _ (z : Zone) (d o : List ℕ) (dt : Float) (f : T (fits binary64 dt)) where
+module _ (z : Zone) (d : List HeatFlowDirection) (o : List ℕ) (dt : Float) (f : T (fits binary64 dt)) where
   abbrev m : ℕ
   m = at_most24 z.count
 
   -- what is held, of the same key
-  held_same : (flags : List Bool) (numbers : List Float) (key : List ℕ) (a : Arrays) (column : List Float)
+  held_same : (flags : List Bool) (numbers : List Float) (key : Key) (a : Arrays) (column : List Float)
       → same_key (get_or flags 0 false) (get_or numbers 2 nan) dt m key d o ≡ true
       → Kept z (held flags numbers key a column) → FactorsOf z d o dt (factors_held (held flags numbers key a column)) numbers
   unfolding same_key
@@ -137,7 +120,7 @@ module _ (z : Zone) (d o : List ℕ) (dt : Float) (f : T (fits binary64 dt)) whe
       let p = and_true _ _ e in
       let q = and_true _ _ p.1 in
       let same = elements_same key d o m q.1 in
-      factors_same z key d (drop 24 key) o (λ i h. (same i h).0) (λ i h. get_or-drop 24 key i 0 ∙ (same i h).1)
+      factors_same z key.0 d key.1 o (λ i h. (same i h).0) (λ i h. (same i h).1)
       (of_bits binary64 (to_bits binary64 (get_or numbers 2 nan))) dt (ap (of_bits binary64) (eqb-true _ _ q.0) ∙ of_bits-to_bits binary64 dt f) _ numbers (k.when_held p.0)
 
   -- what is factored anew
@@ -145,13 +128,12 @@ module _ (z : Zone) (d o : List ℕ) (dt : Float) (f : T (fits binary64 dt)) whe
   unfolding factors_by
   factored a e = record { are = ap (factors_in z d o dt) e; total = refl; convective = refl }
 
-  held_anew : (x : Factors) → FactorsOf z d o dt x (numbers_by z d dt) → let k = held_with (numbers_by z d dt) (key_of d o) x in Kept z k × FactorsOf z d o dt (factors_held k) (numbers_held k)
+  held_anew : (x : Factors) → FactorsOf z d o dt x (numbers_by z d dt) → let k = held_with (numbers_by z d dt) (d, o) x in Kept z k × FactorsOf z d o dt (factors_held k) (numbers_held k)
   held_anew (factors valid two_nodes diag next prev dense interchanges column) q = (
     record {
       when_empty = λ e. absurd (subst T e tt);
       when_held = λ _.
-          factors_same z d (key_of d o) o (drop 24 (key_of d o)) (λ e h. sym (key_direction d o e (few_elements z e h))) (λ e h. sym (get_or-drop 24 (key_of d o) e 0 ∙ key_open d o e (few_elements z e h)))
-          dt (of_bits binary64 (to_bits binary64 dt)) (sym (of_bits-to_bits binary64 dt f)) _ _ q;
+          factors_same z d d o o (λ e h. refl) (λ e h. refl) dt (of_bits binary64 (to_bits binary64 dt)) (sym (of_bits-to_bits binary64 dt f)) _ _ q;
     },
     q,
   )
@@ -165,14 +147,14 @@ module _ (z : Zone) (d o : List ℕ) (dt : Float) (f : T (fits binary64 dt)) whe
   factors_kept (held flags numbers key a column) k = by (same_key (get_or flags 0 false) (get_or numbers 2 nan) dt m key d o) refl
     where
       by : (t : Bool) → same_key (get_or flags 0 false) (get_or numbers 2 nan) dt m key d o ≡ t →
-          let k' = cond t (held flags numbers key a column) (held_with (numbers_by z d dt) (key_of d o) (factors_in z d o dt (emptied (get_or flags 0 false) a))) in
+          let k' = cond t (held flags numbers key a column) (held_with (numbers_by z d dt) (d, o) (factors_in z d o dt (emptied (get_or flags 0 false) a))) in
           Kept z k' × FactorsOf z d o dt (factors_held k') (numbers_held k')
       by true e = (k, held_same flags numbers key a column e k)
       by false e = held_anew (factors_in z d o dt (emptied (get_or flags 0 false) a)) (factored (emptied (get_or flags 0 false) a) (emptied_zeros (get_or flags 0 false) a k.when_empty))
 
 -- ---- what `keep_factors` leaves
 
-module _ (z : Zone) (d o : List ℕ) (dt : Float) (flags : List Bool) (numbers : List Float) (key : List ℕ) (a : Arrays) (column : List Float)
+module _ (z : Zone) (d : List HeatFlowDirection) (o : List ℕ) (dt : Float) (flags : List Bool) (numbers : List Float) (key : Key) (a : Arrays) (column : List Float)
     (n : ℕ) (n_is : n ≡ at_most24 z.count) (test : Bool) (test_is : test ≡ same_key (get_or flags 0 false) (get_or numbers 2 nan) dt n key d o) where
   key_is : same_key (get_or flags 0 false) (get_or numbers 2 nan) dt (at_most24 z.count) key d o ≡ test
   key_is = sym (test_is ∙ rw n_is refl)
@@ -189,12 +171,11 @@ module _ (z : Zone) (d o : List ℕ) (dt : Float) (flags : List Bool) (numbers :
       (total convective : Float) (total_is : total ≡ area_el_total n z.building_elements)
       (convective_is : convective ≡ convective_by_sum n z.building_elements (h_ci_in d))
       (last : List Float) (last_is : last ≡ column_of (at_most24 n) dense) (valid : Bool) (diag' dense' : List Float) (interchanges : List ℕ)
-      (columns_is : columns valid diag' dense' interchanges ≡ factor_apart (at_most24 n) two diag next prev dense interchanges₀)
-      (key' : List ℕ) (key'_is : key' ≡ key_of d o) where
+      (columns_is : columns valid diag' dense' interchanges ≡ factor_apart (at_most24 n) two diag next prev dense interchanges₀) where
     factors_anew : factors valid two diag' next prev dense' interchanges last ≡ factors_in z d o dt (emptied (get_or flags 0 false) a)
     factors_anew = rw (← empty, ← n_is, ← chains_is, ← two_is, ← dense_is, ← columns_is, last_is) refl
 
-    pub keep_anew : held (true ∷ valid ∷ []) (total ∷ convective ∷ dt ∷ []) key' (arrays two diag' next prev dense' interchanges) last
+    pub keep_anew : held (true ∷ valid ∷ []) (total ∷ convective ∷ dt ∷ []) (d, o) (arrays two diag' next prev dense' interchanges) last
         ≡ keep_factors z d o dt (held flags numbers key a column)
     unfolding keep_factors
-    keep_anew = rw (key_is, other, ← factors_anew, total_is, convective_is, n_is, key'_is) refl
+    keep_anew = rw (key_is, other, ← factors_anew, total_is, convective_is, n_is) refl

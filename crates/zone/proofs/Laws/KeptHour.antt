@@ -8,7 +8,7 @@ use native.Mathlib.Omega.{arith}
 use lib.ListN.{length, get_or, replicate}
 use lib.Ieee.{Float, nan, binary64}
 use lib.Ieee.Fits.{mul-fits}
-use Rattle.solver.specs.F64.{zero64, decimal}
+use Rattle.solver.specs.F64.{◌/ᶠ◌, zero64, decimal}
 use Rattle.solver.specs.FastSolver.{at_most24}
 use Rattle.solver.specs.Result.{Result}
 use Rattle.solver.specs.Inner.Columns.{column_of}
@@ -17,17 +17,17 @@ use Rattle.solver.specs.Inner.Apart.{Columns, columns, factor_apart, reduced_bas
 use Rattle.solver.specs.declared.dense_part.RightSide.{RightSide}
 use Rattle.zone.specs.declared.record.building_element.Element.{Element}
 use Rattle.zone.specs.declared.record.building_element.ElementHour.{ElementHour}
+use Rattle.zone.specs.declared.record.building_element.HeatFlowDirection.{HeatFlowDirection}
 use Rattle.zone.specs.declared.record.building_element.Coefficients.{Coefficients}
 use Rattle.zone.specs.declared.record.zone_record.Zone.{Zone}
 use Rattle.zone.specs.declared.format.conditions.Conditions.{Conditions}
 use Rattle.zone.specs.declared.hour.hour.Asked.{Asked}
-use Rattle.zone.specs.declared.hour.kept.Key.{Key}
+use Rattle.zone.specs.declared.physics.assembly.Key.{Key}
 use Rattle.zone.specs.declared.hour.kept.KeptMatrix.{KeptMatrix}
-use Rattle.zone.specs.declared.hour.time_step.ZoneTerms as Rust
 use Rattle.zone.specs.declared.calls.state.Demand.{Demand}
 use Rattle.zone.specs.Record.BuildingElement.{standard_coefficients}
-use Rattle.zone.specs.Physics.Slots.{with_terms, element_hour}
-use Rattle.zone.specs.Physics.System.{h_ci_at, two_nodes_of}
+use Rattle.zone.specs.Physics.Slots.{air, with_terms, element_hour}
+use Rattle.zone.specs.Physics.System.{h_ci_at, two_nodes_of, c_int}
 use Rattle.zone.specs.Hour.Demand.{delta_t}
 use Rattle.zone.specs.Inner.Assembly.{Chains, chains}
 use Rattle.zone.specs.Inner.Assembled.{ZoneTerms, convective_sum, element_chains, couplings_of, element_sides, zone_terms_of, assembled_with, assemble, assemble_step}
@@ -35,9 +35,10 @@ use Rattle.zone.specs.Inner.Solves.{hour_system}
 use Rattle.zone.specs.Inner.Prepared.{Prepared, prepared, prepared_with, prepare}
 use Rattle.zone.specs.Inner.Operative.{areas_of, control_by}
 use Rattle.zone.specs.Inner.Hour.{answer_in, hour_solved}
-use Rattle.zone.specs.Inner.Kept.{h_ci_in, chains_by, couplings_by, convective_by_sum, terms_by, Factors, factors, factors_from, factors_with, factors_by, Held, factors_held, numbers_held, keep_factors, directions_of, treatments_open_at, opens_of, prepared_from, hour_from, hour_held, FactorsOf, Kept}
+use Rattle.zone.specs.Inner.Kept.{h_ci_in, chains_by, couplings_by, convective_by_sum, terms_by, Factors, factors, factors_from, factors_with, factors_by}
+use Rattle.zone.specs.Inner.Kept.{Held, factors_held, numbers_held, keep_factors, directions_of, treatments_open_at, opens_of, prepared_from, hour_from, hour_held, FactorsOf, Kept}
 use Rattle.zone.specs.Inner.KeptMatrix.{numbers_with, held_with_key, held_in}
-use Rattle.zone.specs.Inner.PreparedHour.{sums_in, terms_with}
+use Rattle.zone.specs.Inner.PreparedHour.{terms_with}
 use Rattle.zone.proofs.Laws.Agree.{Agree}
 use Rattle.zone.proofs.Laws.Terms.{terms_at}
 use Rattle.zone.proofs.Laws.Nodes.{at_most_24_le}
@@ -67,7 +68,7 @@ module _ (z : Zone) (t : List Float) (h : Conditions) where
   abbrev dt : Float
   dt = delta_t h
 
-  abbrev d : List ℕ
+  abbrev d : List HeatFlowDirection
   d = directions_of z t
 
   abbrev o : List ℕ
@@ -112,11 +113,13 @@ module _ (z : Zone) (t : List Float) (h : Conditions) where
         ∙ rw (sides_from, area_is) refl
 
   module _ (x : KeptMatrix) (x_is : x.factors.chains.n ≡ m) (c : Coefficients) (dt' : Float) (c_is : c ≡ standard_coefficients) (dt_is : dt' ≡ dt)
-      (s : Rust.ZoneTerms) (s_is : terms_with m s ≡ terms_by c z h dt' t (sums_in x.sums))
       (b : List Float) (b_is : b ≡ element_sides m es hours dt' t (replicate 121 zero64))
       (base : RightSide) (base_is : base ≡ reduced_base x.factors (record { b = b; inner = replicate 24 zero64 })) where
-    terms_here : terms_with x.factors.chains.n s ≡ terms_by c z h dt' t (sums_in x.sums)
-    terms_here = ap (λ (i : ℕ). terms_with i s) x_is ∙ s_is
+    abbrev s : ZoneTerms
+    s = terms_with x.factors.chains.n x.sums (c_int c z /ᶠ dt') (air t) z h
+
+    terms_here : s ≡ terms_by c z h dt' t (numbers_with x.sums dt')
+    terms_here = rw (x_is, c_is) refl
 
     sides_here : b ≡ element_sides x.factors.chains.n es hours dt' t (replicate 121 zero64)
     sides_here = b_is ∙ ap (λ (i : ℕ). element_sides i es hours dt' t (replicate 121 zero64)) (sym x_is)
@@ -132,7 +135,7 @@ module _ (z : Zone) (t : List Float) (h : Conditions) where
     module _ (area : List Float) (area_is : area ≡ areas_of z) (asked : Asked) (before : List Float) (r : Result (Demand × List Float))
         (e : r
         ≡ answer_in
-        (prepared (terms_with x.factors.chains.n s) x.factors.valid x.factors.chains.two_nodes x.factors.chains.diag x.factors.chains.next x.factors.lu.matrix x.factors.lu.interchanges x.column base.b base.inner)
+        (prepared s x.factors.valid x.factors.chains.two_nodes x.factors.chains.diag x.factors.chains.next x.factors.lu.matrix x.factors.lu.interchanges x.column base.b base.inner)
         z.volume (control_by z.temp_setpnt_basis z.count area x.sums.area_el_total) h z.useful_area asked before) where
       hour_here : (kept_dt : Float)
           → r
@@ -140,7 +143,7 @@ module _ (z : Zone) (t : List Float) (h : Conditions) where
           (factors x.factors.valid x.factors.chains.two_nodes x.factors.chains.diag x.factors.chains.next x.factors.chains.prev x.factors.lu.matrix x.factors.lu.interchanges x.column)
       hour_here kept_dt =
           hour_from_lem x.factors.valid (numbers_with x.sums kept_dt) x.factors.chains.two_nodes x.factors.chains.diag x.factors.chains.next x.factors.chains.prev
-          x.factors.lu.matrix x.factors.lu.interchanges x.column c dt' x.factors.chains.n c_is dt_is x_is (terms_with x.factors.chains.n s) terms_here
+          x.factors.lu.matrix x.factors.lu.interchanges x.column c dt' x.factors.chains.n c_is dt_is x_is s terms_here
           b base.b base.inner sides_here reduced_here inner_here area area_is asked before r e
 
       pub held_hour : r ≡ hour_held z t h asked before (held_in x)

@@ -1,128 +1,121 @@
 -- The key of a matrix that is kept: the timestep, the directions of heat flow and the open treatments.
 use mathlib.Core.Path.{◌≡◌, refl, sym, ap, subst, ◌∙◌}
 use mathlib.Core.Logic.{⊎_elim}
-use mathlib.Core.Bool.{Bool, true, false, cond, ◌&&◌}
-use mathlib.Core.List.{List, ◌++◌}
+use mathlib.Core.Bool.{Bool, true, false, ◌&&◌}
+use mathlib.Core.List.{List}
 use Prim.Native.Nat.{ℕ, suc, zero, ◌+◌, ◌-◌, ◌<◌, ◌≤◌}
 use native.Mathlib.Nat.{eq-or-lt_of_le}
+use native.Mathlib.Numerals.{add-one}
 use native.Mathlib.Omega.{arith}
-use borrow.Author.Tests.{eqb-true, lt-ltb, le-ltb, ltb-true, ltb-false}
-use lib.Dec.{eqb, ltb}
-use lib.ListN.{length, get_or}
-use lib.Seq.{take_all}
-use Rattle.std.proofs.lemmas.List.{length-append, get_or_append_left, get_or-append-add}
+use borrow.Author.Tests.{eqb-true}
+use lib.Dec.{eqb}
+use lib.ListN.{length, get_or, take, drop}
+use lib.Pointwise.{pointwise}
 use Rattle.solver.specs.Repeat.{all_of, all}
+use Rattle.solver.proofs.Laws.Parts.{drop_next}
 use Rattle.solver.proofs.Laws.Tests.{and_true}
-use Rattle.zone.specs.Inner.Kept.{same_elements, key_of}
-use Rattle.zone.proofs.Laws.Counted.{counted_same, counted_at, run}
-
--- the test of a range's last number
-and_right : (b : Bool) → (b && true) ≡ b
-and_right true = refl
-and_right false = refl
-
-and_again : (a b c : Bool) → (a && (b && c)) ≡ ((a && b) && c)
-and_again true b c = refl
-and_again false b c = refl
-
-last_of : (test : ℕ → Bool) (k a : ℕ) → all_of (suc k) a test ≡ (all_of k a test && test (a + k))
-unfolding all_of
-last_of test zero a = let e : a ≡ a + 0 = omega arith in and_right (test a) ∙ ap test e
-last_of test (suc k) a =
-    let e : suc a + k ≡ a + suc k = omega arith in
-    ap (λ (b : Bool). test a && b) (last_of test k (suc a))
-    ∙ and_again (test a) (all_of k (suc a) test) (test (suc a + k))
-    ∙ ap (λ (i : ℕ). (test a && all_of k (suc a) test) && test i) e
+use Rattle.solver.proofs.Laws.Turns.{all_last}
+use Rattle.zone.specs.declared.record.building_element.HeatFlowDirection.{HeatFlowDirection}
+use Rattle.zone.specs.declared.record.building_element.HeatFlowDirection.TheVariants.{Horizontal, Upwards, Downwards}
+use Rattle.zone.specs.Record.BuildingElement.{direction_code, is_direction}
+use Rattle.zone.specs.Inner.Kept.{Key, same_elements}
 
 all_none : (test : ℕ → Bool) → all_of 0 0 test ≡ true
 unfolding all_of
 all_none test = refl
 
-all_last : (test : ℕ → Bool) (n : ℕ) → all 0 (suc n) test ≡ (all 0 n test && test n)
-all_last test n =
-    let some : suc n - 0 ≡ suc n = omega arith in
-    let before : n ≡ n - 0 = omega arith in
-    let last : 0 + n ≡ n = omega arith in
-    ap (λ (m : ℕ). all_of m 0 test) some
-    ∙ last_of test n 0
-    ∙ ap (λ (i : ℕ). all_of n 0 test && test i) last
-    ∙ ap (λ (m : ℕ). all_of m 0 test && test n) before
+-- the direction of a code
+abbrev of_code : ℕ → HeatFlowDirection
+of_code zero = Horizontal
+of_code (suc zero) = Upwards
+of_code (suc (suc k)) = Downwards
 
-module _ (key d o : List ℕ) where
-  abbrev alike : ℕ → Bool
-  alike e = eqb (get_or key e 0) (get_or d e 0) && eqb (get_or key (24 + e) 0) (get_or o e 0)
+code_back : (d : HeatFlowDirection) → of_code (direction_code d) ≡ d
+code_back Horizontal = refl
+code_back Upwards = refl
+code_back Downwards = refl
+
+direction_same : (a b : HeatFlowDirection) → is_direction a b ≡ true → b ≡ a
+direction_same a b e = sym (code_back b) ∙ ap of_code (eqb-true _ _ e) ∙ code_back a
+
+-- a test of n pairs of numbers from i on, list by list
+module _ {A : Type 0} (E : A → A → Bool) (d : A) (xs ys : List A) where
+  pairs : (n i : ℕ) → i + n ≤ length xs → i + n ≤ length ys
+      → pointwise E (take n (drop i xs)) (take n (drop i ys)) ≡ all_of n i (λ e. E (get_or xs e d) (get_or ys e d))
+  unfolding all_of
+  pairs zero i h k = refl
+  pairs (suc n) i h k =
+      rw (drop_next xs i d (omega arith), drop_next ys i d (omega arith), add-one i)
+      (ap (λ (b : Bool). E (get_or xs i d) (get_or ys i d) && b) (pairs n (suc i) (omega arith) (omega arith)))
+
+and_swap : (a b c d : Bool) → ((a && b) && (c && d)) ≡ ((a && c) && (b && d))
+and_swap false b c d = refl
+and_swap true true true d = refl
+and_swap true true false d = refl
+and_swap true false true d = refl
+and_swap true false false d = refl
+
+both_of : (p q : ℕ → Bool) (n i : ℕ) → all_of n i (λ e. p e && q e) ≡ (all_of n i p && all_of n i q)
+unfolding all_of
+both_of p q zero i = refl
+both_of p q (suc n) i = ap (λ (b : Bool). (p i && q i) && b) (both_of p q n (suc i)) ∙ and_swap (p i) (q i) (all_of n (suc i) p) (all_of n (suc i) q)
+
+-- a test of two directions that is told case by case
+pub by_cases : (E : HeatFlowDirection → HeatFlowDirection → Bool) →
+    E Horizontal Horizontal ≡ true → E Horizontal Upwards ≡ false → E Horizontal Downwards ≡ false →
+    E Upwards Horizontal ≡ false → E Upwards Upwards ≡ true → E Upwards Downwards ≡ false →
+    E Downwards Horizontal ≡ false → E Downwards Upwards ≡ false → E Downwards Downwards ≡ true →
+    (x y : HeatFlowDirection) → E x y ≡ is_direction y x
+by_cases E hh hu hd uh uu ud dh du dd Horizontal Horizontal = hh
+by_cases E hh hu hd uh uu ud dh du dd Horizontal Upwards = hu
+by_cases E hh hu hd uh uu ud dh du dd Horizontal Downwards = hd
+by_cases E hh hu hd uh uu ud dh du dd Upwards Horizontal = uh
+by_cases E hh hu hd uh uu ud dh du dd Upwards Upwards = uu
+by_cases E hh hu hd uh uu ud dh du dd Upwards Downwards = ud
+by_cases E hh hu hd uh uu ud dh du dd Downwards Horizontal = dh
+by_cases E hh hu hd uh uu ud dh du dd Downwards Upwards = du
+by_cases E hh hu hd uh uu ud dh du dd Downwards Downwards = dd
+
+module _ (key : Key) (d : List HeatFlowDirection) (o : List ℕ) where
+  abbrev pub alike : ℕ → Bool
+  alike e = is_direction (get_or d e Horizontal) (get_or key.0 e Horizontal) && eqb (get_or key.1 e 0) (get_or o e 0)
+
+  abbrev Same : ℕ → Type 0
+  Same e = (get_or key.0 e Horizontal ≡ get_or d e Horizontal) × (get_or key.1 e 0 ≡ get_or o e 0)
 
   -- all are the same
-  pub elements_same : (n : ℕ) → same_elements n key d o ≡ true → (e : ℕ) → e < n → (get_or key e 0 ≡ get_or d e 0) × (get_or key (24 + e) 0 ≡ get_or o e 0)
+  pub elements_same : (n : ℕ) → same_elements n key d o ≡ true → (e : ℕ) → e < n → Same e
   unfolding same_elements
   elements_same zero p e h = absurd (omega arith)
   elements_same (suc n) p e h =
       let le : e ≤ n = omega arith in
       let q = and_true (same_elements n key d o) (alike n) p in
-      let last = and_true (eqb (get_or key n 0) (get_or d n 0)) (eqb (get_or key (24 + n) 0) (get_or o n 0)) q.1 in
-      ⊎_elim (λ z. subst (λ (i : ℕ). (get_or key i 0 ≡ get_or d i 0) × (get_or key (24 + i) 0 ≡ get_or o i 0)) (sym z) (eqb-true _ _ last.0, eqb-true _ _ last.1))
+      let last = and_true (is_direction (get_or d n Horizontal) (get_or key.0 n Horizontal)) (eqb (get_or key.1 n 0) (get_or o n 0)) q.1 in
+      ⊎_elim (λ z. subst Same (sym z) (direction_same _ _ last.0, eqb-true _ _ last.1))
       (λ z. elements_same n q.0 e z) (eq-or-lt_of_le le)
 
--- ---- a key that is two lists, the directions and behind them the open treatments
+  -- element by element
+  pub elements_all : (n : ℕ) → same_elements n key d o ≡ all 0 n alike
+  unfolding same_elements
+  elements_all zero = sym (all_none alike)
+  elements_all (suc n) = rw (elements_all n) (sym (all_last alike 0 n (omega arith)) ∙ ap (λ (m : ℕ). all 0 m alike) (add-one n))
 
-direction_in : (kd ko : List ℕ) (e : ℕ) → length kd ≡ 24 → e < 24 → get_or (kd ++ ko) e 0 ≡ get_or kd e 0
-direction_in kd ko e h l = get_or_append_left kd ko 0 e (omega (arith, h, l))
+  -- array by array
+  lists_same : (n : ℕ) → n ≤ length key.0 → n ≤ length d → n ≤ length key.1 → n ≤ length o
+      → same_elements n key d o ≡ (pointwise (λ x y. is_direction y x) (take n key.0) (take n d) && pointwise eqb (take n key.1) (take n o))
+  lists_same n h0 h1 h2 h3 =
+      let before : n - 0 ≡ n = omega arith in
+      elements_all n
+      ∙ ap (λ (m : ℕ). all_of m 0 alike) before
+      ∙ both_of (λ e. is_direction (get_or d e Horizontal) (get_or key.0 e Horizontal)) (λ e. eqb (get_or key.1 e 0) (get_or o e 0)) n 0
+      ∙ (λ i. sym (pairs (λ x y. is_direction y x) Horizontal key.0 d n 0 (omega (arith, h0)) (omega (arith, h1))) i && sym (pairs eqb 0 key.1 o n 0 (omega (arith, h2)) (omega (arith, h3))) i)
 
-open_behind : (kd ko : List ℕ) (e : ℕ) → length kd ≡ 24 → get_or (kd ++ ko) (24 + e) 0 ≡ get_or ko e 0
-open_behind kd ko e h = subst (λ (k : ℕ). get_or (kd ++ ko) (k + e) 0 ≡ get_or ko e 0) h (get_or-append-add kd ko e 0)
-
--- element by element
-pub elements_all : (kd ko d o : List ℕ) (n : ℕ) → length kd ≡ 24 → n ≤ 24
-    → same_elements n (kd ++ ko) d o ≡ all 0 n (λ e. eqb (get_or kd e 0) (get_or d e 0) && eqb (get_or ko e 0) (get_or o e 0))
-unfolding same_elements
-elements_all kd ko d o zero h small = sym (all_none (λ e. eqb (get_or kd e 0) (get_or d e 0) && eqb (get_or ko e 0) (get_or o e 0)))
-elements_all kd ko d o (suc n) h small =
-    let l : n < 24 = omega arith in
-    rw (direction_in kd ko n h l, open_behind kd ko n h, elements_all kd ko d o n h (omega arith))
-    (sym (all_last (λ e. eqb (get_or kd e 0) (get_or d e 0) && eqb (get_or ko e 0) (get_or o e 0)) n))
-
--- ---- a key that is made
-
-abbrev mark : (d o : List ℕ) → ℕ → ℕ
-mark d o i = cond (ltb i 24) (get_or d i 0) (get_or o (i - 24) 0)
-
-mark_direction : (d o : List ℕ) (i : ℕ) → i < 24 → mark d o i ≡ get_or d i 0
-mark_direction d o i h = rw (lt-ltb i 24 h) refl
-
-mark_open : (d o : List ℕ) (e : ℕ) → mark d o (24 + e) ≡ get_or o e 0
-mark_open d o e =
-    let past : 24 ≤ 24 + e = omega arith in
-    let back : 24 + e - 24 ≡ e = omega arith in
-    rw (le-ltb (24 + e) 24 past, back) refl
-
-pub key_direction : (d o : List ℕ) (e : ℕ) → e < 24 → get_or (key_of d o) e 0 ≡ get_or d e 0
-unfolding key_of
-key_direction d o e h = counted_at (mark d o) 48 e 0 (omega arith) ∙ mark_direction d o e h
-
-pub key_open : (d o : List ℕ) (e : ℕ) → e < 24 → get_or (key_of d o) (24 + e) 0 ≡ get_or o e 0
-unfolding key_of
-key_open d o e h = counted_at (mark d o) 48 (24 + e) 0 (omega arith) ∙ mark_open d o e
-
--- the two halves
-halves : (f g : ℕ → ℕ) → ((e : ℕ) → e < 24 → f e ≡ g e) → ((e : ℕ) → e < 24 → f (24 + e) ≡ g (24 + e)) → (i : ℕ) → i < 48 → f i ≡ g i
-halves f g p q i h = by (ltb i 24) refl
-  where
-    by : (t : Bool) → ltb i 24 ≡ t → f i ≡ g i
-    by true e = p i (ltb-true i 24 e)
-    by false e =
-        let past = ltb-false i 24 e in
-        let back : 24 + (i - 24) ≡ i = omega (arith, past) in
-        subst (λ (j : ℕ). f j ≡ g j) back (q (i - 24) (omega (arith, past)))
-
-pub key_is : (d o : List ℕ) → length d ≡ 24 → length o ≡ 24 → d ++ o ≡ key_of d o
-unfolding key_of
-key_is d o hd ho =
-    let own : ℕ → ℕ = λ i. get_or (d ++ o) i 0 in
-    let long : length (d ++ o) ≡ 48 = omega (arith, length-append d o, hd, ho) in
-    sym (take_all 48 (d ++ o) (omega (arith, long)))
-    ∙ run (d ++ o) 0 0 48 (omega (arith, long))
-    ∙ counted_same (mark d o) own 0 48
-    (λ i _ l.
-    halves own (mark d o)
-    (λ e p. direction_in d o e hd p ∙ sym (mark_direction d o e p))
-    (λ e p. open_behind d o e hd ∙ sym (mark_open d o e)) i l)
+  -- as the code compares them
+  pub same_told : (E : HeatFlowDirection → HeatFlowDirection → Bool) → ((x y : HeatFlowDirection) → E x y ≡ is_direction y x)
+      → (m n : ℕ) → m ≡ n → m ≤ length key.0 → m ≤ length d → m ≤ length key.1 → m ≤ length o
+      → (x y : Bool) → x ≡ pointwise E (take m key.0) (take m d) → y ≡ pointwise eqb (take m key.1) (take m o) → same_elements n key d o ≡ (x && y)
+  same_told E E_is m n c h0 h1 h2 h3 x y x_is y_is =
+      ap (λ (k : ℕ). same_elements k key d o) (sym c)
+      ∙ lists_same m h0 h1 h2 h3
+      ∙ (λ i. pointwise (λ x y. sym (E_is x y) i) (take m key.0) (take m d) && sym y_is i)
+      ∙ ap (λ (b : Bool). b && y) (sym x_is)

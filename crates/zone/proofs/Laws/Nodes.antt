@@ -1,21 +1,22 @@
 -- Node order to slots and back.
 use mathlib.Core.Path.{◌≡◌, refl, sym, subst, ◌∙◌}
-use mathlib.Core.Logic.{⊎_elim, ◌⊎◌, inl, inr}
+use mathlib.Core.Logic.{⊎_elim}
 use mathlib.Core.Bool.{Bool, true, false, cond}
 use mathlib.Core.List.{List}
 use Prim.Native.Nat.{ℕ, zero, suc, ◌+◌, ◌-◌, ◌*◌, ◌≤◌, ◌<◌}
+use Rattle.std.proofs.lemmas.Bool.{cases_lt}
 use native.Mathlib.Nat.{eq-or-lt_of_le}
 use native.Mathlib.Numerals.{add-one}
 use native.Mathlib.Omega.{arith}
-use lib.Dec.{ltb}
-use lib.ListN.{length, get_or, replicate, length-set, length-replicate}
+use lib.ListN.{length, get_or, replicate, get_or-replicate, length-set, length-replicate}
 use lib.Seq.{get_or-set_same, get_or-set_other, ext_get_or}
 use lib.Ieee.{Float, nan}
-use borrow.Author.Tests.{ltb-true, ltb-false}
+use borrow.Author.Tests.{le-ltb}
 use Rattle.solver.specs.F64.{zero64}
 use Rattle.solver.specs.Repeat.{repeat}
 use Rattle.solver.specs.Chain.{outer_slot}
 use Rattle.solver.specs.FastSolver.{at_most24}
+pub use Rattle.solver.proofs.Laws.Together.{at_most as at_most_24_le}
 use Rattle.zone.specs.Physics.NodeLayout.{nodes_at, first_node, to_slots_at, to_nodes_at, to_slots, to_nodes}
 use Rattle.zone.proofs.Laws.Blocks.{blocks_length, blocks_other, blocks_at, apart}
 
@@ -32,24 +33,8 @@ slot_by : (e : ℕ) (b : Bool) → 5 * e + cond b 3 0 ≤ 5 * e + 3
 slot_by e true = omega arith
 slot_by e false = omega arith
 
-at_most_le : (n : ℕ) (b : Bool) → ltb 24 n ≡ b → cond b 24 n ≤ 24
-at_most_le n true h = omega arith
-at_most_le n false h = ltb-false 24 n h
-
-pub at_most_24_le : (n : ℕ) → at_most24 n ≤ 24
-at_most_24_le n = at_most_le n (ltb 24 n) refl
-
-order_by : (a b : ℕ) (x : Bool) → ltb a b ≡ x → (a < b) ⊎ (b ≤ a)
-order_by a b true h = inl (ltb-true a b h)
-order_by a b false h = inr (ltb-false a b h)
-
-order : (a b : ℕ) → (a < b) ⊎ (b ≤ a)
-order a b = order_by a b (ltb a b) refl
-
-zeros_at : (n q : ℕ) → q < n → get_or (replicate n zero64) q nan ≡ zero64
-zeros_at zero q h = absurd (omega arith)
-zeros_at (suc n) zero h = refl
-zeros_at (suc n) (suc q) h = zeros_at n q (omega arith)
+pub at_most_twice : (n : ℕ) → at_most24 (at_most24 n) ≡ at_most24 n
+at_most_twice n = rw (le-ltb 24 (at_most24 n) (at_most_24_le n)) refl
 
 module _ (two_nodes : List Bool) where
   pub nodes_are : (e : ℕ) → nodes_at two_nodes e ≡ cond (get_or two_nodes e false) 2 5
@@ -91,7 +76,7 @@ module _ (two_nodes : List Bool) where
       ⊎_elim
       (λ l. let r = located n q l in (r.0, r.1, omega (arith, r.2), r.3, r.4))
       (λ l. (n, q - first_node two_nodes n, omega arith, omega arith, omega arith))
-      (order q (first_node two_nodes n))
+      (cases_lt q (first_node two_nodes n))
 
   module _ (count : ℕ) where
     -- where the nodes stand once they are in slots
@@ -159,7 +144,7 @@ module _ (two_nodes : List Bool) where
         let before : first_node two_nodes e + nodes_at two_nodes e ≤ first_node two_nodes n =
         apart (nodes_at two_nodes) (outer_slot two_nodes) (first_node two_nodes) s nodes_up e n (omega arith) in
         omega arith)
-        ∙ zeros_at 121 q hq
+        ∙ get_or-replicate 121 q zero64 nan hq
 
     -- node order to slots and back gives each node's temperature again
     nodes_again : (t : List Float) (q : ℕ) → q ≤ first_node two_nodes (at_most24 count)
@@ -185,7 +170,7 @@ module _ (two_nodes : List Bool) where
         ⊎_elim
         (λ l. to_nodes_behind (to_slots count two_nodes t) q l small ∙ sym (clean q l small))
         (λ l. nodes_again t q l)
-        (order (first_node two_nodes (at_most24 count)) q))
+        (cases_lt (first_node two_nodes (at_most24 count)) q))
 
     -- slots to node order and back gives the temperature of each slot that a node has
     pub slots_again : (s : List Float) (e j : ℕ) → e < at_most24 count → j < nodes_at two_nodes e

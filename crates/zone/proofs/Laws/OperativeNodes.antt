@@ -4,21 +4,21 @@ use mathlib.Core.Path.{◌≡◌, sym, ap, ◌∙◌}
 use mathlib.Core.Bool.{Bool}
 use mathlib.Core.List.{List}
 use native.Mathlib.Omega.{arith}
-use lib.ListN.{get_or}
+use lib.ListN.{get_or, take, replicate}
 use lib.Ieee.{Float, nan}
-use Rattle.solver.specs.F64.{◌*ᶠ◌, ◌/ᶠ◌}
+use Rattle.solver.specs.F64.{◌*ᶠ◌, ◌/ᶠ◌, zero64}
 use Rattle.solver.specs.Sums.{sum2, terms}
 use Rattle.solver.specs.Chain.{outer_slot}
 use Rattle.solver.specs.FastSolver.{at_most24}
 use Rattle.zone.specs.declared.record.zone_record.Zone.{Zone}
 use Rattle.zone.specs.Calls.State.{operative_of}
-use Rattle.zone.specs.Physics.System.{zone_two_nodes}
+use Rattle.zone.specs.Physics.System.{area_of, zone_two_nodes}
 use Rattle.zone.specs.Physics.NodeLayout.{nodes_at, first_node, to_slots}
-use Rattle.zone.specs.Physics.TempOperative.{mean_of, temp_operative}
+use Rattle.zone.specs.Physics.TempOperative.{mean_of}
 use Rattle.zone.specs.Inner.Assembly.{at}
 use Rattle.zone.specs.Inner.Operative.{radiant_at, radiant_of_nodes, temp_operative_of, areas_of}
-use Rattle.zone.proofs.Laws.Nodes.{first_next, slot_le, to_slots_at_lem, to_slots_air}
-use Rattle.zone.proofs.Laws.Agree.{sum2_same}
+use Rattle.zone.proofs.Laws.Nodes.{at_most_24_le, first_next, slot_le, to_slots_at_lem, to_slots_air}
+use Rattle.zone.proofs.Laws.Agree.{Agree, stored, sum2_same}
 use Rattle.zone.proofs.Laws.Zones.{operative_from}
 
 -- the inner surface of element e, the last of its nodes, in slots
@@ -33,22 +33,30 @@ inner_at two count temps e h =
     ∙ sym (to_slots_at_lem two count temps e (n - 1) h (omega (arith, l)))
     ∙ ap (λ (i : ℕ). get_or (to_slots count two temps) i nan) slot
 
-module _ (z : Zone) (temps : List Float) (two : List Bool) (two_is : two ≡ zone_two_nodes z) (area : List Float) (area_is : area ≡ areas_of z)
-    (n : ℕ) (n_is : n ≡ at_most24 z.count) (total : Float) (total_is : total ≡ sum2 (terms 0 n (at area))) where
+module _ (z : Zone) (temps area : List Float) (area_is : area ≡ areas_of z) (n : ℕ) (n_is : n ≡ at_most24 z.count)
+    (total : Float) (total_is : total ≡ sum2 (take n area)) where
+  abbrev m : ℕ
+  m = at_most24 z.count
+
+  abbrev two : List Bool
+  two = zone_two_nodes z
+
   abbrev slots : List Float
   slots = to_slots z.count two temps
 
-  radiant_is : sum2 (terms 0 n (radiant_of_nodes (at area) two temps)) ≡ sum2 (terms 0 n (radiant_at (at area) slots))
-  radiant_is = sum2_same n (radiant_of_nodes (at area) two temps) (radiant_at (at area) slots) (λ e h. ap (λ (x : Float). at area e *ᶠ x) (inner_at two z.count temps e (rw n_is at h)))
+  area_at : Agree m (at area) (area_of z.building_elements)
+  unfolding areas_of
+  area_at = stored m (area_of z.building_elements) area (replicate 24 zero64) area_is (at_most_24_le z.count)
 
-  air_is : get_or temps (first_node two n) nan ≡ get_or slots 120 nan
-  air_is = ap (λ (m : ℕ). get_or temps (first_node two m) nan) n_is ∙ sym (to_slots_air two z.count temps)
+  radiant_is : sum2 (terms 0 m (radiant_of_nodes (area_of z.building_elements) two temps)) ≡ sum2 (terms 0 m (radiant_at (at area) slots))
+  radiant_is =
+      sum2_same m (radiant_of_nodes (area_of z.building_elements) two temps) (radiant_at (at area) slots)
+      (λ e h. rw (area_at e h) (ap (λ (x : Float). area_of z.building_elements e *ᶠ x) (inner_at two z.count temps e h)))
 
   -- from the sum of the nodes and the node of the air
-  pub operative_of_nodes : (sum : Float) → sum ≡ sum2 (terms 0 n (radiant_of_nodes (at area) two temps)) → (node : ℕ) → node ≡ first_node two n
+  pub operative_of_nodes : (sum : Float) → sum ≡ sum2 (terms 0 m (radiant_of_nodes (area_of z.building_elements) two temps)) → (node : ℕ) → node ≡ first_node two m
       → mean_of (get_or temps node nan) (sum /ᶠ total) ≡ operative_of z temps
   unfolding operative_of temp_operative_of
   operative_of_nodes sum sum_is_lem node node_is =
-      (λ i. mean_of ((ap (λ (m : ℕ). get_or temps m nan) node_is ∙ air_is) i) ((sum_is_lem ∙ radiant_is ∙ ap (λ (m : ℕ). sum2 (terms 0 m (radiant_at (at area) slots))) n_is) i /ᶠ total))
+      (λ i. mean_of ((ap (λ (k : ℕ). get_or temps k nan) node_is ∙ sym (to_slots_air two z.count temps)) i) ((sum_is_lem ∙ radiant_is) i /ᶠ total))
       ∙ operative_from z area n total slots area_is n_is total_is
-      ∙ ap (λ (t : List Bool). temp_operative z (to_slots z.count t temps)) two_is

@@ -16,10 +16,9 @@ use Rattle.zone.specs.declared.format.conditions.AirChangesPerHourArgument.TheVa
 use Rattle.zone.specs.declared.calls.state.Demand.{Demand}
 use Rattle.zone.specs.declared.hour.windows.VentilationChoice.{VentilationChoice}
 use Rattle.zone.specs.declared.hour.load.HeatCoolLoad.{HeatCoolLoad}
-use Rattle.zone.specs.declared.hour.load.HeatCoolLoad.TheVariants.{NoLoad, Toward}
 use Rattle.zone.specs.declared.hour.hour.Meeting.{Meeting}
 use Rattle.zone.specs.declared.hour.hour.Asked.{Asked}
-use Rattle.zone.specs.declared.hour.hour.MetLoad.{MetLoad}
+use Rattle.zone.specs.declared.hour.time_step.HeatCoolGains.{HeatCoolGains}
 use Rattle.zone.specs.Record.BuildingElement.{standard_coefficients}
 use Rattle.zone.specs.Physics.Slots.{air}
 use Rattle.zone.specs.Physics.System.{area_el_total}
@@ -140,14 +139,14 @@ module _ (z : Zone) (t : List Float) (h : Conditions) where
       (hands (ventilated (control free) target None) k)
 
   -- `demand_for_load`, by the last column of the chosen rate
-  loaded_at : (v : VentilationChoice) (w : HeatCoolLoad) → rate_valid p (last (chosen v)) ≡ true →
+  loaded_at : (v : VentilationChoice) (w : Option HeatCoolLoad) → rate_valid p (last (chosen v)) ≡ true →
       loaded_demand p z.volume control h v w (last (chosen v)) ≡ demand_for_load standard_coefficients z t h v w
   unfolding loaded_demand demand_for_load
-  loaded_at v NoLoad k = refl
-  loaded_at v (Toward setpoint load fraction) k = rw (load_at z t h (gains_upper h load) (frac_upper h load fraction) (chosen v) k) refl
+  loaded_at v None k = refl
+  loaded_at v (Some w) k = rw (load_at z t h (gains_upper h w.load) (frac_upper h w.load w.fraction) (chosen v) k) refl
 
   -- its rate is the chosen one
-  demanded_at : (v : VentilationChoice) (w : HeatCoolLoad) → rate_valid p (last (chosen v)) ≡ true →
+  demanded_at : (v : VentilationChoice) (w : Option HeatCoolLoad) → rate_valid p (last (chosen v)) ≡ true →
       Handed demand_rate (bind (loaded_demand p z.volume control h v w (last (chosen v))) (λ d. ok (d, last (chosen v)))) (demand_for_load standard_coefficients z t h v w)
   demanded_at v w k = rw (loaded_at v w k) (by (demand_for_load standard_coefficients z t h v w) refl)
     where
@@ -183,10 +182,10 @@ module _ (z : Zone) (t : List Float) (h : Conditions) where
   prepared_demand = handed_is demand_rate _ _ demand_at
 
   -- the last calculation
-  met_at : (d : Demand) (m : MetLoad) (before : List Float) → rate_valid p (last d.ach_cooling) ≡ true →
+  met_at : (d : Demand) (m : Option HeatCoolGains) (before : List Float) → rate_valid p (last d.ach_cooling) ≡ true →
       met_in p z.volume d (last d.ach_cooling) m before ≡ met_with z t h d m before
-  met_at d MetLoad.NoLoad before k = refl
-  met_at d (MetLoad.Load gains fraction) before k = load_at z t h gains fraction d.ach_cooling k
+  met_at d None before k = refl
+  met_at d (Some g) before k = load_at z t h g.gains_heat_cool g.f_hc_c d.ach_cooling k
 
   met_solved : (meeting : Meeting) (before : List Float) →
       demand_met_in p z.volume control h z.useful_area meeting before ≡ demand_solved z t h meeting before
@@ -195,14 +194,14 @@ module _ (z : Zone) (t : List Float) (h : Conditions) where
       handed_same demand_rate (demand_in p z.volume control h z.useful_area) (space_heat_cool_demand standard_coefficients z t h) _ _ demand_at
       (λ d k. rw (met_at d (met_load h d meeting) before k) refl)
 
-  update_solved_lem : (gains fraction ach : Float) → update_in p z.volume gains fraction ach ≡ update_solved z t h gains fraction ach
+  update_solved_lem : (g : HeatCoolGains) (ach : Float) → update_in p z.volume g ach ≡ update_solved z t h g ach
   unfolding update_in update_solved
-  update_solved_lem gains fraction ach = handed_same (λ _. ach) _ _ _ _ (solved_at gains fraction ach) (λ x k. refl)
+  update_solved_lem g ach = handed_same (λ _. ach) _ _ _ _ (solved_at g.gains_heat_cool g.f_hc_c ach) (λ x k. refl)
 
   pub asked_solved : (asked : Asked) (before : List Float) →
       answer_in p z.volume control h z.useful_area asked before ≡ hour_solved z t h asked before
   asked_solved (Asked.Demand meeting) before = met_solved meeting before
-  asked_solved (Asked.Update gains fraction ach) before = update_solved_lem gains fraction ach
+  asked_solved (Asked.Update g ach) before = update_solved_lem g ach
 
 -- from the areas of its elements
 pub answer_solved : (z : Zone) (t : List Float) (h : Conditions) (area : List Float) (total : Float) →

@@ -1,19 +1,19 @@
 -- Why a solve and a demand are refused; and what the tests, a demand, a step and a pass of start-up are refused with, by every family that allows
 -- what they are made of.
-use Prim.Native.Nat.{ℕ, ◌*◌}
+use Rattle.std.specs.Prelude.{Option, Some, None}
+use Prim.Native.Nat.{ℕ}
 use mathlib.Core.Path.{◌≡◌, refl, sym, ◌∙◌}
 use mathlib.Core.Bool.{Bool, true, false, cond, not, ◌&&◌}
 use mathlib.Core.List.{List}
-use native.Mathlib.Omega.{arith}
-use borrow.Author.Tests.{le-ltb}
 use lib.Dec.{eqb}
 use lib.ListN.{take}
-use lib.Ieee.{Float, nan, inf, fin, up, down, ne, lt}
+use lib.Ieee.{Float, ne, lt}
 use Rattle.solver.specs.F64.{◌-ᶠ◌, zero64}
 use Rattle.solver.specs.Closeness.{close_in_demand}
 use Rattle.solver.specs.FastSolver.{all_divisors_valid, temperatures_of, temperatures_valid, solve}
 use Rattle.solver.specs.Result.{Result, ok, bind, require, require_at}
 use Rattle.solver.specs.Refusals.{RefusesOnly, accepts, refuses, SolveRefusal, solve_divisor, solve_temperature}
+use Rattle.solver.proofs.Laws.Order.{lt_irreflexive}
 use Rattle.solver.proofs.Laws.Signs.{never}
 use Rattle.solver.proofs.Laws.Refusals.{bind_refuses, require_refuses, refuses_also, test_refuses}
 use Rattle.zone.specs.declared.record.building_element.Coefficients.{Coefficients}
@@ -29,7 +29,6 @@ use Rattle.zone.specs.Physics.CalcTemperatures.{calc_temperatures}
 use Rattle.zone.specs.declared.calls.state.State.{State}
 use Rattle.zone.specs.declared.hour.windows.VentilationChoice.{VentilationChoice}
 use Rattle.zone.specs.declared.hour.load.HeatCoolLoad.{HeatCoolLoad}
-use Rattle.zone.specs.declared.hour.load.HeatCoolLoad.TheVariants.{NoLoad, Toward}
 use Rattle.zone.specs.Calls.State.{all_within_state_bound, state_test, zone_and_state_test, slots_of}
 use Rattle.zone.specs.Calls.Hour.{tested_hour, tested, hour_version, limits_valid, tested_hour_and_limits, tested_step, step}
 use Rattle.zone.specs.Physics.Slots.{air}
@@ -127,13 +126,13 @@ module _ (c : Coefficients) (z : Zone) (t : List Float) (h : Conditions) where
       (λ u. bind_refuses _ (solves b (between e o f v u)) λ extra _. accepts _) λ _. accepts _)
       λ _. accepts _
 
-  towards_reasons : SetpointsPass h → (free : List Float) (v : VentilationChoice) (w : HeatCoolLoad) → free_temperatures c z t h (ach_target h.ach_args) ≡ ok free
+  towards_reasons : SetpointsPass h → (free : List Float) (v : VentilationChoice) (w : Option HeatCoolLoad) → free_temperatures c z t h (ach_target h.ach_args) ≡ ok free
       → calc_cooling_potential_from_ventilation c z t h free h.ach_args ≡ ok v → wanted z.useful_area h v.temp_free ≡ w
       → RefusesOnly (DemandReason c z t h) (demand_for_load c z t h v w)
   unfolding demand_for_load interp_heat_cool_demand
-  towards_reasons b free v NoLoad f e w = accepts _
-  towards_reasons b free v (Toward setpoint load fraction) f e w =
-      let tried : Tried c z t h v setpoint load fraction = record { free = free; solved = f; chosen = e; towards = w } in
+  towards_reasons b free v None f e w = accepts _
+  towards_reasons b free v (Some w) f e wanted_is =
+      let tried : Tried c z t h v w = record { free = free; solved = f; chosen = e; towards = wanted_is } in
       bind_refuses _ (solves b (loaded tried)) λ upper u.
       bind_refuses _ (unless_refuses (close_in_demand (control_temperature z upper -ᶠ v.temp_free) zero64) 14 _ (λ k. by_no_effect b tried u k) λ _. accepts _) λ kwh _.
       accepts _
@@ -173,15 +172,6 @@ module _ {P : ℕ → ℕ → Type 0} (by_solve : (n i : ℕ) → SolveRefusal n
       bind_refuses _ (refuses_also solve_number (solve_reasons c z (slots_of z s) h gains fraction ach)) λ t _.
       accepts _
 
--- no float is below itself
-lt_itself : (x : Float) → lt x x ≡ false
-unfolding lt
-lt_itself nan = refl
-lt_itself (inf true) = refl
-lt_itself (inf false) = refl
-lt_itself (fin true m e) = le-ltb (m * up e * down e) (m * up e * down e) (omega arith)
-lt_itself (fin false m e) = le-ltb (m * up e * down e) (m * up e * down e) (omega arith)
-
 -- a pass of start-up: not 10, its two setpoints are one
 pub pass_refuses :
     {P : ℕ → ℕ → Type 0} → P Number.ventilation_below_heating 0 → ((n i : ℕ) → SolveRefusal n i → P n i) → P Number.no_effect 0
@@ -192,4 +182,4 @@ pass_refuses {P} eleven by_solve fourteen c z t =
     refuses_also (solve_number by_solve c z) (solve_reasons c z t (start_up_conditions z) _ _ _)
   where
     no_ten : lt z.temp_setpnt_init z.temp_setpnt_init ≡ true → P Number.cooling_below_heating 0
-    no_ten e = never (sym (lt_itself z.temp_setpnt_init) ∙ e)
+    no_ten e = never (sym (lt_irreflexive z.temp_setpnt_init) ∙ e)

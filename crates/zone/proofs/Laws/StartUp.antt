@@ -1,20 +1,12 @@
 -- Start-up: when its temperatures are close, its passes, and what is left of them.
 use Rattle.std.specs.Prelude.{None}
-use mathlib.Core.Logic.{⊎_elim}
 use mathlib.Core.Path.{◌≡◌, refl, sym, ap, subst, ◌∙◌}
 use lib.Dec.{T}
 use mathlib.Core.Bool.{true, false, not, ◌&&◌}
-use mathlib.Core.List.{List, [], ◌∷◌, map}
+use mathlib.Core.List.{List, [], ◌∷◌}
 use Prim.Native.Nat.{ℕ, ◌+◌, ◌-◌, ◌<◌, ◌≤◌}
 use native.Mathlib.Omega.{arith}
-use native.Mathlib.Nat.{eq-or-lt_of_le}
-use lib.ListN.{length, get_or, set, length-map}
-use lib.Seq.{get_or-set_same, get_or-set_other}
 use lib.Ieee.{Float, lt}
-use Rattle.std.proofs.lemmas.List.{ext_get_or, get_or-map}
-use Rattle.zone.specs.declared.record.building_element.Element.{Element}
-use Rattle.zone.specs.declared.record.building_element.ElementHour.{ElementHour}
-use Rattle.zone.specs.Format.Decode.{no_element, no_element_hour}
 use Rattle.std.specs.Prelude.{Ok, Err}
 use Rattle.std.specs.Prelude as Rust
 use Rattle.std.specs.List.{list_all, zip}
@@ -35,32 +27,13 @@ use Rattle.zone.specs.declared.calls.state.State.{State}
 use Rattle.zone.specs.Calls.State.{state_of}
 use Rattle.zone.specs.Hour.Demand.{ach_target, control_temperature, free_temperatures, temperatures_with, ventilated, calc_cooling_potential_from_ventilation, wanted, space_heat_cool_demand}
 use Rattle.zone.specs.Calls.Hour.{delivered}
-use Rattle.zone.specs.Calls.StartUp.{first_hour, start_up_conditions, all_close, pass, settle}
+use Rattle.zone.specs.Calls.StartUp.{start_up_conditions, all_close, pass, settle}
 use Rattle.zone.specs.declared.hour.hour.Meeting.TheVariants.{Alone}
 use Rattle.zone.specs.declared.hour.hour.Asked.TheVariants as Asked
 use Rattle.zone.specs.Answers.{answered_with}
 use Rattle.zone.specs.Inner.Hour.{demand_solved, hour_solved, ends, settled_state}
 use Rattle.zone.proofs.Laws.Demand.{towards_rate}
 use Rattle.zone.specs.Record.Numbers as Number
-
--- ---- the first hours
-
--- one more is stored
-pub first_hours_next : (es : List Element) (hours : List ElementHour) (i : ℕ) (first : ElementHour) → i < length hours → first ≡ (get_or es i no_element).first_hour
-    → ((j : ℕ) → j < i → get_or hours j no_element_hour ≡ (get_or es j no_element).first_hour)
-    → (j : ℕ) → j < i + 1 → get_or (set hours i first) j no_element_hour ≡ (get_or es j no_element).first_hour
-first_hours_next es hours i first few read same j h =
-    ⊎_elim
-    (λ e. subst (λ (k : ℕ). get_or (set hours i first) k no_element_hour ≡ (get_or es k no_element).first_hour) (sym e)
-    (get_or-set_same hours i first no_element_hour few ∙ read))
-    (λ l. get_or-set_other hours i j first no_element_hour (λ z. omega arith) ∙ same j l)
-    (eq-or-lt_of_le (let le : j ≤ i = omega arith in le))
-
-pub first_hours : (es : List Element) (hours : List ElementHour) → length es ≡ 24 → length hours ≡ 24
-    → ((i : ℕ) → i < 24 → get_or hours i no_element_hour ≡ (get_or es i no_element).first_hour) → hours ≡ map first_hour es
-first_hours es hours p q same =
-    ext_get_or no_element_hour hours (map first_hour es) (q ∙ sym (length-map es first_hour ∙ p))
-    (λ i h. same i (rw q at h) ∙ sym (get_or-map first_hour es i no_element no_element_hour (let few : i < 24 = rw q at h in rw p few)))
 
 -- ---- the comparison of two vectors, as an iterator's `all` makes it
 

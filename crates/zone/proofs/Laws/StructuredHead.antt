@@ -118,9 +118,6 @@ bind_same (refused a b) = refl
 pub head_as_tested : (bs : List ℕ) → head_of bs ≡ bind (structured_head bs) (λ h. bind (zone_test h.zone) (λ _. ok h))
 head_as_tested bs = sym (bind_same (head_of bs)) ∙ head_then_test ok bs
 
-pub head_wrong : (bs : List ℕ) (a b : ℕ) → structured_head bs ≡ refused a b → head_of bs ≡ refused a b
-head_wrong bs a b e = head_as_tested bs ∙ rw e
-
 module _ (bs : List ℕ) (h : ReadHead Zone) (e : structured_head bs ≡ ok h) where
   pub head_fails : (a b : ℕ) → zone_test h.zone ≡ refused a b → head_of bs ≡ refused a b
   head_fails a b f = head_as_tested bs ∙ rw (e, f)

@@ -7,7 +7,6 @@ use native.Mathlib.Omega.{arith}
 use lib.ListN.{get_or, set, replicate}
 use lib.Seq.{get_or-set_other, set_comm}
 use lib.Ieee.{Float, nan}
-use borrow.Author.Tests.{le-ltb}
 use Rattle.solver.specs.F64.{◌+ᶠ◌, zero64}
 use Rattle.solver.specs.Repeat.{repeat_of}
 use Rattle.solver.specs.FastSolver.{at_most24}
@@ -24,7 +23,7 @@ use Rattle.zone.specs.Physics.System.{zone_two_nodes, rows_at, couplings, matrix
 use Rattle.zone.specs.Inner.Assembly.{Chains, chains, set_rows, element_rows, element_right_sides, couple_row, add_gains, with_gains}
 use Rattle.zone.specs.Inner.Assembled.{convective_sum, element_chains, couplings_of, element_sides, zone_terms_of, assembled, assembled_with, assemble, dense_with, right_side_with, assemble_step, matrix_of, right_side_of}
 use Rattle.zone.proofs.Laws.Terms.{repeat_same}
-use Rattle.zone.proofs.Laws.Nodes.{at_most_24_le}
+use Rattle.zone.proofs.Laws.Nodes.{at_most_twice}
 
 -- three lists that a loop writes together
 chains_apart : (rows : ℕ → Rows) (k i : ℕ) (diag next prev : List Float)
@@ -34,9 +33,6 @@ unfolding repeat_of set_rows
 chains_apart rows zero i diag next prev = refl
 chains_apart rows (suc k) i diag next prev =
     chains_apart rows k (suc i) (set_slots i (rows i).diag diag) (set_slots i (rows i).next next) (set_slots i (rows i).prev prev)
-
-at_most_24_again : (n : ℕ) → at_most24 (at_most24 n) ≡ at_most24 n
-at_most_24_again n = rw (le-ltb 24 (at_most24 n) (at_most_24_le n)) refl
 
 -- two loops in one, where a turn of the second leaves alone what later turns of the first write
 module _ {A : Type 0} (f g : ℕ → A → A) (apart : (i j : ℕ) → i < j → (s : A) → g i (f j s) ≡ f j (g i s)) where
@@ -110,7 +106,7 @@ module _ (c : Coefficients) (z : Zone) (temp_prev : List Float) (hour : Conditio
 
   pub matrix_is : (h_ve : Float) → matrix_of (assemble_step c z temp_prev hour delta_t) h_ve ≡ matrix_a c z temp_prev hour delta_t h_ve
   unfolding matrix_a dense_with couplings_of convective_sum couple_row couplings
-  matrix_is h_ve = rw (step_is, at_most_24_again) refl
+  matrix_is h_ve = rw (step_is, at_most_twice) refl
 
   pub right_side_is : (gains_heat_cool f_hc_c h_ve : Float)
       → right_side_of (assemble_step c z temp_prev hour delta_t) h_ve gains_heat_cool f_hc_c ≡ vector_b c z temp_prev hour delta_t gains_heat_cool f_hc_c h_ve
@@ -120,7 +116,7 @@ module _ (c : Coefficients) (z : Zone) (temp_prev : List Float) (hour : Conditio
       let x = gains_per_area c z temp_prev hour delta_t gains_heat_cool f_hc_c in
       let sides : ℕ → List Float = λ e. right_sides_of (element z.building_elements e) delta_t (element_hour hour.elements e) (element_slots temp_prev e) in
       let f : ℕ → List Float → List Float = λ e. set_slots e (sides e) in
-      rw (step_is, at_most_24_again)
+      rw (step_is, at_most_twice)
       (ap (λ (b : List Float). set b 120 (zone_right_side c z temp_prev hour delta_t gains_heat_cool f_hc_c h_ve))
       (both f (add_gains x) (λ i j h s. slots_apart x i j h (sides j) s) (n - 0) 0 (replicate 121 zero64)
       ∙ repeat_same (λ e s. add_gains x e (f e s)) (λ e. set_slots e (right_sides_at c z temp_prev hour delta_t gains_heat_cool f_hc_c e)) n (replicate 121 zero64)

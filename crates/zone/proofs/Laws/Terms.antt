@@ -4,13 +4,16 @@ use mathlib.Core.Logic.{⊎_elim}
 use mathlib.Core.List.{List, ◌∷◌}
 use Prim.Native.Nat.{ℕ, zero, suc, ◌+◌, ◌-◌, ◌≤◌, ◌<◌}
 use native.Mathlib.Nat.{eq-or-lt_of_le}
+use native.Mathlib.Numerals.{add-one}
 use native.Mathlib.Omega.{arith}
-use lib.ListN.{length, get_or, set, length-set}
+use lib.ListN.{length, get_or, set, take, drop, length-set}
 use lib.Seq.{get_or-set_same, get_or-set_other}
-use lib.Ieee.{Float}
+use lib.Ieee.{Float, nan}
 use Rattle.solver.specs.Repeat.{repeat_of, repeat}
-use Rattle.solver.specs.Sums.{terms_of, terms}
-use Rattle.zone.specs.Physics.Slots.{with_terms}
+use Rattle.solver.specs.Sums.{sum2, terms_of, terms}
+use Rattle.solver.proofs.Laws.Parts.{drop_next}
+use Rattle.zone.specs.Physics.Slots.{set_term, with_terms}
+use Rattle.zone.specs.Inner.Assembly.{at}
 
 module _ {A : Type 0} (f g : ℕ → A → A) where
   same_of : (k i : ℕ) (s : A) → ((j : ℕ) → j < i + k → (s : A) → f j s ≡ g j s) → repeat_of k i f s ≡ repeat_of k i g s
@@ -74,8 +77,28 @@ module _ {A : Type 0} (place : ℕ → ℕ) (f : ℕ → A) (d : A) where
       (λ z. store_at k (suc i) (set l (place i) (f i)) e (omega arith) (omega arith) (simp length-set hl) differ)
       (eq-or-lt_of_le h)
 
+module _ {A : Type 0} (f : ℕ → A) where
+  pub terms_length : (n : ℕ) (l : List A) → length (with_terms n f l) ≡ length l
+  unfolding with_terms
+  terms_length n l = repeat_length (set_term f) (λ j l. length-set l j (f j)) (n - 0) 0 l
+
 module _ {A : Type 0} (f : ℕ → A) (d : A) where
   -- a place below n
   pub terms_at : (n : ℕ) (l : List A) (e : ℕ) → e < n → n ≤ length l → get_or (with_terms n f l) e d ≡ f e
   unfolding with_terms
   terms_at n l e h hl = store_at (λ (j : ℕ). j) f d (n - 0) 0 l e (omega arith) (omega arith) (omega arith) (λ j a b. omega arith)
+
+-- the first numbers of a list as terms
+terms_first : (l : List Float) (k i : ℕ) → i + k ≤ length l → take k (drop i l) ≡ terms_of k i (at l)
+unfolding terms_of
+terms_first l zero i h = refl
+terms_first l (suc k) i h = rw (drop_next l i nan (omega (arith, h))) (ap (λ (t : List Float). at l i ∷ t) (ap (λ (j : ℕ). take k (drop j l)) (add-one i) ∙ terms_first l k (suc i) (omega (arith, h))))
+
+pub terms_take : (l : List Float) (n : ℕ) → n ≤ length l → take n l ≡ terms 0 n (at l)
+terms_take l n h = let e : n - 0 ≡ n = omega arith in rw e (terms_first l n 0 (omega (arith, h)))
+
+-- the sum of the first n numbers of an array that a loop filled
+pub total_stored : (n : ℕ) (f : ℕ → Float) (a l : List Float) (x : Float) → a ≡ with_terms n f l → n ≤ length l → x ≡ sum2 (take n a) → x ≡ sum2 (terms 0 n (at a))
+total_stored n f a l x s h e =
+    let whole : length a ≡ length l = ap (λ (t : List Float). length t) s ∙ terms_length f n l in
+    e ∙ ap (λ (t : List Float). sum2 t) (terms_take a n (omega (arith, whole, h)))

@@ -40,9 +40,9 @@ use Rattle.zone.specs.Physics.System.{zone_two_nodes, rows_at, h_ci_at, share_of
 use Rattle.zone.specs.Physics.Ventilation.{calc_vent_heat_transfer_coeff}
 use Rattle.zone.specs.Physics.CalcTemperatures.{calc_temperatures}
 use Rattle.zone.proofs.Laws.Terms.{repeat_length, store_other, store_at}
-use Rattle.zone.proofs.Laws.Nodes.{at_most_24_le}
+use Rattle.zone.proofs.Laws.Nodes.{at_most_24_le, at_most_twice}
 use Rattle.zone.proofs.Laws.Zones.{two_nodes_at}
-use Rattle.zone.proofs.Laws.Bound.{all_at, at_most_twice}
+use Rattle.zone.proofs.Laws.Bound.{all_at}
 
 -- ---- a diagonal that is made of zeros
 

@@ -3,9 +3,10 @@ use Prim.Native.Nat.{ℕ, min}
 use mathlib.Core.Path.{◌≡◌, refl, ◌∙◌}
 use mathlib.Core.Bool.{Bool, true, false, cond, not, ◌&&◌}
 use mathlib.Core.List.{List}
+use lib.ListN.{take}
 use lib.Ieee.{Float, lt, eq}
 use Rattle.solver.specs.Result.{Result, ok, refused, bind}
-use Rattle.solver.specs.Sums.{sum2, terms}
+use Rattle.solver.specs.Sums.{sum2}
 use Rattle.solver.specs.Closeness.{close_in_windows_test}
 use Rattle.zone.specs.declared.record.zone_record.Zone.{Zone}
 use Rattle.zone.specs.declared.format.conditions.Conditions.{Conditions}
@@ -18,12 +19,11 @@ use Rattle.zone.specs.declared.hour.hour.Meeting.TheVariants.{NotMet}
 use Rattle.zone.specs.declared.hour.hour.Asked.TheVariants as Asked
 use Rattle.zone.specs.declared.hour.windows.ZoneTemperatures.{ZoneTemperatures}
 use Rattle.zone.specs.Record.BuildingElement.{standard_coefficients}
-use Rattle.zone.specs.Hour.Demand.{control_temperature, gains_heat_cool, frac_conv_gains_heat_cool, free_temperatures, ach_to_reach}
+use Rattle.zone.specs.Hour.Demand.{control_temperature, free_temperatures, ach_to_reach}
 use Rattle.zone.specs.Calls.Why.{load_of, reason_for, why_of}
-use Rattle.zone.specs.Inner.Assembly.{at}
 use Rattle.zone.specs.Inner.Operative.{areas_of, control_by}
 use Rattle.zone.specs.Inner.Demand.{zone_temperatures, rate_to_reach}
-use Rattle.zone.specs.Inner.Hour.{no_demand, update_solved, hour_solved}
+use Rattle.zone.specs.Inner.Hour.{free_gains, no_demand, update_solved, hour_solved}
 use Rattle.zone.specs.Inner.Why.{free_at, found_reason, open_reason, choice_reason, reason_in}
 use Rattle.zone.proofs.Laws.Assembled.{control_by_lem}
 use Rattle.zone.proofs.Laws.Counts.{min_24}
@@ -32,12 +32,12 @@ use Rattle.zone.proofs.Laws.Hour.{demand_solved_lem}
 
 -- ---- free.rt
 
-pub temperatures_of_lem : (z : Zone) (t : List Float) (n : ℕ) → n ≡ min z.count 24 → (area : List Float) → area ≡ areas_of z → (total : Float) → total ≡ sum2 (terms 0 n (at area))
+pub temperatures_of_lem : (z : Zone) (t : List Float) (n : ℕ) → n ≡ min z.count 24 → (area : List Float) → area ≡ areas_of z → (total : Float) → total ≡ sum2 (take n area)
     → (x : ZoneTemperatures) → x ≡ zone_temperatures (control_by z.temp_setpnt_basis z.count area total) t → x ≡ zone_temperatures (control_temperature z) t
 temperatures_of_lem z t n n_is area area_is total total_is x e = e ∙ rw (total_is, area_is, n_is, min_24 z.count, areas_total z, control_by_lem z t) refl
 
 module _ (z : Zone) (t : List Float) (h : Conditions) (ach : Float) (before : List Float) where
-  free_solved : free_temperatures standard_coefficients z t h ach ≡ bind (hour_solved z t h (Asked.Update (gains_heat_cool h) (frac_conv_gains_heat_cool h) ach) before) λ u. ok u.1
+  free_solved : free_temperatures standard_coefficients z t h ach ≡ bind (hour_solved z t h (Asked.Update (free_gains h) ach) before) λ u. ok u.1
   unfolding update_solved
   free_solved = go (free_temperatures standard_coefficients z t h ach)
     where
@@ -45,11 +45,11 @@ module _ (z : Zone) (t : List Float) (h : Conditions) (ach : Float) (before : Li
       go (ok u) = refl
       go (refused n i) = refl
 
-  pub free_refused : (n i : ℕ) → refused n i ≡ hour_solved z t h (Asked.Update (gains_heat_cool h) (frac_conv_gains_heat_cool h) ach) before → refused n i ≡ free_at z t h ach
+  pub free_refused : (n i : ℕ) → refused n i ≡ hour_solved z t h (Asked.Update (free_gains h) ach) before → refused n i ≡ free_at z t h ach
   unfolding free_at
   free_refused n i solved = rw (free_solved, ← solved) refl
 
-  pub free_accepted : (d : Demand) (after : List Float) → ok (d, after) ≡ hour_solved z t h (Asked.Update (gains_heat_cool h) (frac_conv_gains_heat_cool h) ach) before
+  pub free_accepted : (d : Demand) (after : List Float) → ok (d, after) ≡ hour_solved z t h (Asked.Update (free_gains h) ach) before
       → ok (zone_temperatures (control_temperature z) after) ≡ free_at z t h ach
   unfolding free_at
   free_accepted d after solved = rw (free_solved, ← solved) refl

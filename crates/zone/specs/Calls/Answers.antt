@@ -18,15 +18,17 @@ module _ {A : Type 0} where
 abbrev pub demand_reply : State → Result Demand → Result Demand × State
 demand_reply s x = (x, s)
 
-abbrev pub update_reply : State → Result (State × HeatBalance) → Result HeatBalance × State
-update_reply s (ok r) = (ok r.1, r.0)
-update_reply s (refused number index) = (refused number index, s)
+-- an answer with the state after it
+module _ {A : Type 0} where
+  abbrev pub update_reply : State → Result (State × A) → Result A × State
+  update_reply s (ok r) = (ok r.1, r.0)
+  update_reply s (refused number index) = (refused number index, s)
 
 abbrev pub hour_step_reply : State → Result HourResult → Result (Demand × HeatBalance) × State
 hour_step_reply s (ok r) = (ok (r.demand, r.balance), r.state)
 hour_step_reply s (refused number index) = (refused number index, s)
 
--- an hour step's answer with the state that it leaves
-abbrev pub hour_stepped : Rust.Result (Demand × HeatBalance) Refusal → State → Result HourResult
-hour_stepped (Ok x) s = ok (record { demand = x.0; state = s; balance = x.1 })
-hour_stepped (Err e) s = refused (number_of e) (index_of e)
+-- an hour step's answer with the state after it
+abbrev pub hour_stepped : Rust.Result (State × (Demand × HeatBalance)) Refusal → Result HourResult
+hour_stepped (Ok r) = ok (record { demand = r.1.0; state = r.0; balance = r.1.1 })
+hour_stepped (Err e) = refused (number_of e) (index_of e)

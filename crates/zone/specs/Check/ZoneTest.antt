@@ -4,7 +4,8 @@ use Rattle.solver.specs.Result.{Result, ok, bind, require, require_at}
 use Rattle.zone.specs.Record.Numbers.{structure, zone_value}
 use Rattle.zone.specs.Record.BuildingElement.{number_of_nodes}
 use Rattle.zone.specs.Format.ElementLayout.{h_count, treatments_valid}
-use Rattle.zone.specs.Check.Ranges.{area_range, pitch_range, coefficient_range, h_pli_range, k_pli_range, fraction_range, sky_range, delta_r_range, irradiance_range, temperature_range, heating_setpoint_range, setpoint_range, limit_range, all_in, open_within}
+use Rattle.zone.specs.Check.Ranges.{area_range, pitch_range, coefficient_range, h_pli_range, k_pli_range, fraction_range, sky_range, delta_r_range}
+use Rattle.zone.specs.Check.Ranges.{irradiance_range, temperature_range, heating_setpoint_range, setpoint_range, limit_range, all_in, open_within}
 use Rattle.zone.specs.declared.record.building_element.ElementHour.{ElementHour}
 use Rattle.zone.specs.declared.record.building_element.Element.{Element}
 use Rattle.zone.specs.declared.record.zone_record.Zone.{Zone}

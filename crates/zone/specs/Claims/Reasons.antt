@@ -1,5 +1,5 @@
 -- Document 01, "refusals come only under the conditions above", those of document 02 too: why demand, hour step, update and start-up are refused.
-use Rattle.std.specs.Prelude.{ℕ, ◌<◌, ◌≡◌, true, false, ◌&&◌, List, Float}
+use Rattle.std.specs.Prelude.{Some, ℕ, ◌<◌, ◌≡◌, true, false, ◌&&◌, List, Float}
 use Rattle.std.specs.Float.Ieee.{lt, ne}
 use Rattle.solver.specs.F64.{◌+ᶠ◌, ◌-ᶠ◌, decimal, zero64}
 use Rattle.solver.specs.Closeness.{close_in_demand}
@@ -16,7 +16,7 @@ use Rattle.zone.specs.declared.format.conditions.AirChangesPerHourArgument.TheVa
 use Rattle.zone.specs.declared.calls.state.State.{State}
 use Rattle.zone.specs.declared.calls.state.Demand.{Demand}
 use Rattle.zone.specs.declared.hour.windows.VentilationChoice.{VentilationChoice}
-use Rattle.zone.specs.declared.hour.load.HeatCoolLoad.TheVariants.{Toward}
+use Rattle.zone.specs.declared.hour.load.HeatCoolLoad.{HeatCoolLoad}
 use Rattle.zone.specs.Record.Numbers.{conditions_value, cooling_below_heating, ventilation_below_heating, no_effect, not_settled, false_entry, limit_value}
 use Rattle.zone.specs.Check.Ranges.{gains_range, fraction_range, rate_range}
 use Rattle.zone.specs.Check.ZoneTest.{zone_test}
@@ -66,11 +66,11 @@ module _ (c : Coefficients) (z : Zone) (t : List Float) (h : Conditions) where
         → SolveReason gains fraction ach temperature 0
 
   -- the load that is tried: wanted at the free temperature and the rate that ventilation leaves
-  pub record Tried (v : VentilationChoice) (setpoint load fraction : Float) : Type 0 where
+  pub record Tried (v : VentilationChoice) (w : HeatCoolLoad) : Type 0 where
     pub free : List Float
     pub solved : free_temperatures c z t h (ach_target h.ach_args) ≡ ok free
     pub chosen : calc_cooling_potential_from_ventilation c z t h free h.ach_args ≡ ok v
-    pub towards : wanted z.useful_area h v.temp_free ≡ Toward setpoint load fraction
+    pub towards : wanted z.useful_area h v.temp_free ≡ Some w
 
   -- the solves of a demand, with their gains, fraction and rate: free at the rate without windows, with windows open, and at the rate between
   -- that reaches the ventilation setpoint; then loaded
@@ -83,8 +83,7 @@ module _ (c : Coefficients) (z : Zone) (t : List Float) (h : Conditions) where
         → free_temperatures c z t h target ≡ ok free → free_temperatures c z t h windows_open ≡ ok vent_max
         → (lt (control_temperature z vent_max) (control_temperature z free) && lt h.temp_setpnt_cool_vent (control_temperature z free) && lt h.avg_air_supply_temp (air free)) ≡ true
         → DemandSolve (gains_heat_cool h) (frac_conv_gains_heat_cool h) (ach_to_reach c z t h target windows_open free vent_max h.temp_setpnt_cool_vent)
-    loaded : {v : VentilationChoice} {setpoint load fraction : Float} → Tried v setpoint load fraction
-        → DemandSolve (gains_upper h load) (frac_upper h load fraction) v.ach_cooling
+    loaded : {v : VentilationChoice} {w : HeatCoolLoad} → Tried v w → DemandSolve (gains_upper h w.load) (frac_upper h w.load w.fraction) v.ach_cooling
 
   pub data DemandReason : (number index : ℕ) → Type 0 where
     -- "cooling below heating setpoint"
@@ -96,8 +95,8 @@ module _ (c : Coefficients) (z : Zone) (t : List Float) (h : Conditions) where
     in_solve : {gains fraction ach : Float} {number index : ℕ} → SetpointsPass h → DemandSolve gains fraction ach → SolveReason gains fraction ach number index
         → DemandReason number index
     -- "last, loaded and free temperature differ by something close to 0"
-    by_no_effect : {v : VentilationChoice} {setpoint load fraction : Float} {upper : List Float} → SetpointsPass h → Tried v setpoint load fraction
-        → temperatures_with c z t h (gains_upper h load) (frac_upper h load fraction) v.ach_cooling ≡ ok upper
+    by_no_effect : {v : VentilationChoice} {w : HeatCoolLoad} {upper : List Float} → SetpointsPass h → Tried v w
+        → temperatures_with c z t h (gains_upper h w.load) (frac_upper h w.load w.fraction) v.ach_cooling ≡ ok upper
         → close_in_demand (control_temperature z upper -ᶠ v.temp_free) zero64 ≡ true → DemandReason no_effect 0
 
 -- 4 to 9 from the tests of zone, state and conditions, or what P says of the conditions that they let through

@@ -20,7 +20,6 @@ use Rattle.zone.specs.Physics.CalcTemperatures.{calc_temperatures}
 use Rattle.zone.specs.declared.calls.state.Demand.{Demand}
 use Rattle.zone.specs.declared.hour.windows.VentilationChoice.{VentilationChoice}
 use Rattle.zone.specs.declared.hour.load.HeatCoolLoad.{HeatCoolLoad}
-use Rattle.zone.specs.declared.hour.load.HeatCoolLoad.TheVariants.{NoLoad, Toward}
 
 -- the temperature that the setpoints are held against, by the zone's control basis
 abbrev pub temperature_by : ZoneTemperatureControlBasis → Zone → List Float → Float
@@ -60,13 +59,13 @@ ventilated temp_free ach trigger =
 -- ---- the demand
 
 -- cooling above the cooling setpoint, heating below the heating setpoint; neither where close to the cooling setpoint
-unfoldable pub wanted : (useful_area : Float) → Conditions → (temp_free : Float) → HeatCoolLoad
+unfoldable pub wanted : (useful_area : Float) → Conditions → (temp_free : Float) → Option HeatCoolLoad
 wanted useful_area h temp_free =
     cond (lt h.temp_setpnt_cool temp_free && not (close_in_demand temp_free h.temp_setpnt_cool))
-    (Toward h.temp_setpnt_cool (neg (decimal 10 0) *ᶠ useful_area) h.frac_convective_cool)
+    (Some (record { setpoint = h.temp_setpnt_cool; load = neg (decimal 10 0) *ᶠ useful_area; fraction = h.frac_convective_cool }))
     (cond (lt temp_free h.temp_setpnt_heat && not (close_in_demand temp_free h.temp_setpnt_cool))
-    (Toward h.temp_setpnt_heat (decimal 10 0 *ᶠ useful_area) h.frac_convective_heat)
-    NoLoad)
+    (Some (record { setpoint = h.temp_setpnt_heat; load = decimal 10 0 *ᶠ useful_area; fraction = h.frac_convective_heat }))
+    None)
 
 -- gains with the load, and their convective fraction
 abbrev pub gains_upper : Conditions → (load : Float) → Float
@@ -129,11 +128,11 @@ module _ (c : Coefficients) (z : Zone) (t : List Float) (h : Conditions) where
       (ok (ventilated temp_free target None))
 
   -- the load that is wanted is tried in a second calculation, and the demand found between the two
-  unfoldable pub demand_for_load : VentilationChoice → HeatCoolLoad → Result Demand
-  demand_for_load v NoLoad = ok (demand_record zero64 v)
-  demand_for_load v (Toward setpoint load fraction) =
-      bind (temperatures_with (gains_upper h load) (frac_upper h load fraction) v.ach_cooling) λ upper.
-      bind (interp_heat_cool_demand h.delta_t_h setpoint load v.temp_free (control_temperature z upper)) λ kwh.
+  unfoldable pub demand_for_load : VentilationChoice → Option HeatCoolLoad → Result Demand
+  demand_for_load v None = ok (demand_record zero64 v)
+  demand_for_load v (Some w) =
+      bind (temperatures_with (gains_upper h w.load) (frac_upper h w.load w.fraction) v.ach_cooling) λ upper.
+      bind (interp_heat_cool_demand h.delta_t_h w.setpoint w.load v.temp_free (control_temperature z upper)) λ kwh.
       ok (demand_record kwh v)
 
   unfoldable pub space_heat_cool_demand : Result Demand

@@ -2,9 +2,16 @@
 use Rattle.std.specs.Prelude.{ℕ, Bool, ◌&&◌, List, take, Float}
 use Rattle.zone.specs.Record.BuildingElement.{number_of_nodes}
 use Rattle.zone.specs.Format.ElementLayout.{h_count}
-use Rattle.zone.specs.Check.Ranges.{h_pli_range, k_pli_range, delta_r_range, all_in, open_within}
+use Rattle.zone.specs.Check.Ranges.{from_to, above_to, h_pli_range, k_pli_range, delta_r_range, all_in, open_within}
 use Rattle.zone.specs.Check.ZoneTest.{element_hour_in_range}
+use Rattle.zone.specs.declared.check.ranges.Range.{Range}
+use Rattle.zone.specs.declared.check.ranges.Range.TheVariants.{FromTo, AboveTo}
 use Rattle.zone.specs.declared.record.building_element.Element.{Element}
+
+-- what a range of the code holds
+abbrev pub within : Range → Float → Bool
+within (FromTo low high) = from_to low high
+within (AboveTo low high) = above_to low high
 
 -- the first kc of k_pli, the first hc of h_pli and the first t of delta_r
 unfoldable pub arrays_in_range : (kc hc t : ℕ) (k h d : List Float) → Bool

@@ -16,7 +16,6 @@ use Rattle.zone.specs.Physics.Ventilation.{ach_req_to_reach_temperature}
 use Rattle.solver.specs.F64.{zero64}
 use Rattle.solver.specs.Inner.Factored.{solved_res}
 use Rattle.zone.specs.declared.hour.load.HeatCoolLoad.{HeatCoolLoad}
-use Rattle.zone.specs.declared.hour.load.HeatCoolLoad.TheVariants.{NoLoad, Toward}
 use Rattle.zone.specs.Record.Numbers.{cooling_below_heating, ventilation_below_heating}
 use Rattle.zone.specs.Physics.Ventilation.{calc_vent_heat_transfer_coeff}
 use Rattle.zone.specs.Hour.Demand.{ventilated, wanted, ach_target, gains_upper, frac_upper, interp_heat_cool_demand, demand_record}
@@ -70,11 +69,11 @@ module _ (p : Prepared) (volume : Float) (control : List Float → Float) (h : C
       (ok (ventilated free.temp_control target None, last))
 
   -- the demand, by the last column of the chosen rate
-  unfoldable pub loaded_demand : VentilationChoice → HeatCoolLoad → (last : List Float) → Result Demand
-  loaded_demand v NoLoad last = ok (demand_record zero64 v)
-  loaded_demand v (Toward setpoint load fraction) last =
-      bind (solved_res (load_in p last (calc_vent_heat_transfer_coeff volume v.ach_cooling) (gains_upper h load) (frac_upper h load fraction))) λ upper.
-      bind (interp_heat_cool_demand h.delta_t_h setpoint load v.temp_free (control upper)) λ kwh.
+  unfoldable pub loaded_demand : VentilationChoice → Option HeatCoolLoad → (last : List Float) → Result Demand
+  loaded_demand v None last = ok (demand_record zero64 v)
+  loaded_demand v (Some w) last =
+      bind (solved_res (load_in p last (calc_vent_heat_transfer_coeff volume v.ach_cooling) (gains_upper h w.load) (frac_upper h w.load w.fraction))) λ upper.
+      bind (interp_heat_cool_demand h.delta_t_h w.setpoint w.load v.temp_free (control upper)) λ kwh.
       ok (demand_record kwh v)
 
   -- from the temperatures of the calculation at the rate without windows

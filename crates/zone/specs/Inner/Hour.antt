@@ -1,24 +1,23 @@
 -- An hour's calculations, as the code has them: a given load, or the demand and the last calculation where it is met. answer_solved (proofs/Laws/PreparedDemand.antt)
 -- ties `answer_in` to `hour_solved`, and Laws/Hour.antt and StartUp.antt tie that to the calls.
-use Rattle.std.specs.Prelude.{None}
-use Rattle.std.specs.Prelude.{ℕ, Bool, true, List, Float}
+use Rattle.std.specs.Prelude.{None, Option, Some}
+use Rattle.std.specs.Prelude.{Bool, true, List, Float}
 use Rattle.solver.specs.F64.{◌+ᶠ◌, zero64}
 use Rattle.solver.specs.Result.{Result, ok, refused, bind}
 use Rattle.solver.specs.Inner.Factored.{solved_res}
 use Rattle.zone.specs.declared.record.zone_record.Zone.{Zone}
 use Rattle.zone.specs.declared.format.conditions.Conditions.{Conditions}
-use Rattle.zone.specs.declared.format.limits.Limits.{Limits}
 use Rattle.zone.specs.declared.calls.state.Demand.{Demand}
 use Rattle.zone.specs.declared.hour.hour.Meeting.{Meeting}
 use Rattle.zone.specs.declared.hour.hour.Meeting.TheVariants.{NotMet, WithGains, Alone}
 use Rattle.zone.specs.declared.hour.hour.Asked.{Asked}
-use Rattle.zone.specs.declared.hour.hour.MetLoad.{MetLoad}
-use Rattle.zone.specs.declared.hour.hour.MetLoad.TheVariants.{NoLoad, Load}
+use Rattle.zone.specs.declared.hour.rule.Rule.{Rule}
+use Rattle.zone.specs.declared.hour.time_step.HeatCoolGains.{HeatCoolGains}
 use Rattle.zone.specs.Record.BuildingElement.{standard_coefficients}
 use Rattle.zone.specs.Physics.Ventilation.{calc_vent_heat_transfer_coeff}
 use Rattle.zone.specs.declared.physics.balance.HeatBalance.{HeatBalance}
 use Rattle.zone.specs.Physics.HeatBalance.{heat_balance}
-use Rattle.zone.specs.Hour.Demand.{delta_t, gains_heat_cool, temperatures_with, space_heat_cool_demand, ventilated, demand_record}
+use Rattle.zone.specs.Hour.Demand.{delta_t, gains_heat_cool, frac_conv_gains_heat_cool, temperatures_with, space_heat_cool_demand, ventilated, demand_record}
 use Rattle.zone.specs.declared.calls.state.State.{State}
 use Rattle.zone.specs.Calls.State.{state_of}
 use Rattle.zone.specs.Calls.Hour.{delivered, delivered_by, convective_share, HourResult}
@@ -26,13 +25,21 @@ use Rattle.zone.specs.Calls.StartUp.{close}
 use Rattle.zone.specs.Inner.Prepared.{Prepared, load_in, solved_in}
 use Rattle.zone.specs.Inner.Demand.{demand_in}
 
-abbrev pub met_load : Conditions → Demand → Meeting → MetLoad
-met_load h d NotMet = NoLoad
-met_load h d (WithGains version l) =
-    let w = delivered_by version l h d in
+-- the gains that are there before any demand
+abbrev pub free_gains : Conditions → HeatCoolGains
+free_gains h = record { gains_heat_cool = gains_heat_cool h; f_hc_c = frac_conv_gains_heat_cool h }
+
+-- the total gains of an hour whose demand is met by a rule
+abbrev pub gains_by : Rule → Conditions → Demand → HeatCoolGains
+gains_by r h d =
+    let w = delivered_by r.version r.limits h d in
     let g = gains_heat_cool h +ᶠ w in
-    Load g (convective_share version h w g)
-met_load h d Alone = Load (delivered h d) h.frac_convective_heat
+    record { gains_heat_cool = g; f_hc_c = convective_share r.version h w g }
+
+abbrev pub met_load : Conditions → Demand → Meeting → Option HeatCoolGains
+met_load h d NotMet = None
+met_load h d (WithGains r) = Some (gains_by r h d)
+met_load h d Alone = Some (record { gains_heat_cool = delivered h d; f_hc_c = h.frac_convective_heat })
 
 -- what stands beside an update, which asks for no demand
 unfoldable pub no_demand : (ach : Float) → Demand
@@ -40,15 +47,15 @@ no_demand ach = demand_record zero64 (ventilated zero64 ach None)
 
 -- of an hour that is prepared
 module _ (p : Prepared) (volume : Float) where
-  unfoldable pub update_in : (gains_heat_cool f_hc_c ach : Float) → Result (Demand × List Float)
-  update_in gains_heat_cool f_hc_c ach =
-      bind (solved_in p volume gains_heat_cool f_hc_c ach) λ x.
+  unfoldable pub update_in : HeatCoolGains → (ach : Float) → Result (Demand × List Float)
+  update_in g ach =
+      bind (solved_in p volume g.gains_heat_cool g.f_hc_c ach) λ x.
       ok (no_demand ach, x.0)
 
   -- the temperatures after the last calculation, or those before it where there is none
-  abbrev pub met_in : Demand → (last : List Float) → MetLoad → (before : List Float) → Result (List Float)
-  met_in d last NoLoad before = ok before
-  met_in d last (Load gains fraction) before = solved_res (load_in p last (calc_vent_heat_transfer_coeff volume d.ach_cooling) gains fraction)
+  abbrev pub met_in : Demand → (last : List Float) → Option HeatCoolGains → (before : List Float) → Result (List Float)
+  met_in d last None before = ok before
+  met_in d last (Some g) before = solved_res (load_in p last (calc_vent_heat_transfer_coeff volume d.ach_cooling) g.gains_heat_cool g.f_hc_c)
 
   module _ (control : List Float → Float) (h : Conditions) (useful_area : Float) where
     unfoldable pub demand_met_in : Meeting → (before : List Float) → Result (Demand × List Float)
@@ -59,12 +66,12 @@ module _ (p : Prepared) (volume : Float) where
 
     abbrev pub answer_in : Asked → (before : List Float) → Result (Demand × List Float)
     answer_in (Asked.Demand meeting) before = demand_met_in meeting before
-    answer_in (Asked.Update gains_heat_cool f_hc_c ach) before = update_in gains_heat_cool f_hc_c ach
+    answer_in (Asked.Update g ach) before = update_in g ach
 
 module _ (z : Zone) (t : List Float) (h : Conditions) where
-  abbrev pub met_with : Demand → MetLoad → (before : List Float) → Result (List Float)
-  met_with d NoLoad before = ok before
-  met_with d (Load gains fraction) before = temperatures_with standard_coefficients z t h gains fraction d.ach_cooling
+  abbrev pub met_with : Demand → Option HeatCoolGains → (before : List Float) → Result (List Float)
+  met_with d None before = ok before
+  met_with d (Some g) before = temperatures_with standard_coefficients z t h g.gains_heat_cool g.f_hc_c d.ach_cooling
 
   unfoldable pub demand_solved : Meeting → (before : List Float) → Result (Demand × List Float)
   demand_solved meeting before =
@@ -72,14 +79,14 @@ module _ (z : Zone) (t : List Float) (h : Conditions) where
       bind (met_with d (met_load h d meeting) before) λ after.
       ok (d, after)
 
-  unfoldable pub update_solved : (gains_heat_cool f_hc_c ach : Float) → Result (Demand × List Float)
-  update_solved gains_heat_cool f_hc_c ach =
-      bind (temperatures_with standard_coefficients z t h gains_heat_cool f_hc_c ach) λ after.
+  unfoldable pub update_solved : HeatCoolGains → (ach : Float) → Result (Demand × List Float)
+  update_solved g ach =
+      bind (temperatures_with standard_coefficients z t h g.gains_heat_cool g.f_hc_c ach) λ after.
       ok (no_demand ach, after)
 
   abbrev pub hour_solved : Asked → (before : List Float) → Result (Demand × List Float)
   hour_solved (Asked.Demand meeting) before = demand_solved meeting before
-  hour_solved (Asked.Update gains_heat_cool f_hc_c ach) before = update_solved gains_heat_cool f_hc_c ach
+  hour_solved (Asked.Update g ach) before = update_solved g ach
 
 -- a pass of start-up, from the temperatures t, is the last where it is refused or settles
 abbrev pub ends : Zone → (t : List Float) → Result (Demand × List Float) → Bool
@@ -91,12 +98,11 @@ abbrev pub settled_state : Zone → Result (Demand × List Float) → Result Sta
 settled_state z x = bind x λ u. ok (state_of z u.1)
 
 -- the heat balance of the hour step
-abbrev pub step_balance : Zone → (t : List Float) → Conditions → (version : ℕ) → Limits → Demand → (after : List Float) → HeatBalance
-step_balance z t h version l d after =
-    let w = delivered_by version l h d in
-    let g = gains_heat_cool h +ᶠ w in
-    heat_balance standard_coefficients z t h (delta_t h) g (convective_share version h w g) d.ach_cooling after
+abbrev pub step_balance : Zone → (t : List Float) → Conditions → Rule → Demand → (after : List Float) → HeatBalance
+step_balance z t h r d after =
+    let g = gains_by r h d in
+    heat_balance standard_coefficients z t h (delta_t h) g.gains_heat_cool g.f_hc_c d.ach_cooling after
 
 -- the hour step, from the demand and the temperatures after it
-abbrev pub stepped : Zone → (version : ℕ) → Limits → (t : List Float) → Conditions → Demand × List Float → Result HourResult
-stepped z version l t h u = ok (record { demand = u.0; state = state_of z u.1; balance = step_balance z t h version l u.0 u.1 })
+abbrev pub stepped : Zone → Rule → (t : List Float) → Conditions → Demand × List Float → Result HourResult
+stepped z r t h u = ok (record { demand = u.0; state = state_of z u.1; balance = step_balance z t h r u.0 u.1 })

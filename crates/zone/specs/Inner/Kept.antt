@@ -1,6 +1,6 @@
 -- A factored matrix that is kept from hour to hour. It depends on the zone, the directions of heat flow, the open treatments and the timestep, and where
 -- these are the same it is the next hour's. next_kept (proofs/Laws/NextKept.antt) says where an hour from what is held is the hour of the definitions.
-use Rattle.std.specs.Prelude.{◌≡◌, Bool, true, false, cond, ◌&&◌, List, [], ◌∷◌, ℕ, suc, zero, ◌+◌, ◌-◌, eqb, ltb, get_or, drop, replicate, Float}
+use Rattle.std.specs.Prelude.{◌≡◌, Bool, true, false, cond, ◌&&◌, List, [], ◌∷◌, ℕ, suc, zero, eqb, get_or, replicate, Float}
 use Rattle.std.specs.Float.{nan, binary64}
 use Rattle.std.specs.Float.Ieee.{of_bits, to_bits}
 use Rattle.solver.specs.F64.{◌/ᶠ◌, zero64}
@@ -14,30 +14,26 @@ use Rattle.solver.specs.Result.{Result}
 use Rattle.zone.specs.declared.record.building_element.Element.{Element}
 use Rattle.zone.specs.declared.record.building_element.Coefficients.{Coefficients}
 use Rattle.zone.specs.declared.record.building_element.ElementHour.{ElementHour}
+use Rattle.zone.specs.declared.record.building_element.HeatFlowDirection.{HeatFlowDirection}
+use Rattle.zone.specs.declared.record.building_element.HeatFlowDirection.TheVariants.{Horizontal}
 use Rattle.zone.specs.declared.format.conditions.Conditions.{Conditions}
 use Rattle.zone.specs.declared.hour.hour.Asked.{Asked}
 use Rattle.zone.specs.declared.calls.state.Demand.{Demand}
 use Rattle.zone.specs.declared.record.zone_record.Zone.{Zone}
-use Rattle.zone.specs.Record.BuildingElement.{direction_code, standard_coefficients}
+use Rattle.zone.specs.Record.BuildingElement.{is_direction, h_ci_of, standard_coefficients}
 use Rattle.zone.specs.Physics.Slots.{air, element, element_hour, with_terms}
 use Rattle.zone.specs.Physics.Equations.{rows_of}
 use Rattle.zone.specs.Physics.System.{area_of, two_nodes_of, area_el_total, share_of, direction_at, c_int}
-use Rattle.zone.specs.Inner.Record.{h_ci_by_code}
 use Rattle.zone.specs.Inner.Assembly.{convective_by, Chains, chains, set_rows, couple_row}
 use Rattle.zone.specs.Inner.Assembled.{ZoneTerms, h_ri_of, element_sides}
-use Rattle.zone.specs.Inner.Counted.{counted}
 use Rattle.zone.specs.Inner.Operative.{areas_of, control_by}
 use Rattle.zone.specs.Inner.Prepared.{Prepared, prepared}
 use Rattle.zone.specs.Inner.Hour.{answer_in}
 use Rattle.zone.specs.Hour.Demand.{delta_t}
 
--- the code of the direction at element e's inner surface, from the temperatures before the step
-abbrev pub direction_code_at : Coefficients → List Element → List Float → ℕ → ℕ
-direction_code_at c es t e = direction_code (direction_at c es t e)
-
--- of all elements
-abbrev pub directions_of : Zone → List Float → List ℕ
-directions_of z t = with_terms (at_most24 z.count) (direction_code_at standard_coefficients z.building_elements t) (replicate 24 0)
+-- the directions of heat flow at the elements' inner surfaces, from the temperatures before the step
+abbrev pub directions_of : Zone → List Float → List HeatFlowDirection
+directions_of z t = with_terms (at_most24 z.count) (direction_at standard_coefficients z.building_elements t) (replicate 24 Horizontal)
 
 -- the open treatments of element e, and of the elements
 abbrev pub treatments_open_at : List ElementHour → ℕ → ℕ
@@ -46,9 +42,9 @@ treatments_open_at hours e = (element_hour hours e).treatments_open
 abbrev pub opens_of : Conditions → List ℕ
 opens_of h = with_terms 24 (treatments_open_at h.elements) (replicate 24 0)
 
--- h_ci by it
-abbrev pub h_ci_in : (directions : List ℕ) → ℕ → Float
-h_ci_in directions e = h_ci_by_code standard_coefficients (get_or directions e 0)
+-- h_ci of element e by its direction
+abbrev pub h_ci_in : (directions : List HeatFlowDirection) → ℕ → Float
+h_ci_in directions e = h_ci_of standard_coefficients (get_or directions e Horizontal)
 
 -- (41), (40), (39) of element e
 unfoldable pub rows_by : List Element → (opens : List ℕ) (delta_t : Float) (h_ci share : ℕ → Float) → ℕ → Chains → Chains
@@ -103,7 +99,7 @@ factors_with n two_nodes (chains diag next prev) dense interchanges =
     factors_from two_nodes next prev (column_of n dense) (factor_apart n two_nodes diag next prev dense interchanges)
 
 -- of a zone at these directions, open treatments and timestep, assembled in arrays that are given
-abbrev pub factors_in : Zone → (directions opens : List ℕ) (delta_t : Float) → Arrays → Factors
+abbrev pub factors_in : Zone → (directions : List HeatFlowDirection) (opens : List ℕ) (delta_t : Float) → Arrays → Factors
 factors_in z directions opens delta_t (arrays two_nodes diag next prev dense interchanges) =
     let n = at_most24 z.count in
     let es = z.building_elements in
@@ -113,23 +109,22 @@ factors_in z directions opens delta_t (arrays two_nodes diag next prev dense int
     (couplings_by n es (h_ci_in directions) dense)
     interchanges
 
-unfoldable pub factors_by : Zone → (directions opens : List ℕ) (delta_t : Float) → Factors
+unfoldable pub factors_by : Zone → (directions : List HeatFlowDirection) (opens : List ℕ) (delta_t : Float) → Factors
 factors_by z directions opens delta_t = factors_in z directions opens delta_t zeros
 
 -- the two sums over the elements, the area and area × h_ci, and the timestep
-abbrev pub numbers_by : Zone → (directions : List ℕ) (delta_t : Float) → List Float
+abbrev pub numbers_by : Zone → (directions : List HeatFlowDirection) (delta_t : Float) → List Float
 numbers_by z directions delta_t =
     let n = at_most24 z.count in
     area_el_total n z.building_elements ∷ convective_by_sum n z.building_elements (h_ci_in directions) ∷ delta_t ∷ []
 
--- the directions, and from place 24 on the open treatments
-unfoldable pub key_of : (directions opens : List ℕ) → List ℕ
-key_of directions opens = counted (λ i. cond (ltb i 24) (get_or directions i 0) (get_or opens (i - 24) 0)) 0 48
+-- the directions and the open treatments that a matrix is assembled for
+abbrev pub Key : Type 0
+Key = List HeatFlowDirection × List ℕ
 
--- what is held: whether a factored matrix, and whether its divisors are valid; its sums and timestep; the directions and open treatments that
--- it was assembled for; the matrix and its last column
+-- what is held: whether a factored matrix, and whether its divisors are valid; its sums and timestep; its key; the matrix and its last column
 pub data Held : Type 0 where
-  held : (flags : List Bool) (numbers : List Float) (key : List ℕ) (a : Arrays) (column : List Float) → Held
+  held : (flags : List Bool) (numbers : List Float) (key : Key) (a : Arrays) (column : List Float) → Held
 
 abbrev pub factors_held : Held → Factors
 factors_held (held flags numbers key (arrays two_nodes diag next prev dense interchanges) column) =
@@ -140,15 +135,16 @@ numbers_held (held flags numbers key a column) = numbers
 
 -- no matrix
 abbrev pub none_held : Held
-none_held = held (replicate 2 false) (replicate 3 zero64) (replicate 48 0) zeros (replicate 25 zero64)
+none_held = held (replicate 2 false) (replicate 3 zero64) (replicate 24 Horizontal, replicate 24 0) zeros (replicate 25 zero64)
 
 -- a matrix is held, of the same timestep, by its bits, directions and open treatments
-unfoldable pub same_elements : ℕ → (key directions opens : List ℕ) → Bool
+unfoldable pub same_elements : ℕ → Key → (directions : List HeatFlowDirection) (opens : List ℕ) → Bool
 same_elements zero key directions opens = true
 same_elements (suc e) key directions opens =
-    same_elements e key directions opens && (eqb (get_or key e 0) (get_or directions e 0) && eqb (get_or key (24 + e) 0) (get_or opens e 0))
+    same_elements e key directions opens
+    && (is_direction (get_or directions e Horizontal) (get_or key.0 e Horizontal) && eqb (get_or key.1 e 0) (get_or opens e 0))
 
-unfoldable pub same_key : (is_held : Bool) (kept_delta_t delta_t : Float) (n : ℕ) (key directions opens : List ℕ) → Bool
+unfoldable pub same_key : (is_held : Bool) (kept_delta_t delta_t : Float) (n : ℕ) → Key → (directions : List HeatFlowDirection) (opens : List ℕ) → Bool
 same_key is_held kept_delta_t delta_t n key directions opens =
     is_held && (eqb (to_bits binary64 kept_delta_t) (to_bits binary64 delta_t) && same_elements n key directions opens)
 
@@ -157,16 +153,16 @@ abbrev pub emptied : (is_held : Bool) → Arrays → Arrays
 emptied true a = zeros
 emptied false a = a
 
-abbrev pub held_with : (numbers : List Float) (key : List ℕ) → Factors → Held
+abbrev pub held_with : (numbers : List Float) → Key → Factors → Held
 held_with numbers key (factors valid two_nodes diag next prev dense interchanges column) =
     held (true ∷ valid ∷ []) numbers key (arrays two_nodes diag next prev dense interchanges) column
 
 -- the hour's matrix, factored anew unless it is held
-unfoldable pub keep_factors : Zone → (directions opens : List ℕ) (delta_t : Float) → Held → Held
+unfoldable pub keep_factors : Zone → (directions : List HeatFlowDirection) (opens : List ℕ) (delta_t : Float) → Held → Held
 keep_factors z directions opens delta_t (held flags numbers key a column) =
     cond (same_key (get_or flags 0 false) (get_or numbers 2 nan) delta_t (at_most24 z.count) key directions opens)
     (held flags numbers key a column)
-    (held_with (numbers_by z directions delta_t) (key_of directions opens) (factors_in z directions opens delta_t (emptied (get_or flags 0 false) a)))
+    (held_with (numbers_by z directions delta_t) (directions, opens) (factors_in z directions opens delta_t (emptied (get_or flags 0 false) a)))
 
 -- an hour prepared, and what is asked of it, from a matrix that is held
 abbrev pub prepared_from : ZoneTerms → (b : List Float) → Factors → Prepared
@@ -189,15 +185,15 @@ hour_held z t h asked before x = hour_from z t h asked before (numbers_held x) (
 
 -- ---- where it is the zone's: `hour_held` is then `hour_solved` (Laws/KeptHour.antt)
 
-pub record FactorsOf (z : Zone) (directions opens : List ℕ) (delta_t : Float) (k : Factors) (sums : List Float) : Type 0 where
+pub record FactorsOf (z : Zone) (directions : List HeatFlowDirection) (opens : List ℕ) (delta_t : Float) (k : Factors) (sums : List Float) : Type 0 where
   pub are : k ≡ factors_by z directions opens delta_t
   pub total : get_or sums 0 nan ≡ area_el_total (at_most24 z.count) z.building_elements
   pub convective : get_or sums 1 nan ≡ convective_by_sum (at_most24 z.count) z.building_elements (h_ci_in directions)
 
 -- arrays of zeros where the first flag is false; else the factors of this zone at the timestep, the directions and the open treatments that are kept
-pub record KeptIn (z : Zone) (flags : List Bool) (numbers : List Float) (key : List ℕ) (a : Arrays) (k : Factors) : Type 0 where
+pub record KeptIn (z : Zone) (flags : List Bool) (numbers : List Float) (key : Key) (a : Arrays) (k : Factors) : Type 0 where
   pub when_empty : get_or flags 0 false ≡ false → a ≡ zeros
-  pub when_held : get_or flags 0 false ≡ true → FactorsOf z key (drop 24 key) (of_bits binary64 (to_bits binary64 (get_or numbers 2 nan))) k numbers
+  pub when_held : get_or flags 0 false ≡ true → FactorsOf z key.0 key.1 (of_bits binary64 (to_bits binary64 (get_or numbers 2 nan))) k numbers
 
 abbrev pub Kept : Zone → Held → Type 0
 Kept z (held flags numbers key a column) = KeptIn z flags numbers key a (factors_held (held flags numbers key a column))

@@ -8,6 +8,7 @@ use Rattle.zone.specs.declared.format.conditions.Conditions.{Conditions}
 use Rattle.zone.specs.declared.format.limits.Limits.{Limits}
 use Rattle.zone.specs.declared.hour.hour.Meeting.TheVariants.{WithGains}
 use Rattle.zone.specs.declared.hour.hour.Asked.TheVariants as Asked
+use Rattle.zone.specs.declared.hour.rule.Rule.{Rule}
 use Rattle.zone.specs.declared.calls.state.State.{State}
 use Rattle.zone.specs.declared.calls.state.Demand.{Demand}
 use Rattle.zone.specs.Hour.Demand.{delta_t, gains_heat_cool, temperatures_with, space_heat_cool_demand}
@@ -41,8 +42,12 @@ abbrev pub held_after : Zone → State → Result Conditions → Held → Held
 held_after z s (ok h) k = keep_factors z (directions_of z (slots_of z s)) (opens_of h) (delta_t h) k
 held_after z s (refused number index) k = k
 
+-- an entry version with its limits
+abbrev pub rule_of : (version : ℕ) → Limits → Rule
+rule_of version l = record { version = version; limits = l }
+
 -- `next_hour` from that
 unfoldable pub next_hour_from : Zone → (version : ℕ) → Limits → State → List ℕ → Held → Result (Demand × State)
 next_hour_from z version l s bytes k =
     bind (tested_hour_and_limits z version l s bytes) λ h.
-    solved_next z (hour_held z (slots_of z s) h (Asked.Demand (WithGains version l)) (replicate 121 zero64) k)
+    solved_next z (hour_held z (slots_of z s) h (Asked.Demand (WithGains (rule_of version l))) (replicate 121 zero64) k)

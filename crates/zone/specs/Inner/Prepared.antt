@@ -1,10 +1,13 @@
 -- A time step's systems, prepared for several rates and loads: all of the matrix but its last column factored, the right side without gains reduced.
 -- prepared_is (proofs/Laws/Prepared.antt) ties them to `calc_temperatures`.
-use Rattle.std.specs.Prelude.{ℕ, zero, suc, Bool, ◌&&◌, List, get_or, set, replicate, Float}
+use Rattle.std.specs.Prelude.{ℕ, Bool, ◌&&◌, List, get_or, set, replicate, Ok, Err, Float}
+use Rattle.std.specs.Prelude as Rust
 use Rattle.std.specs.Float.{nan}
 use Rattle.solver.specs.F64.{zero64}
 use Rattle.solver.specs.Closeness.{valid_divisor}
 use Rattle.solver.specs.FastSolver.{at_most24}
+use Rattle.solver.specs.Answers.{number_of}
+use Rattle.solver.specs.declared.error.SolveError.{SolveError}
 use Rattle.solver.specs.Result.{Result, ok, refused, bind, require}
 use Rattle.solver.specs.Inner.Columns.{column_of, factor_last}
 use Rattle.solver.specs.Inner.Reduced.{reduce_chains, inner_shares, gather_loaded}
@@ -66,11 +69,11 @@ solved_in p volume gains_heat_cool f_hc_c ach =
 abbrev pub free_in : Prepared → (volume : Float) → Conditions → (ach : Float) → Result (List Float × List Float)
 free_in p volume h ach = solved_in p volume (gains_heat_cool h) (frac_conv_gains_heat_cool h) ach
 
--- a number beside a value, which counts where the number is 0
-module _ {A : Type 0} where
-  abbrev pub numbered : ℕ → A → Result A
-  numbered zero x = ok x
-  numbered (suc k) x = refused (suc k) 0
+-- whether it is solved, with what stands beside it, which counts where it is
+module _ {A B : Type 0} where
+  abbrev pub solved_with : Rust.Result A SolveError → B → Result B
+  solved_with (Ok a) x = ok x
+  solved_with (Err e) x = refused (number_of e) 0
 
 -- an assembled system, prepared
 abbrev pub prepared_with : ZoneTerms → List Bool → (next prev column b : List Float) → Columns → Prepared

@@ -1,5 +1,5 @@
 // Demand of an hour, and the hour step: the demand is asked and met.
-ghost use Rattle.std.specs.Prelude.{◌≡◌, OnErr};
+ghost use Rattle.std.specs.Prelude.{◌≡◌};
 ghost use Rattle.zone.specs.Record.BuildingElement.{standard_coefficients};
 ghost use Rattle.zone.specs.Calls.Hour.{demand, hour_step};
 ghost use Rattle.zone.specs.Calls.Answers.{hour_stepped, reply_in, demand_reply, hour_step_reply};
@@ -10,9 +10,9 @@ use crate::calls::state::{Demand, Reply, State};
 use crate::check::arguments::{tested, tested_step};
 use crate::format::conditions::Conditions;
 use crate::format::limits::Limits;
-use crate::hour::delivered::{convective_share, delivered_by, total_gains};
 use crate::hour::hour::{Asked, Meeting};
 use crate::hour::hour_kept::hour_in;
+use crate::hour::rule::Rule;
 use crate::hour::simulation_time::delta_t_of;
 use crate::physics::balance::{HeatBalance, heat_balance};
 use crate::record::building_element::standard_coefficients;
@@ -24,18 +24,25 @@ fn step_balance(
     z: &Zone,
     t: &[f64; 121],
     h: &Conditions,
-    version: u64,
-    limits: Limits,
+    rule: Rule,
     d: Demand,
     after: &[f64; 121],
 ) -> HeatBalance
-    ensures { result ≡ step_balance z.now t.now h.now version limits d after.now }
+    ensures { result ≡ step_balance z.now t.now h.now rule d after.now }
 {
-    let w = delivered_by(version, limits, h, d);
-    let g = total_gains(h, w);
-    let share = convective_share(version, h, w, g);
     let c = standard_coefficients();
-    heat_balance(c, z, t, h, delta_t_of(h), g, share, d.ach_cooling, after)
+    let g = rule.gains(h, d);
+    heat_balance(
+        c,
+        z,
+        t,
+        h,
+        delta_t_of(h),
+        g.gains_heat_cool,
+        g.f_hc_c,
+        d.ach_cooling,
+        after,
+    )
 }
 
 impl State {
@@ -58,29 +65,27 @@ impl State {
         }
     }
 
-    // The answer of an hour step; where it is accepted, `after` is the state after the hour.
+    // The state after the hour, with the answer of an hour step.
     #[tactic(auto, using(crate::proofs::Laws::Hour::hour_untested, crate::proofs::Laws::Hour::hour_refused, crate::proofs::Laws::Hour::hour_accepted))]
     fn stepped(
         &self,
         z: &Zone,
         conditions: &[u8],
-        version: u64,
-        limits: Limits,
-        after: &mut State,
-    ) -> Result<(Demand, HeatBalance), Refusal>
-        ensures step { hour_stepped result after.new ≡ hour_step standard_coefficients z.now version limits self.now conditions.now }
-        ensures kept { OnErr result (after.new ≡ after.old) }
+        rule: Rule,
+    ) -> Result<(State, (Demand, HeatBalance)), Refusal>
+        ensures { hour_stepped result ≡ hour_step standard_coefficients z.now rule.version rule.limits self.now conditions.now }
     {
-        let h = tested_step(z, version, limits, self, conditions)?;
+        let h = tested_step(z, rule, self, conditions)?;
         let t = self.slots(z);
-        let asked = Asked::Demand(Meeting::WithGains(version, limits));
+        let asked = Asked::Demand(Meeting::WithGains(rule));
         let mut temps = [0.0; 121];
         let d = hour_in(z, &t, &h, asked, &mut temps)?;
-        *after = State::of_slots(z, &temps);
-        Ok((d, step_balance(z, &t, &h, version, limits, d, &temps)))
+        let balance = step_balance(z, &t, &h, rule, d, &temps);
+        Ok((State::of_slots(z, &temps), (d, balance)))
     }
 
     // By the rule of an entry version.
+    #[tactic(auto, using(crate::proofs::Laws::Answers::step_replied))]
     pub fn hour_step(
         self,
         z: &Zone,
@@ -90,8 +95,7 @@ impl State {
     ) -> Reply<(Demand, HeatBalance)>
         ensures { reply_in result ≡ hour_step_reply self (hour_step standard_coefficients z.now version limits self conditions.now) }
     {
-        let mut state = self;
-        let answer = self.stepped(z, conditions, version, limits, &mut state);
-        Reply { answer, state }
+        let rule = Rule { version, limits };
+        Reply::of(self, self.stepped(z, conditions, rule))
     }
 }

@@ -12,27 +12,28 @@ use crate::check::arguments::tested_hour_and_limits;
 use crate::format::limits::Limits;
 use crate::hour::hour::{Asked, Meeting};
 use crate::hour::kept::KeptMatrix;
+use crate::hour::rule::Rule;
 use crate::record::refusal::Refusal;
 use crate::record::zone_record::Zone;
 
 impl State {
-    // The answer of an hour after another; where it is accepted, `after` is the state after the hour.
+    // The answer of an hour after another; where it is accepted, `after` is the state after the hour. (Lent, as memory is
+    // fixed: handed up in the Result, as hour step and update do, it took 3,056 bytes more of `hem_append`'s stack.)
     #[tactic(auto, unfolding(crate::specs::Inner::NextHour::next_hour_from))]
     fn hour_kept(
         &self,
         z: &Zone,
         conditions: &[u8],
-        version: u64,
-        limits: Limits,
+        rule: Rule,
         kept: &mut KeptMatrix,
         after: &mut State,
     ) -> Result<Demand, Refusal>
-        ensures held { held_in kept.new ≡ held_after z.now self.now (tested_hour_and_limits z.now version limits self.now conditions.now) (held_in kept.old) }
-        ensures hour { changed_by result after.new ≡ next_hour_from z.now version limits self.now conditions.now (held_in kept.new) }
+        ensures held { held_in kept.new ≡ held_after z.now self.now (tested_hour_and_limits z.now rule.version rule.limits self.now conditions.now) (held_in kept.old) }
+        ensures hour { changed_by result after.new ≡ next_hour_from z.now rule.version rule.limits self.now conditions.now (held_in kept.new) }
         ensures kept_state { OnErr result (after.new ≡ after.old) }
     {
-        let h = tested_hour_and_limits(z, version, limits, self, conditions)?;
-        let asked = Asked::Demand(Meeting::WithGains(version, limits));
+        let h = tested_hour_and_limits(z, rule, self, conditions)?;
+        let asked = Asked::Demand(Meeting::WithGains(rule));
         let mut temps = [0.0; 121];
         let d = kept.hour(z, &self.slots(z), &h, asked, &mut temps)?;
         *after = State::of_slots(z, &temps);
@@ -53,7 +54,8 @@ impl State {
         ensures hour { reply_in result ≡ next_hour_reply self (next_hour_from z.now version limits self conditions.now (held_in kept.new)) }
     {
         let mut state = self;
-        let answer = self.hour_kept(z, conditions, version, limits, kept, &mut state);
+        let rule = Rule { version, limits };
+        let answer = self.hour_kept(z, conditions, rule, kept, &mut state);
         Reply { answer, state }
     }
 

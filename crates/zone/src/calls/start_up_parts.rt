@@ -4,21 +4,17 @@ ghost use Rattle.zone.specs.Calls.State.{slots_of};
 ghost use Rattle.zone.specs.Calls.StartUp.{first_hour, start_up_conditions, temp_start, start_state, all_close, close};
 
 use crate::format::conditions::{AirChangesPerHourArgument, Conditions};
-use crate::format::decode::no_element_hour;
-use crate::physics::node_layout::{to_nodes, to_slots, two_nodes_of};
+use crate::physics::node_layout::{to_nodes, to_slots};
 use crate::record::building_element::{Element, ElementHour};
 use crate::record::zone_record::Zone;
 use solver::isclose;
+use std::array::from_fn;
 
-// The head's first-hour parts. (An array's `map` would copy all the elements.)
+// The head's first-hour parts.
 fn first_hours(elements: &[Element; 24]) -> [ElementHour; 24]
     ensures { result ≡ map first_hour elements.now }
 {
-    let mut hours = [no_element_hour(); 24];
-    for i in 0..24 {
-        hours[i] = elements[i].first_hour;
-    }
-    hours
+    from_fn(|e| elements[e].first_hour)
 }
 
 // Start-up's conditions, with the head's first-hour parts.
@@ -54,10 +50,9 @@ fn temp_start(z: &Zone) -> f64
 pub fn start_slots(z: &Zone) -> [f64; 121]
     ensures { result ≡ slots_of z.now (start_state z.now) }
 {
-    let two_nodes = two_nodes_of(z);
     let temp = temp_start(z);
     let temps = [temp; 121];
-    to_slots(z.count, &two_nodes, &temps)
+    to_slots(z, &temps)
 }
 
 fn all_close(a: &[f64], b: &[f64]) -> bool
@@ -70,8 +65,7 @@ fn all_close(a: &[f64], b: &[f64]) -> bool
 pub fn close(z: &Zone, before: &[f64; 121], after: &[f64; 121]) -> bool
     ensures { result ≡ close z.now before.now after.now }
 {
-    let two_nodes = two_nodes_of(z);
-    let new_temps = to_nodes(z.count, &two_nodes, after);
-    let old_temps = to_nodes(z.count, &two_nodes, before);
+    let new_temps = to_nodes(z, after);
+    let old_temps = to_nodes(z, before);
     all_close(&new_temps, &old_temps)
 }

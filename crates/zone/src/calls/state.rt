@@ -1,12 +1,16 @@
-// The state that is carried from hour to hour, and what the calls answer.
+// The state that is carried from hour to hour, and what the calls answer. Calls that change it take it by value and hand back the new one, in a form that
+// the papers name.
 ghost use Rattle.std.specs.Prelude.{◌≡◌};
+ghost use Rattle.zone.specs.Answers.{answered};
+ghost use Rattle.zone.specs.Calls.Answers.{reply_in, update_reply};
 ghost use Rattle.zone.specs.Calls.State.{slots_of, state_of};
 
-use crate::physics::node_layout::{to_nodes, to_slots, two_nodes_of};
+use crate::physics::node_layout::{to_nodes, to_slots};
 use crate::record::refusal::Refusal;
 use crate::record::zone_record::Zone;
 
-// Node temperatures: element by element from the outer to the inner surface, then the air. The first `nodes` of `temps` count.
+// Node temperatures: element by element from the outer to the inner surface, then the air. The first `nodes` of `temps` count: an array
+// and its count, for there is no heap, and a caller in C lends them so.
 #[derive(Clone, Copy)]
 pub struct State {
     pub nodes: usize,
@@ -48,23 +52,41 @@ pub struct Reply<A> {
     pub state: State,
 }
 
+impl<A> Reply<A> {
+    // Of an answer with the state after it; a refusal leaves the state that was given.
+    pub(crate) fn of(given: State, answer: Result<(State, A), Refusal>) -> Reply<A>
+        ensures { reply_in result ≡ update_reply given (answered answer) }
+    {
+        match answer {
+            Ok((state, a)) => Reply {
+                answer: Ok(a),
+                state,
+            },
+            Err(refusal) => Reply {
+                answer: Err(refusal),
+                state: given,
+            },
+        }
+    }
+}
+
 impl State {
     // The temperatures in the solver's slots.
     #[tactic(auto, unfolding(crate::specs::Calls::State::slots_of))]
-    pub fn slots(&self, z: &Zone) -> [f64; 121]
+    pub(crate) fn slots(&self, z: &Zone) -> [f64; 121]
         ensures { result ≡ slots_of z.now self.now }
     {
-        to_slots(z.count, &two_nodes_of(z), &self.temps)
+        to_slots(z, &self.temps)
     }
 
     // The state of temperatures that stand in slots.
     #[tactic(auto, unfolding(crate::specs::Calls::State::state_of))]
-    pub fn of_slots(z: &Zone, t: &[f64; 121]) -> State
+    pub(crate) fn of_slots(z: &Zone, t: &[f64; 121]) -> State
         ensures { result ≡ state_of z.now t.now }
     {
         State {
             nodes: z.node_count(),
-            temps: to_nodes(z.count, &two_nodes_of(z), t),
+            temps: to_nodes(z, t),
         }
     }
 }

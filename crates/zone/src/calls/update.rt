@@ -1,65 +1,59 @@
 // The update of the temperatures by given gains of heating or cooling.
-ghost use Rattle.std.specs.Prelude.{◌≡◌, ◌&&◌, OnErr};
+ghost use Rattle.std.specs.Prelude.{◌≡◌, ◌&&◌};
 ghost use Rattle.zone.specs.Record.BuildingElement.{standard_coefficients};
 ghost use Rattle.zone.specs.Check.Ranges.{gains_range, fraction_range, rate_range};
 ghost use Rattle.zone.specs.Calls.Hour.{step, update_temperatures};
-ghost use Rattle.zone.specs.Answers.{changed};
+ghost use Rattle.zone.specs.Answers.{answered};
 ghost use Rattle.zone.specs.Calls.Answers.{reply_in, update_reply};
 
 use crate::calls::state::{Reply, State};
 use crate::check::arguments::tested;
-use crate::check::ranges::{fraction_in_range, gains_in_range, rate_in_range};
+use crate::check::ranges::{FRACTION, GAINS, RATE};
 use crate::format::conditions::Conditions;
 use crate::hour::hour::Asked;
 use crate::hour::hour_kept::hour_in;
 use crate::hour::simulation_time::delta_t_of;
+use crate::hour::time_step::HeatCoolGains;
 use crate::physics::balance::{HeatBalance, heat_balance};
 use crate::record::building_element::standard_coefficients;
 use crate::record::refusal::Refusal;
 use crate::record::zone_record::Zone;
 
-fn load_in_range(gains_heat_cool: f64, frac_convective: f64, ach: f64) -> bool
-    ensures { result ≡ (gains_range gains_heat_cool && fraction_range frac_convective && rate_range ach) }
+#[tactic(auto, using(crate::proofs::Laws::Ranges::ranges))]
+fn load_in_range(gains: HeatCoolGains, ach: f64) -> bool
+    ensures { result ≡ (gains_range gains.gains_heat_cool && fraction_range gains.f_hc_c && rate_range ach) }
 {
-    gains_in_range(gains_heat_cool) & fraction_in_range(frac_convective) & rate_in_range(ach)
+    GAINS.contains(gains.gains_heat_cool) & FRACTION.contains(gains.f_hc_c) & RATE.contains(ach)
 }
 
 impl State {
-    // The step, once its arguments are tested; where it is accepted, `after` is the state after it.
+    // The step, once its arguments are tested: the state after it and its heat balance.
     #[tactic(auto, using(crate::proofs::Laws::Hour::step_refused, crate::proofs::Laws::Hour::step_accepted))]
     fn step(
         &self,
         z: &Zone,
         h: &Conditions,
-        gains_heat_cool: f64,
-        frac_convective: f64,
+        gains: HeatCoolGains,
         ach: f64,
-        after: &mut State,
-    ) -> Result<HeatBalance, Refusal>
-        ensures step { changed result after.new ≡ step standard_coefficients z.now self.now h.now gains_heat_cool frac_convective ach }
-        ensures kept { OnErr result (after.new ≡ after.old) }
+    ) -> Result<(State, HeatBalance), Refusal>
+        ensures { answered result ≡ step standard_coefficients z.now self.now h.now gains.gains_heat_cool gains.f_hc_c ach }
     {
         let before = self.slots(z);
-        let asked = Asked::Update {
-            gains_heat_cool,
-            f_hc_c: frac_convective,
-            ach,
-        };
+        let asked = Asked::Update(gains, ach);
         let mut temps = [0.0; 121];
         hour_in(z, &before, h, asked, &mut temps)?;
-        *after = State::of_slots(z, &temps);
-        let c = standard_coefficients();
-        Ok(heat_balance(
-            c,
+        let balance = heat_balance(
+            standard_coefficients(),
             z,
             &before,
             h,
             delta_t_of(h),
-            gains_heat_cool,
-            frac_convective,
+            gains.gains_heat_cool,
+            gains.f_hc_c,
             ach,
             &temps,
-        ))
+        );
+        Ok((State::of_slots(z, &temps), balance))
     }
 
     #[tactic(auto, unfolding(crate::specs::Calls::Hour::update_temperatures))]
@@ -67,17 +61,14 @@ impl State {
         &self,
         z: &Zone,
         conditions: &[u8],
-        gains_heat_cool: f64,
-        frac_convective: f64,
+        gains: HeatCoolGains,
         ach: f64,
-        after: &mut State,
-    ) -> Result<HeatBalance, Refusal>
-        ensures update { changed result after.new ≡ update_temperatures standard_coefficients z.now self.now conditions.now gains_heat_cool frac_convective ach }
-        ensures kept { OnErr result (after.new ≡ after.old) }
+    ) -> Result<(State, HeatBalance), Refusal>
+        ensures { answered result ≡ update_temperatures standard_coefficients z.now self.now conditions.now gains.gains_heat_cool gains.f_hc_c ach }
     {
         let h = tested(z, self, conditions)?;
-        if load_in_range(gains_heat_cool, frac_convective, ach) {
-            return self.step(z, &h, gains_heat_cool, frac_convective, ach, after);
+        if load_in_range(gains, ach) {
+            return self.step(z, &h, gains, ach);
         }
         Err(Refusal::ConditionsValue(0))
     }
@@ -93,15 +84,10 @@ impl State {
     ) -> Reply<HeatBalance>
         ensures { reply_in result ≡ update_reply self (update_temperatures standard_coefficients z.now self conditions.now gains_heat_cool frac_convective ach) }
     {
-        let mut state = self;
-        let answer = self.updated(
-            z,
-            conditions,
+        let gains = HeatCoolGains {
             gains_heat_cool,
-            frac_convective,
-            ach,
-            &mut state,
-        );
-        Reply { answer, state }
+            f_hc_c: frac_convective,
+        };
+        Reply::of(self, self.updated(z, conditions, gains, ach))
     }
 }

@@ -7,26 +7,20 @@ ghost use Rattle.zone.specs.Calls.State.{all_within_state_bound, zone_and_state_
 ghost use Rattle.zone.specs.Calls.Hour.{tested_hour, tested, tested_hour_and_limits, tested_step};
 
 use crate::calls::state::State;
-use crate::check::versions::{hour_version, limits_valid};
+use crate::check::versions::hour_version;
 use crate::check::zone_tests::zone_test;
 use crate::format::conditions::Conditions;
-use crate::format::limits::Limits;
 use crate::format::read_conditions::read_conditions;
+use crate::hour::rule::Rule;
 use crate::record::refusal::Refusal;
 use crate::record::zone_record::Zone;
 use solver::within_state_bound;
 
-// The first `n`, or all where there are fewer.
-fn all_within_state_bound(t: &[f64], n: usize) -> bool
-    ensures { result ≡ all_within_state_bound (take n t.now) }
-{
-    t.iter().take(n).all(|x| within_state_bound(*x))
-}
-
 fn state_valid(z: &Zone, s: &State) -> bool
     ensures { result ≡ (eqb s.now.nodes (node_count z.now) && all_within_state_bound (take s.now.nodes s.now.temps)) }
 {
-    (s.nodes == z.node_count()) & all_within_state_bound(&s.temps, s.nodes)
+    let within = s.temps.iter().take(s.nodes).all(|x| within_state_bound(*x));
+    (s.nodes == z.node_count()) & within
 }
 
 // 4, 5, then 6.
@@ -66,15 +60,14 @@ pub fn tested(z: &Zone, s: &State, conditions: &[u8]) -> Result<Conditions, Refu
 #[tactic(auto, unfolding(crate::specs::Calls::Hour::tested_hour_and_limits))]
 pub fn tested_hour_and_limits(
     z: &Zone,
-    version: u64,
-    limits: Limits,
+    rule: Rule,
     s: &State,
     conditions: &[u8],
 ) -> Result<Conditions, Refusal>
-    ensures { answered result ≡ tested_hour_and_limits z.now version limits s.now conditions.now }
+    ensures { answered result ≡ tested_hour_and_limits z.now rule.version rule.limits s.now conditions.now }
 {
     let hour = tested_hour(z, s, conditions)?;
-    if limits_valid(version, limits) {
+    if rule.limits_valid() {
         return Ok(hour);
     }
     Err(Refusal::LimitValue)
@@ -84,16 +77,15 @@ pub fn tested_hour_and_limits(
 #[tactic(auto, unfolding(crate::specs::Calls::Hour::tested_step))]
 pub fn tested_step(
     z: &Zone,
-    version: u64,
-    limits: Limits,
+    rule: Rule,
     s: &State,
     conditions: &[u8],
 ) -> Result<Conditions, Refusal>
-    ensures { answered result ≡ tested_step z.now version limits s.now conditions.now }
+    ensures { answered result ≡ tested_step z.now rule.version rule.limits s.now conditions.now }
 {
     zone_test(z)?;
-    if hour_version(version) {
-        return tested_hour_and_limits(z, version, limits, s, conditions);
+    if hour_version(rule.version) {
+        return tested_hour_and_limits(z, rule, s, conditions);
     }
     Err(Refusal::FalseEntry(0))
 }

@@ -6,8 +6,7 @@ ghost use Rattle.zone.specs.declared.record.building_element.Element.{Element};
 ghost use Rattle.zone.specs.Format.Conditions.{rate_code_valid, open_bits_valid, hour_and_gains_in_range, setpoints_in_range, ach_args_in_range, conditions_test};
 
 use crate::check::ranges::{
-    fraction_in_range, gains_in_range, heating_setpoint_in_range, hour_length_in_range,
-    open_within, rate_in_range, setpoint_in_range, temperature_in_range,
+    FRACTION, GAINS, HEATING_SETPOINT, HOUR_LENGTH, RATE, SETPOINT, TEMPERATURE, open_within,
 };
 use crate::check::zone_tests::element_hour_in_range;
 use crate::format::bytes::read_u64_be;
@@ -35,50 +34,44 @@ pub fn open_bits_valid(s: &[u8], elements: &[Element]) -> bool
     requires { (length elements.now ≤ 24) × (conditions_length (length elements.now) ≤ length s.now) }
     ensures { result ≡ open_bits_valid s.now (map (λ (e : Element). e.treatments) elements.now) first_element_hour }
 {
-    for (i, e) in elements.iter().enumerate() {
+    elements.iter().enumerate().all(|(i, e)| {
         let open = s[FIRST_ELEMENT_HOUR + ELEMENT_HOUR_SIZE * i + OPEN_BYTE];
-        if !open_within(e.treatments, open) {
-            return false;
-        }
-    }
-    true
+        open_within(e.treatments, open)
+    })
 }
 
-#[tactic(auto, unfolding(crate::specs::Format::Conditions::hour_and_gains_in_range))]
+#[tactic(auto, using(crate::proofs::Laws::Ranges::ranges), unfolding(crate::specs::Format::Conditions::hour_and_gains_in_range))]
 fn hour_and_gains_in_range(c: &Conditions) -> bool
     ensures { result ≡ hour_and_gains_in_range c.now }
 {
-    let length = hour_length_in_range(c.delta_t_h);
-    let external = temperature_in_range(c.temp_ext_air);
-    let internal = gains_in_range(c.gains_internal);
-    let solar = gains_in_range(c.gains_solar);
-    let heating = fraction_in_range(c.frac_convective_heat);
-    let cooling = fraction_in_range(c.frac_convective_cool);
-    length & external & internal & solar & heating & cooling
+    HOUR_LENGTH.contains(c.delta_t_h)
+        & TEMPERATURE.contains(c.temp_ext_air)
+        & GAINS.contains(c.gains_internal)
+        & GAINS.contains(c.gains_solar)
+        & FRACTION.contains(c.frac_convective_heat)
+        & FRACTION.contains(c.frac_convective_cool)
 }
 
-#[tactic(auto, unfolding(crate::specs::Format::Conditions::setpoints_in_range))]
+#[tactic(auto, using(crate::proofs::Laws::Ranges::ranges), unfolding(crate::specs::Format::Conditions::setpoints_in_range))]
 fn setpoints_in_range(c: &Conditions) -> bool
     ensures { result ≡ setpoints_in_range c.now }
 {
-    let heating = heating_setpoint_in_range(c.temp_setpnt_heat);
-    let cooling = setpoint_in_range(c.temp_setpnt_cool);
-    let ventilation = setpoint_in_range(c.temp_setpnt_cool_vent);
-    let supply = temperature_in_range(c.avg_air_supply_temp);
-    let convective = gains_in_range(c.gains_heat_cool_convective);
-    let radiative = gains_in_range(c.gains_heat_cool_radiative);
-    heating & cooling & ventilation & supply & convective & radiative
+    HEATING_SETPOINT.contains(c.temp_setpnt_heat)
+        & SETPOINT.contains(c.temp_setpnt_cool)
+        & SETPOINT.contains(c.temp_setpnt_cool_vent)
+        & TEMPERATURE.contains(c.avg_air_supply_temp)
+        & GAINS.contains(c.gains_heat_cool_convective)
+        & GAINS.contains(c.gains_heat_cool_radiative)
 }
 
+#[tactic(auto, using(crate::proofs::Laws::Ranges::ranges))]
 fn ach_args_in_range(a: AirChangesPerHourArgument) -> bool
     ensures { result ≡ ach_args_in_range a }
 {
     match a {
-        AirChangesPerHourArgument::Cooling(rate) => rate_in_range(rate),
+        AirChangesPerHourArgument::Cooling(rate) => RATE.contains(rate),
         AirChangesPerHourArgument::TargetAndWindowsOpen(target, windows) => {
-            let first = rate_in_range(target);
-            let second = rate_in_range(windows);
-            first & second
+            RATE.contains(target) & RATE.contains(windows)
         }
     }
 }
@@ -92,10 +85,9 @@ pub fn conditions_test(n: usize, c: &Conditions) -> Result<(), Refusal>
     if !(hour_and_gains_in_range(c) & setpoints_in_range(c) & ach_args_in_range(c.ach_args)) {
         return Err(Refusal::ConditionsValue(0));
     }
-    for (i, hour) in c.elements[..n].iter().enumerate() {
-        if !element_hour_in_range(hour) {
-            return Err(Refusal::ConditionsValue(i + 1));
-        }
+    let mut hours = c.elements[..n].iter();
+    match hours.position(|h| !element_hour_in_range(h)) {
+        Some(i) => Err(Refusal::ConditionsValue(i + 1)),
+        None => Ok(()),
     }
-    Ok(())
 }

@@ -1,9 +1,7 @@
-// Entry versions, which an hour step and an append name, and the limits that an hour has from version 3 on.
+// Entry versions, which an hour step and an append name, and the limits that an hour has from version 3 on. A version is a number and no enum: the
+// papers order versions ("from version 3 on"), and a caller may name any, also one that no hour has.
 ghost use Rattle.std.specs.Prelude.{◌≡◌};
-ghost use Rattle.zone.specs.Calls.Hour.{hour_version, has_limits, limits_valid};
-
-use crate::check::ranges::power_limit_in_range;
-use crate::format::limits::Limits;
+ghost use Rattle.zone.specs.Calls.Hour.{hour_version, has_limits};
 
 const FIRST_VERSION: u64 = 1;
 
@@ -13,12 +11,11 @@ const NEWEST_VERSION: u64 = 3;
 const LIMITS_VERSION: u64 = 3;
 
 // Whether hours have this version.
+#[tactic(auto, using(crate::proofs::Laws::Ranges::partial_le_is))]
 pub fn hour_version(version: u64) -> bool
     ensures { result ≡ hour_version version }
 {
-    let from = FIRST_VERSION <= version;
-    let to = version <= NEWEST_VERSION;
-    from & to
+    (FIRST_VERSION..=NEWEST_VERSION).contains(&version)
 }
 
 // Whether an hour of this version has limits.
@@ -26,17 +23,4 @@ pub fn has_limits(version: u64) -> bool
     ensures { result ≡ has_limits version }
 {
     LIMITS_VERSION <= version
-}
-
-// Both lie in their range; of an hour without limits they are not looked at.
-pub fn limits_valid(version: u64, limits: Limits) -> bool
-    ensures { result ≡ limits_valid version limits }
-{
-    if has_limits(version) {
-        let heating = power_limit_in_range(limits.heating);
-        let cooling = power_limit_in_range(limits.cooling);
-        heating & cooling
-    } else {
-        true
-    }
 }

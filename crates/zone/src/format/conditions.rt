@@ -1,7 +1,7 @@
 // The record of an hour's conditions.
 use crate::record::building_element::ElementHour;
 
-// A fixed air change rate, or a target with the rate of open windows.
+// A fixed air change rate, or a target with the rate of open windows. The papers name this enum, and have it as a field of the conditions.
 #[derive(Clone, Copy)]
 pub enum AirChangesPerHourArgument {
     Cooling(f64),

@@ -1,5 +1,5 @@
 // The values that stand in a head's bytes.
-ghost use Rattle.std.specs.Prelude.{◌≡◌, true, ◌++◌, ◌+◌, ◌-◌, ◌*◌, ◌≤◌, length, replicate, take, drop};
+ghost use Rattle.std.specs.Prelude.{◌≡◌, true, ◌++◌, ◌+◌, ◌-◌, ◌*◌, ◌≤◌, length, replicate};
 ghost use Rattle.solver.specs.Result.{ok};
 ghost use Rattle.zone.specs.Format.Bytes.{float_size};
 ghost use Rattle.zone.specs.Format.Layout.{first_element, element_hour_size};
@@ -18,13 +18,14 @@ use crate::format::layout::{
 use crate::record::building_element::{Element, ElementHour, Kind, number_of_nodes};
 use crate::record::zone_record::{Zone, ZoneTemperatureControlBasis};
 
-// The `count` floats from `at` on, into the places from `to` on.
-pub fn floats_to(out: &mut [f64], to: usize, s: &[u8], at: usize, count: usize)
-    requires { (to + count ≤ length out.old) × (at + float_size * count ≤ length s.now) }
-    ensures { out.new ≡ take to out.old ++ (floats_at s.now at count ++ drop (to + count) out.old) }
+// The floats from `at` on, into all places. By index: a proof knows nothing of the places that a loop over
+// an adapter of `iter_mut` has written, as `zip` or `enumerate`.
+pub fn floats_to(out: &mut [f64], s: &[u8], at: usize)
+    requires { at + float_size * length out.old ≤ length s.now }
+    ensures { out.new ≡ floats_at s.now at (length out.old) }
 {
-    for i in 0..count {
-        out[to + i] = read_f64_be(s, at + FLOAT_SIZE * i);
+    for i in 0..out.len() {
+        out[i] = read_f64_be(s, at + FLOAT_SIZE * i);
     }
 }
 
@@ -34,7 +35,7 @@ fn array_at<const N: usize>(s: &[u8], at: usize, count: usize) -> [f64; N]
     ensures { result ≡ array_at N s.now at count }
 {
     let mut out = [0.0; N];
-    floats_to(&mut out, 0, s, at, count);
+    floats_to(&mut out[..count], s, at);
     out
 }
 
@@ -135,12 +136,13 @@ fn elements_to(s: &[u8], end: usize, n: usize, elements: &mut [Element; 24])
 {
     elements[n..].fill(no_element());
     let mut p = FIRST_ELEMENT;
-    for i in 0..n {
-        elements[i] = element_at(s, p);
+    for slot in elements[..n].iter_mut() {
+        *slot = element_at(s, p);
         p += size_at(s, p);
     }
 }
 
+// 0 or 1. Any other is taken as 1, as in the definition, for the reason that stands at `kind_of`.
 fn basis_of(b: u8) -> ZoneTemperatureControlBasis
     ensures { result ≡ basis_of b }
 {

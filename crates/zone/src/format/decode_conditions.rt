@@ -25,7 +25,7 @@ fn ach_args_at(s: &[u8], at: usize) -> AirChangesPerHourArgument
     }
 }
 
-// The parts of the first `n` elements.
+// The parts of the first `n` elements; by index, for the reason that stands at `floats_to`.
 fn element_hours_at(s: &[u8], n: usize) -> [ElementHour; 24]
     requires { (n ≤ 24) × (conditions_length n ≤ length s.now) }
     ensures { result ≡ element_hours_at s.now first_element_hour n ++ replicate (24 - n) no_element_hour }

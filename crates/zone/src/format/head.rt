@@ -1,7 +1,7 @@
 // The head of a book: a zone in bytes.
-ghost use Rattle.std.specs.Prelude.{◌≡◌, ◌+◌, ◌≤◌, length, OnErr};
+ghost use Rattle.std.specs.Prelude.{◌≡◌, ◌+◌, ◌≤◌, ◌&&◌, leb, length, OnErr};
 ghost use Rattle.zone.specs.Answers.{answered};
-ghost use Rattle.zone.specs.Format.Layout.{length_size, shortest_length, first_element};
+ghost use Rattle.zone.specs.Format.Layout.{length_size, shortest_length, longest_length, first_element};
 ghost use Rattle.zone.specs.Inner.Format.{kind_valid, structure_within};
 ghost use Rattle.zone.specs.Format.Head.{elements_end, structure_of};
 ghost use Rattle.zone.specs.Inner.Head.{structured_head, head_read};
@@ -17,6 +17,7 @@ use crate::format::layout::{
 use crate::record::refusal::Refusal;
 use crate::record::zone_record::Zone;
 
+// Whether a kind has this number, with so many treatments: what `kind_of` takes for a PartyWall past 5 is refused here.
 fn kind_valid(number: u8, treatments: usize) -> bool
     ensures { result ≡ kind_valid number treatments }
 {
@@ -69,6 +70,14 @@ fn structure_within(s: &[u8], end: usize) -> Result<usize, Refusal>
     Ok(end)
 }
 
+// Whether a head's bytes after its length are so many.
+#[tactic(auto, using(crate::proofs::Laws::Ranges::partial_le_is))]
+fn length_valid(length: usize) -> bool
+    ensures { result ≡ (leb shortest_length length && leb length longest_length) }
+{
+    (SHORTEST_LENGTH..=LONGEST_LENGTH).contains(&length)
+}
+
 // Where a head ends: its structure, before any value is judged.
 fn structure_of(s: &[u8]) -> Result<usize, Refusal>
     ensures { answered result ≡ structure_of s.now }
@@ -77,8 +86,7 @@ fn structure_of(s: &[u8]) -> Result<usize, Refusal>
         return Err(Refusal::HeadShort);
     }
     let length = read_u32_be(s, 0) as usize;
-    let length_good = (SHORTEST_LENGTH <= length) & (length <= LONGEST_LENGTH);
-    if !length_good {
+    if !length_valid(length) {
         return Err(Refusal::HeadLength);
     }
     let end = LENGTH_SIZE + length;
@@ -89,7 +97,7 @@ fn structure_of(s: &[u8]) -> Result<usize, Refusal>
 }
 
 // A byte string as a head, and its zone into one that is lent: the head's length, or 1 to 4, which leave the zone as it was. Its values are judged by
-// those who use them.
+// those who use them. Lent, since the engine has no heap, and a zone of 5.4 KB handed up in a Result would lie on the stack more than once.
 pub fn read_head(bytes: &[u8], zone: &mut Zone) -> Result<usize, Refusal>
     ensures head { head_read result zone.new ≡ structured_head bytes.now }
     ensures refused { OnErr result (zone.new ≡ zone.old) }

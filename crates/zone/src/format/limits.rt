@@ -15,7 +15,8 @@ pub struct Limits {
 // Both floats.
 const LIMITS_SIZE: usize = 2 * FLOAT_SIZE;
 
-// The limits in the first bytes; 0 twice where there are too few: of an hour without limits, which nobody looks at.
+// The limits in the first bytes; 0 twice where there are too few: of an hour without limits, which nobody looks at. No Option: an hour's limits are
+// two numbers in the papers with every version, and each caller would have to put 0 twice for a None.
 #[tactic(auto, unfolding(crate::specs::Format::Limits::limits_in))]
 pub fn read_limits(bytes: &[u8]) -> Limits
     ensures { result ≡ limits_in bytes.now }

@@ -13,9 +13,7 @@ const MOST_NODES: usize = 121;
 pub fn read_temperatures(bytes: &[u8], nodes: usize, temps: &mut [f64; 121])
     ensures { temps.new ≡ temperatures_from bytes.now nodes temps.old }
 {
-    if nodes <= MOST_NODES {
-        if FLOAT_SIZE * nodes <= bytes.len() {
-            floats_to(temps, 0, bytes, 0, nodes);
-        }
+    if nodes <= MOST_NODES && FLOAT_SIZE * nodes <= bytes.len() {
+        floats_to(&mut temps[..nodes], bytes, 0);
     }
 }

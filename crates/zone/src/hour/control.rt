@@ -1,13 +1,14 @@
 // What the setpoints are held against: a control temperature, by the zone's basis.
 ghost use Rattle.std.specs.Prelude.{◌≡◌};
 ghost use Rattle.zone.specs.Inner.Demand.{zone_temperatures};
+ghost use Rattle.zone.specs.Inner.Operative.{control_by};
 ghost use Rattle.zone.specs.Inner.PreparedHour.{control_in};
 
 use crate::hour::windows::ZoneTemperatures;
 use crate::physics::operative::temp_operative_by_temp_vector;
-use crate::record::zone_record::ZoneTemperatureControlBasis;
+use crate::record::zone_record::{Zone, ZoneTemperatureControlBasis};
 
-// The basis, and for the operative temperature the elements' areas and their total.
+// The basis, and for the operative temperature the elements' areas, with their count, for there is no heap, and their total.
 #[derive(Clone, Copy)]
 pub struct Control {
     pub basis: ZoneTemperatureControlBasis,
@@ -17,6 +18,18 @@ pub struct Control {
 }
 
 impl Control {
+    // Of a zone, with the areas of its elements and their total.
+    pub fn of(z: &Zone, area: [f64; 24], area_el_total: f64) -> Control
+        ensures { control_in result ≡ control_by z.now.temp_setpnt_basis z.now.count area area_el_total }
+    {
+        Control {
+            basis: z.temp_setpnt_basis,
+            count: z.count,
+            area,
+            area_el_total,
+        }
+    }
+
     pub fn temperature(&self, t: &[f64; 121]) -> f64
         ensures { result ≡ control_in self.now t.now }
     {

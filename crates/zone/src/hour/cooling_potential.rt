@@ -1,8 +1,9 @@
-// Cooling by ventilation: the choice of an air change rate.
+// Cooling by ventilation: the choice of an air change rate. `last` and `temps` are lent apart: a calculation at another rate has a last column of its own and
+// the same `temps`. Target rate and windows' are two numbers, as in windows.rt.
 ghost use Rattle.std.specs.Prelude.{◌≡◌, []};
 ghost use Rattle.zone.specs.Answers.{answered_with};
 ghost use Rattle.zone.specs.Inner.Demand.{cool_by_windows, with_choice, choose_rate, cooling_potential};
-ghost use Rattle.zone.specs.Inner.PreparedHour.{control_in, prepared_in};
+ghost use Rattle.zone.specs.Inner.PreparedHour.{of_hour};
 
 use crate::format::conditions::AirChangesPerHourArgument;
 use crate::hour::time_step::PreparedHour;
@@ -23,7 +24,7 @@ impl PreparedHour<'_> {
         last: &mut [f64; 25],
         temps: &mut [f64; 121],
     ) -> Result<VentilationChoice, Refusal>
-        ensures { answered_with result last.new ≡ cool_by_windows (prepared_in self.now) self.now.zone.now.volume (control_in self.now.control) self.now.hour.now target temp_free ach trigger last.old }
+        ensures { answered_with result last.new ≡ of_hour cool_by_windows self.now target temp_free ach trigger last.old }
     {
         let mut extra = [0.0; 25];
         self.free_temperatures(ach, &mut extra, temps)?;
@@ -53,7 +54,7 @@ impl PreparedHour<'_> {
         last: &mut [f64; 25],
         temps: &mut [f64; 121],
     ) -> Result<VentilationChoice, Refusal>
-        ensures { answered_with result last.new ≡ with_choice (prepared_in self.now) self.now.zone.now.volume (control_in self.now.control) self.now.hour.now target windows free vent_max last.old }
+        ensures { answered_with result last.new ≡ of_hour with_choice self.now target windows free vent_max last.old }
     {
         let h = self.hour;
         let trigger = Some(ach_to_reach(h, target, windows, free, vent_max, h.temp_setpnt_heat));
@@ -77,7 +78,7 @@ impl PreparedHour<'_> {
         last: &mut [f64; 25],
         temps: &mut [f64; 121],
     ) -> Result<VentilationChoice, Refusal>
-        ensures { answered_with result last.new ≡ choose_rate (prepared_in self.now) self.now.zone.now.volume (control_in self.now.control) self.now.hour.now target windows free last.old }
+        ensures { answered_with result last.new ≡ of_hour choose_rate self.now target windows free last.old }
     {
         let mut open = [0.0; 25];
         self.free_temperatures(windows, &mut open, temps)?;
@@ -93,8 +94,9 @@ impl PreparedHour<'_> {
         last: &mut [f64; 25],
         temps: &mut [f64; 121],
     ) -> Result<VentilationChoice, Refusal>
-        ensures { answered_with result last.new ≡ cooling_potential (prepared_in self.now) self.now.zone.now.volume (control_in self.now.control) self.now.hour.now free self.now.hour.now.ach_args last.old }
+        ensures { answered_with result last.new ≡ of_hour cooling_potential self.now free self.now.hour.now.ach_args last.old }
     {
+        // Copied before the match: the papers name that form.
         let ach_args = self.hour.ach_args;
         match ach_args {
             AirChangesPerHourArgument::Cooling(ach) => Ok(VentilationChoice {

@@ -9,7 +9,7 @@ use crate::format::conditions::Conditions;
 use crate::hour::control::Control;
 use crate::hour::hour::Asked;
 use crate::hour::hour_kept::hour_in;
-use crate::hour::solves::{frac_conv_gains_heat_cool_of, gains_heat_cool_of};
+use crate::hour::solves::free_gains_of;
 use crate::hour::windows::ZoneTemperatures;
 use crate::physics::matrix::area_total;
 use crate::physics::operative::areas_of;
@@ -21,13 +21,8 @@ fn zone_temperatures_of(z: &Zone, t: &[f64; 121]) -> ZoneTemperatures
     ensures { result ≡ zone_temperatures (control_temperature z.now) t.now }
 {
     let area = areas_of(z);
-    let control = Control {
-        basis: z.temp_setpnt_basis,
-        count: z.count,
-        area,
-        area_el_total: area_total(z.count.min(24), &area),
-    };
-    control.zone_temperatures(t)
+    let total = area_total(&area[..z.element_count()]);
+    Control::of(z, area, total).zone_temperatures(t)
 }
 
 // It is an update by the gains that are there before any demand.
@@ -40,13 +35,7 @@ pub fn free_at(
 ) -> Result<ZoneTemperatures, Refusal>
     ensures { answered result ≡ free_at z.now t.now h.now ach }
 {
-    let gains_heat_cool = gains_heat_cool_of(h);
-    let f_hc_c = frac_conv_gains_heat_cool_of(h);
-    let asked = Asked::Update {
-        gains_heat_cool,
-        f_hc_c,
-        ach,
-    };
+    let asked = Asked::Update(free_gains_of(h), ach);
     let mut after = [0.0; 121];
     hour_in(z, t, h, asked, &mut after)?;
     Ok(zone_temperatures_of(z, &after))

@@ -13,24 +13,20 @@ use crate::hour::control::Control;
 use crate::hour::hour::Asked;
 use crate::hour::kept::{KeptMatrix, directions_of};
 use crate::hour::simulation_time::delta_t_of;
-use crate::hour::time_step::{PreparedHour, terms_of};
-use crate::physics::assembly::assemble_sides;
+use crate::hour::time_step::PreparedHour;
+use crate::physics::assembly::{Key, assemble_sides};
 use crate::physics::operative::areas_of;
 use crate::record::building_element::standard_coefficients;
 use crate::record::refusal::Refusal;
 use crate::record::zone_record::Zone;
 use solver::RightSide;
+use std::array::from_fn;
 
 // The open treatments of the elements.
-#[tactic(auto, using(crate::proofs::Laws::Loops::store_turn, crate::proofs::Laws::Loops::repeat_end, crate::proofs::Laws::Elements::element_hour_is), unfolding(crate::specs::Physics::Slots::with_terms))]
 fn opens_of(h: &Conditions) -> [u8; 24]
     ensures { result ≡ opens_of h.now }
 {
-    let mut opens = [0; 24];
-    for e in 0..24 {
-        opens[e] = h.elements[e].treatments_open;
-    }
-    opens
+    from_fn(|e| h.elements[e].treatments_open)
 }
 
 impl KeptMatrix {
@@ -55,16 +51,12 @@ impl KeptMatrix {
         };
         assemble_sides(z, h, delta_t, t, &mut base.b);
         self.factors.reduce_base(&mut base);
-        let control = Control {
-            basis: z.temp_setpnt_basis,
-            count: z.count,
-            area: areas_of(z),
-            area_el_total: self.sums.area_el_total,
-        };
+        let control = Control::of(z, areas_of(z), self.sums.area_el_total);
         let prepared = PreparedHour {
             zone: z,
             hour: h,
-            terms: terms_of(c, z, h, delta_t, t, self.sums),
+            c_int_per_delta_t: c.k_m_int * z.useful_area / delta_t,
+            temp_int_air: t[120],
             kept: self,
             base,
             control,
@@ -73,7 +65,7 @@ impl KeptMatrix {
     }
 
     // An hour after another: its columns are factored where they are not held.
-    pub fn hour(
+    pub(crate) fn hour(
         &mut self,
         z: &Zone,
         t: &[f64; 121],
@@ -85,8 +77,12 @@ impl KeptMatrix {
             ≡ keep_factors z.now (directions_of z.now t.now) (opens_of h.now) (delta_t h.now) (held_in self.old) }
         ensures answer { answered_with result after.new ≡ hour_held z.now t.now h.now asked after.old (held_in self.new) }
     {
-        let directions = directions_of(z, t);
-        self.keep_factors(z, &directions, &opens_of(h), delta_t_of(h));
+        let key = Key {
+            delta_t: delta_t_of(h),
+            directions: directions_of(z, t),
+            opens: opens_of(h),
+        };
+        self.keep_factors(z, &key);
         self.hour_with(z, t, h, asked, after)
     }
 }

@@ -1,69 +1,38 @@
 // The factored matrix of an hour, kept for the next.
-ghost use Rattle.std.specs.Prelude.{◌≡◌, true, ◌≤◌};
-ghost use Rattle.std.specs.Float.{binary64};
-ghost use Rattle.std.specs.Float.Ieee.{to_bits};
-ghost use Rattle.zone.specs.Inner.Kept.{directions_of, same_key, none_held, emptied, keep_factors};
-ghost use Rattle.zone.specs.Inner.KeptMatrix.{key_in, is_held, arrays_in, held_in, holds};
+ghost use Rattle.std.specs.Prelude.{◌≡◌};
+ghost use Rattle.zone.specs.Inner.Kept.{directions_of, none_held, emptied, keep_factors};
+ghost use Rattle.zone.specs.Inner.KeptMatrix.{is_held, arrays_in, held_in, holds};
 ghost use Rattle.solver.specs.FastSolver.{at_most24};
 
-use crate::physics::assembly::{ElementSums, assemble_elements};
-use crate::record::building_element::{direction_code, heat_flow_direction, standard_coefficients};
+use crate::physics::assembly::{ElementSums, Key, assemble_elements};
+use crate::physics::terms::with_terms;
+use crate::record::building_element::{
+    HeatFlowDirection, heat_flow_direction, standard_coefficients,
+};
 use crate::record::zone_record::Zone;
 use solver::{Chains, Factors, Lu};
 
-// The one pattern that all NaNs have here.
-const NAN_BITS: u64 = 9221120237041090560;
-
-// The 64-bit pattern of a float.
-fn bits_of(x: f64) -> u64
-    ensures { result ≡ to_bits binary64 x }
-{
-    if x.is_nan() { NAN_BITS } else { x.to_bits() }
-}
-
 // The directions of heat flow, from the temperatures before the step.
-#[tactic(auto, using(crate::proofs::Laws::Loops::store_turn, crate::proofs::Laws::Loops::repeat_end, crate::proofs::Laws::Elements::element_is, crate::proofs::Laws::Counts::min_24), unfolding(crate::specs::Physics::Slots::with_terms))]
-pub fn directions_of(z: &Zone, t: &[f64; 121]) -> [u8; 24]
+pub fn directions_of(z: &Zone, t: &[f64; 121]) -> [HeatFlowDirection; 24]
     ensures { result ≡ directions_of z.now t.now }
 {
     let c = standard_coefficients();
-    let n = z.count.min(24);
-    let mut directions = [0; 24];
-    for e in 0..n {
-        let el = &z.building_elements[e];
-        let direction = heat_flow_direction(c, el.pitch, t[120], t[5 * e + 4]);
-        directions[e] = direction_code(direction);
-    }
-    directions
-}
-
-// For which hour a matrix was assembled: its timestep, the directions of heat flow and the open treatments.
-#[derive(Clone, Copy)]
-pub struct Key {
-    pub delta_t: f64,
-    pub directions: [u8; 24],
-    pub opens: [u8; 24],
+    with_terms(
+        z.element_count(),
+        |e| heat_flow_direction(c, z.building_elements[e].pitch, t[120], t[5 * e + 4]),
+        [HeatFlowDirection::Horizontal; 24],
+    )
 }
 
 // The factored matrix of an hour, kept for the next: the next hour's is the same where the key is, and then it is neither assembled nor factored
-// again. `key` is none where none is held; `column` is the last column as it was assembled.
+// again. `key` is none where none is held; `column` is the last column as it was assembled. The key alone is an
+// Option: the arrays stay in their place, held or not, as memory is fixed.
 #[derive(Clone, Copy)]
 pub struct KeptMatrix {
-    pub key: Option<Key>,
-    pub sums: ElementSums,
-    pub factors: Factors,
-    pub column: [f64; 25],
-}
-
-impl Key {
-    // Whether this is the key of an hour of n elements.
-    fn is_of(&self, n: usize, directions: &[u8; 24], opens: &[u8; 24], delta_t: f64) -> bool
-        requires { n ≤ 24 }
-        ensures { result ≡ same_key true self.now.delta_t delta_t n (key_in self.now) directions.now opens.now }
-    {
-        bits_of(self.delta_t) == bits_of(delta_t)
-            && (0..n).all(|e| (self.directions[e] == directions[e]) & (self.opens[e] == opens[e]))
-    }
+    pub(crate) key: Option<Key>,
+    pub(crate) sums: ElementSums,
+    pub(crate) factors: Factors,
+    pub(crate) column: [f64; 25],
 }
 
 impl KeptMatrix {
@@ -96,19 +65,18 @@ impl KeptMatrix {
     }
 
     // What is held is let go of.
-    pub fn clear(&mut self)
+    pub(crate) fn clear(&mut self)
         ensures { held_in self.new ≡ none_held }
     {
         *self = KeptMatrix::none();
     }
 
     // Whether the matrix of this hour is held.
-    fn holds(&self, n: usize, directions: &[u8; 24], opens: &[u8; 24], delta_t: f64) -> bool
-        requires { n ≤ 24 }
-        ensures { result ≡ holds self.now n directions.now opens.now delta_t }
+    fn holds(&self, z: &Zone, key: &Key) -> bool
+        ensures { result ≡ holds self.now (at_most24 z.now.count) key.now.directions key.now.opens key.now.delta_t }
     {
         match &self.key {
-            Some(key) => key.is_of(n, directions, opens, delta_t),
+            Some(kept) => kept.same(z, key),
             None => false,
         }
     }
@@ -123,31 +91,20 @@ impl KeptMatrix {
     }
 
     // The hour's matrix but its last column, factored, unless it is held.
-    pub fn keep_factors(&mut self, z: &Zone, directions: &[u8; 24], opens: &[u8; 24], delta_t: f64)
-        ensures held { held_in self.new ≡ keep_factors z.now directions.now opens.now delta_t (held_in self.old) }
+    pub(crate) fn keep_factors(&mut self, z: &Zone, key: &Key)
+        ensures held { held_in self.new ≡ keep_factors z.now key.now.directions key.now.opens key.now.delta_t (held_in self.old) }
         ensures count { self.new.factors.chains.n ≡ at_most24 z.now.count }
     {
-        let n = z.count.min(24);
-        if self.holds(n, directions, opens, delta_t) {
+        let n = z.element_count();
+        if self.holds(z, key) {
             self.factors.chains.n = n;
             return;
         }
         self.empty();
         self.factors.chains.n = n;
-        self.sums = assemble_elements(
-            n,
-            &z.building_elements,
-            directions,
-            opens,
-            delta_t,
-            &mut self.factors,
-        );
+        self.sums = assemble_elements(z, key, &mut self.factors);
         self.column = self.factors.last_column();
         self.factors.factor_columns();
-        self.key = Some(Key {
-            delta_t,
-            directions: *directions,
-            opens: *opens,
-        });
+        self.key = Some(*key);
     }
 }

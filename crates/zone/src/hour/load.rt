@@ -1,6 +1,6 @@
 // The load that is wanted, and the demand by interpolation between the free and the loaded temperature.
 ghost use Rattle.std.specs.Prelude.{◌≡◌, not, ◌&&◌, []};
-ghost use Rattle.std.specs.Float.Ieee.{lt, neg};
+ghost use Rattle.std.specs.Float.Ieee.{lt};
 ghost use Rattle.solver.specs.F64.{◌-ᶠ◌, ◌*ᶠ◌, ◌/ᶠ◌, decimal};
 ghost use Rattle.solver.specs.Closeness.{close_in_demand};
 ghost use Rattle.zone.specs.Hour.Demand.{wanted, frac_upper, interp_heat_cool_demand, demand_record};
@@ -16,64 +16,45 @@ use solver::close_in_demand;
 
 // The setpoint to be reached and the load with which the second calculation is made, with its convective fraction.
 #[derive(Clone, Copy)]
-pub enum HeatCoolLoad {
-    NoLoad,
-    Toward {
-        setpoint: f64,
-        load: f64,
-        fraction: f64,
-    },
-}
-
-// Ten watts for each square metre.
-fn load_of(useful_area: f64) -> f64
-    ensures { result ≡ decimal 10 0 *ᶠ useful_area }
-{
-    10.0 * useful_area
-}
-
-fn cooling_load_of(useful_area: f64) -> f64
-    ensures { result ≡ neg (decimal 10 0) *ᶠ useful_area }
-{
-    -10.0 * useful_area
+pub struct HeatCoolLoad {
+    pub setpoint: f64,
+    pub load: f64,
+    pub fraction: f64,
 }
 
 fn above(temp_free: f64, temp_setpnt_cool: f64) -> bool
     ensures { result ≡ (lt temp_setpnt_cool temp_free && not (close_in_demand temp_free temp_setpnt_cool)) }
 {
-    let above = temp_setpnt_cool < temp_free;
-    let close = close_in_demand(temp_free, temp_setpnt_cool);
-    above & !close
+    temp_setpnt_cool < temp_free && !close_in_demand(temp_free, temp_setpnt_cool)
 }
 
 // The second test is against the cooling setpoint, as in the Rust.
 fn below(temp_free: f64, temp_setpnt_heat: f64, temp_setpnt_cool: f64) -> bool
     ensures { result ≡ (lt temp_free temp_setpnt_heat && not (close_in_demand temp_free temp_setpnt_cool)) }
 {
-    let below = temp_free < temp_setpnt_heat;
-    let close = close_in_demand(temp_free, temp_setpnt_cool);
-    below & !close
+    temp_free < temp_setpnt_heat && !close_in_demand(temp_free, temp_setpnt_cool)
 }
 
+// The load is ten watts for each square metre.
 #[tactic(auto, unfolding(crate::specs::Hour::Demand::wanted))]
-pub fn wanted_of(useful_area: f64, h: &Conditions, temp_free: f64) -> HeatCoolLoad
+pub fn wanted_of(useful_area: f64, h: &Conditions, temp_free: f64) -> Option<HeatCoolLoad>
     ensures { result ≡ wanted useful_area h.now temp_free }
 {
     if above(temp_free, h.temp_setpnt_cool) {
-        return HeatCoolLoad::Toward {
+        return Some(HeatCoolLoad {
             setpoint: h.temp_setpnt_cool,
-            load: cooling_load_of(useful_area),
+            load: -10.0 * useful_area,
             fraction: h.frac_convective_cool,
-        };
+        });
     }
     if below(temp_free, h.temp_setpnt_heat, h.temp_setpnt_cool) {
-        return HeatCoolLoad::Toward {
+        return Some(HeatCoolLoad {
             setpoint: h.temp_setpnt_heat,
-            load: load_of(useful_area),
+            load: 10.0 * useful_area,
             fraction: h.frac_convective_heat,
-        };
+        });
     }
-    HeatCoolLoad::NoLoad
+    None
 }
 
 // The convective fraction of the gains with the load.
@@ -124,11 +105,10 @@ pub fn demand_record(kwh: f64, v: VentilationChoice) -> Demand
     } else if 0.0 < kwh {
         space_heat_demand = kwh;
     }
-    let trigger = v.ach_to_trigger_heating;
     Demand {
         space_heat_demand,
         space_cool_demand,
         ach_cooling: v.ach_cooling,
-        ach_to_trigger_heating: trigger,
+        ach_to_trigger_heating: v.ach_to_trigger_heating,
     }
 }

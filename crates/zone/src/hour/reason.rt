@@ -1,4 +1,5 @@
 // Why an hour has its air change rate: the tests of the paper's list, one after the other, each with the calculation that it needs.
+// Target rate and windows' are two numbers, as in windows.rt.
 ghost use Rattle.std.specs.Prelude.{◌≡◌};
 ghost use Rattle.zone.specs.Answers.{answered};
 ghost use Rattle.zone.specs.Inner.Why.{found_reason, open_reason, choice_reason, reason_in};
@@ -68,6 +69,7 @@ fn choice_reason(
 pub fn reason_of(z: &Zone, t: &[f64; 121], h: &Conditions) -> Result<Reason, Refusal>
     ensures { answered result ≡ reason_in z.now t.now h.now h.now.ach_args }
 {
+    // Copied before the match: the papers name that form.
     let ach_args = h.ach_args;
     match ach_args {
         AirChangesPerHourArgument::Cooling(_) => Ok(Reason::NoChoice),

@@ -1,12 +1,13 @@
-// The calculations of one hour: the last column is factored for each rate, and each load substituted. Before them the hour's numbers.
+// The calculations of one hour: the last column is factored for each rate, and each load substituted. Before them the hour's numbers. `last` and `temps` are
+// lent apart, as in cooling_potential.rt.
 ghost use Rattle.std.specs.Prelude.{◌≡◌, []};
-ghost use Rattle.solver.specs.Answers.{number_in};
 ghost use Rattle.zone.specs.Hour.Demand.{gains_heat_cool, frac_conv_gains_heat_cool};
-ghost use Rattle.zone.specs.Inner.Prepared.{solved_in, free_in, numbered};
+ghost use Rattle.zone.specs.Inner.Hour.{free_gains};
+ghost use Rattle.zone.specs.Inner.Prepared.{solved_in, free_in, solved_with};
 ghost use Rattle.zone.specs.Inner.PreparedHour.{prepared_in};
 
 use crate::format::conditions::Conditions;
-use crate::hour::time_step::PreparedHour;
+use crate::hour::time_step::{HeatCoolGains, PreparedHour};
 use crate::physics::ventilation::calc_vent_heat_transfer_coeff;
 use solver::{SolveError, close_in_demand};
 
@@ -30,22 +31,31 @@ pub fn frac_conv_gains_heat_cool_of(h: &Conditions) -> f64
     }
 }
 
+// Both.
+pub fn free_gains_of(h: &Conditions) -> HeatCoolGains
+    ensures { result ≡ free_gains h.now }
+{
+    HeatCoolGains {
+        gains_heat_cool: gains_heat_cool_of(h),
+        f_hc_c: frac_conv_gains_heat_cool_of(h),
+    }
+}
+
 impl PreparedHour<'_> {
     // The temperatures with a load at one rate; the rate's last column is left for further loads.
     #[tactic(auto, unfolding(crate::specs::Inner::Prepared::solved_in))]
     pub fn calc_temperatures(
         &self,
-        gains_heat_cool: f64,
-        f_hc_c: f64,
+        gains: HeatCoolGains,
         ach: f64,
         last: &mut [f64; 25],
         temps: &mut [f64; 121],
     ) -> Result<(), SolveError>
-        ensures { numbered (number_in result) (temps.new, last.new) ≡ solved_in (prepared_in self.now) self.now.zone.now.volume gains_heat_cool f_hc_c ach }
+        ensures { solved_with result (temps.new, last.new) ≡ solved_in (prepared_in self.now) self.now.zone.now.volume gains.gains_heat_cool gains.f_hc_c ach }
     {
         let h_ve = calc_vent_heat_transfer_coeff(self.zone.volume, ach);
         self.factor_rate(h_ve, last)?;
-        self.solve_load(h_ve, gains_heat_cool, f_hc_c, last, temps)
+        self.solve_load(h_ve, gains, last, temps)
     }
 
     // The temperatures without demand at one rate.
@@ -55,10 +65,8 @@ impl PreparedHour<'_> {
         last: &mut [f64; 25],
         temps: &mut [f64; 121],
     ) -> Result<(), SolveError>
-        ensures { numbered (number_in result) (temps.new, last.new) ≡ free_in (prepared_in self.now) self.now.zone.now.volume self.now.hour.now ach }
+        ensures { solved_with result (temps.new, last.new) ≡ free_in (prepared_in self.now) self.now.zone.now.volume self.now.hour.now ach }
     {
-        let gains = gains_heat_cool_of(self.hour);
-        let fraction = frac_conv_gains_heat_cool_of(self.hour);
-        self.calc_temperatures(gains, fraction, ach, last, temps)
+        self.calc_temperatures(free_gains_of(self.hour), ach, last, temps)
     }
 }

@@ -4,82 +4,43 @@ ghost use Rattle.std.specs.Prelude.{◌≡◌, []};
 ghost use Rattle.solver.specs.Numbers.{divisor};
 ghost use Rattle.solver.specs.Result.{require};
 ghost use Rattle.solver.specs.Answers.{answered, number_in};
-ghost use Rattle.solver.specs.FastSolver.{at_most24};
 ghost use Rattle.solver.specs.Inner.Factored.{solved};
-ghost use Rattle.zone.specs.Inner.Kept.{terms_by};
 ghost use Rattle.zone.specs.Inner.Assembled.{gains_per_area_from, zone_diagonal_from, zone_right_side_from};
 ghost use Rattle.zone.specs.Inner.Prepared.{last_in, rate_valid, load_in};
-ghost use Rattle.zone.specs.Inner.PreparedHour.{sums_in, terms_with, terms_in, prepared_in};
+ghost use Rattle.zone.specs.Inner.PreparedHour.{terms_in, prepared_in};
 
 use crate::format::conditions::Conditions;
 use crate::hour::control::Control;
 use crate::hour::kept::KeptMatrix;
-use crate::physics::assembly::ElementSums;
-use crate::record::building_element::Coefficients;
+use crate::record::building_element::standard_coefficients;
 use crate::record::zone_record::Zone;
 use solver::{RightSide, SolveError};
 
-// The terms of the zone's equation (38), and of the gains, that neither rate nor load changes.
+// Gains of heating or cooling in W, and their convective fraction.
 #[derive(Clone, Copy)]
-pub struct ZoneTerms {
-    pub area_el_total: f64,
-    pub c_int_per_delta_t: f64,
-    pub convective: f64,
-    pub tb_heat_trans_coeff: f64,
-    pub temp_int_air: f64,
-    pub temp_ext_air: f64,
-    pub avg_supply_temp: f64,
-    pub gains_internal: f64,
-    pub gains_solar: f64,
-    pub f_int_c: f64,
-    pub f_sol_c: f64,
+pub struct HeatCoolGains {
+    pub gains_heat_cool: f64,
+    pub f_hc_c: f64,
 }
 
-// An hour that is prepared for several rates and loads: its zone and what the hour says, the terms, the matrix with its columns factored, the right side
-// without gains, reduced, and what the setpoints are held against.
+// An hour that is prepared for several rates and loads: its zone and what the hour says, the internal heat capacity over the timestep and the air before the
+// hour, the matrix with its columns factored, the right side without gains, reduced, and what the setpoints are held against.
 #[derive(Clone, Copy)]
 pub struct PreparedHour<'a> {
     pub zone: &'a Zone,
     pub hour: &'a Conditions,
-    pub terms: ZoneTerms,
+    pub c_int_per_delta_t: f64,
+    pub temp_int_air: f64,
     pub kept: &'a KeptMatrix,
     pub base: RightSide,
     pub control: Control,
-}
-
-// From the sums over the elements.
-pub fn terms_of(
-    c: Coefficients,
-    z: &Zone,
-    hour: &Conditions,
-    delta_t: f64,
-    t: &[f64; 121],
-    sums: ElementSums,
-) -> ZoneTerms
-    ensures { terms_with (at_most24 z.now.count) result ≡ terms_by c z.now hour.now delta_t t.now (sums_in sums) }
-{
-    let c_int = c.k_m_int * z.useful_area;
-    ZoneTerms {
-        area_el_total: sums.area_el_total,
-        c_int_per_delta_t: c_int / delta_t,
-        convective: sums.convective,
-        tb_heat_trans_coeff: z.tb_heat_trans_coeff,
-        temp_int_air: t[120],
-        temp_ext_air: hour.temp_ext_air,
-        avg_supply_temp: hour.avg_air_supply_temp,
-        gains_internal: hour.gains_internal,
-        gains_solar: hour.gains_solar,
-        f_int_c: c.f_int_c,
-        f_sol_c: c.f_sol_c,
-    }
 }
 
 impl PreparedHour<'_> {
     fn zone_diagonal(&self, h_ve: f64) -> f64
         ensures { result ≡ zone_diagonal_from (terms_in self.now) h_ve }
     {
-        let s = &self.terms;
-        s.c_int_per_delta_t + s.convective + h_ve + s.tb_heat_trans_coeff
+        self.c_int_per_delta_t + self.kept.sums.convective + h_ve + self.zone.tb_heat_trans_coeff
     }
 
     // The last column of one rate, factored; refused where the matrix has a divisor that is zero or not finite.
@@ -93,26 +54,27 @@ impl PreparedHour<'_> {
         self.kept.factors.factor_last(last)
     }
 
-    fn gains_per_area(&self, gains_heat_cool: f64, f_hc_c: f64) -> f64
-        ensures { result ≡ gains_per_area_from (terms_in self.now) gains_heat_cool f_hc_c }
+    fn gains_per_area(&self, gains: HeatCoolGains) -> f64
+        ensures { result ≡ gains_per_area_from (terms_in self.now) gains.gains_heat_cool gains.f_hc_c }
     {
-        let s = &self.terms;
-        ((1.0 - s.f_int_c) * s.gains_internal
-            + (1.0 - s.f_sol_c) * s.gains_solar
-            + (1.0 - f_hc_c) * gains_heat_cool)
-            / s.area_el_total
+        let c = standard_coefficients();
+        ((1.0 - c.f_int_c) * self.hour.gains_internal
+            + (1.0 - c.f_sol_c) * self.hour.gains_solar
+            + (1.0 - gains.f_hc_c) * gains.gains_heat_cool)
+            / self.kept.sums.area_el_total
     }
 
-    fn zone_right_side(&self, h_ve: f64, gains_heat_cool: f64, f_hc_c: f64) -> f64
-        ensures { result ≡ zone_right_side_from (terms_in self.now) h_ve gains_heat_cool f_hc_c }
+    fn zone_right_side(&self, h_ve: f64, gains: HeatCoolGains) -> f64
+        ensures { result ≡ zone_right_side_from (terms_in self.now) h_ve gains.gains_heat_cool gains.f_hc_c }
     {
-        let s = &self.terms;
-        s.c_int_per_delta_t * s.temp_int_air
-            + h_ve * s.avg_supply_temp
-            + s.tb_heat_trans_coeff * s.temp_ext_air
-            + s.f_int_c * s.gains_internal
-            + s.f_sol_c * s.gains_solar
-            + f_hc_c * gains_heat_cool
+        let c = standard_coefficients();
+        let h = self.hour;
+        self.c_int_per_delta_t * self.temp_int_air
+            + h_ve * h.avg_air_supply_temp
+            + self.zone.tb_heat_trans_coeff * h.temp_ext_air
+            + c.f_int_c * h.gains_internal
+            + c.f_sol_c * h.gains_solar
+            + gains.f_hc_c * gains.gains_heat_cool
     }
 
     // The temperatures after the step for one rate, whose last column is factored, and one load.
@@ -120,17 +82,16 @@ impl PreparedHour<'_> {
     pub fn solve_load(
         &self,
         h_ve: f64,
-        gains_heat_cool: f64,
-        f_hc_c: f64,
+        gains: HeatCoolGains,
         last: &[f64; 25],
         temps: &mut [f64; 121],
     ) -> Result<(), SolveError>
-        ensures { solved (number_in result) temps.new ≡ load_in (prepared_in self.now) last.now h_ve gains_heat_cool f_hc_c }
+        ensures { solved (number_in result) temps.new ≡ load_in (prepared_in self.now) last.now h_ve gains.gains_heat_cool gains.f_hc_c }
     {
-        let gains = self.gains_per_area(gains_heat_cool, f_hc_c);
-        let air = self.zone_right_side(h_ve, gains_heat_cool, f_hc_c);
+        let surface = self.gains_per_area(gains);
+        let air = self.zone_right_side(h_ve, gains);
         self.kept
             .factors
-            .substitute_load(&self.base, last, gains, air, temps)
+            .substitute_load(&self.base, last, surface, air, temps)
     }
 }

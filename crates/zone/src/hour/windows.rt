@@ -24,7 +24,8 @@ pub struct VentilationChoice {
     pub ach_to_trigger_heating: Option<f64>,
 }
 
-// The rate that brings the control temperature to a wanted one.
+// The rate that brings the control temperature to a wanted one. (Target rate and windows' are two numbers in the conditions and in
+// `ach_req_to_reach_temperature`, which is exported: a struct would be packed and unpacked only to pass through.)
 #[tactic(auto, unfolding(crate::specs::Inner::Demand::rate_to_reach))]
 pub fn ach_to_reach(
     h: &Conditions,
@@ -52,16 +53,14 @@ pub fn ach_to_reach(
 pub fn windows_cool(h: &Conditions, free: ZoneTemperatures, vent_max: ZoneTemperatures) -> bool
     ensures { result ≡ windows_cool h.now free vent_max }
 {
-    (vent_max.temp_control < free.temp_control)
-        & (h.temp_setpnt_cool_vent < free.temp_control)
-        & (h.avg_air_supply_temp < free.temp_int_air)
+    vent_max.temp_control < free.temp_control
+        && h.temp_setpnt_cool_vent < free.temp_control
+        && h.avg_air_supply_temp < free.temp_int_air
 }
 
 // Too warm even with the rate that windows need.
 pub fn above_cooling_setpoint(temp_extra: f64, temp_setpnt_cool: f64) -> bool
     ensures { result ≡ (lt temp_setpnt_cool temp_extra && not (close_in_windows_test temp_extra temp_setpnt_cool)) }
 {
-    let above = temp_setpnt_cool < temp_extra;
-    let close = close_in_windows_test(temp_extra, temp_setpnt_cool);
-    above & !close
+    temp_setpnt_cool < temp_extra && !close_in_windows_test(temp_extra, temp_setpnt_cool)
 }

@@ -1,4 +1,5 @@
-// The heat balance of a time step, in W.
+// The heat balance of a time step, in W. The functions take what their definitions take, one by one: these are for any coefficients and any length of step,
+// and a call gives them the standards' numbers and the hour's length.
 ghost use Rattle.std.specs.Prelude.{◌≡◌, []};
 ghost use Rattle.zone.specs.Physics.HeatBalance.{air_node, heat_balance};
 ghost use Rattle.zone.specs.Inner.ConvectiveSums.{internal_boundary_from};
@@ -151,7 +152,6 @@ pub fn heat_balance(
 ) -> HeatBalance
     ensures { result ≡ heat_balance c z.now temp_prev.now hour.now delta_t gains_heat_cool f_hc_c ach vector_x.now }
 {
-    let n = z.count.min(24);
     let h_ve = calc_vent_heat_transfer_coeff(z.volume, ach);
     let c_int = c.k_m_int * z.useful_area;
     let air = air_node(
@@ -166,8 +166,8 @@ pub fn heat_balance(
         temp_prev[120],
         vector_x[120],
     );
-    let convective = convective_sums(c, n, &z.building_elements, temp_prev, vector_x);
-    let sums = fabric_sums(n, &z.building_elements, &hour.elements, vector_x);
+    let convective = convective_sums(c, z, temp_prev, vector_x);
+    let sums = fabric_sums(z, hour, vector_x);
     HeatBalance {
         air_node: air,
         internal_boundary: internal_boundary(c, convective, hour, gains_heat_cool, f_hc_c),

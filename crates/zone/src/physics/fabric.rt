@@ -1,11 +1,14 @@
 // The elements at the external boundary of a heat balance.
-ghost use Rattle.std.specs.Prelude.{◌≡◌, ◌≤◌};
+ghost use Rattle.std.specs.Prelude.{◌≡◌};
+ghost use Rattle.solver.specs.FastSolver.{at_most24};
 ghost use Rattle.solver.specs.Repeat.{repeat};
 ghost use Rattle.zone.specs.Physics.HeatBalance.{fabric_ext};
 ghost use Rattle.zone.specs.Inner.FabricSums.{add_boundary, add_kind, add_element, add_element_at, no_fabric};
 
+use crate::format::conditions::Conditions;
 use crate::physics::slots::outer_surface;
 use crate::record::building_element::{Element, ElementHour, Kind, is_two_nodes};
+use crate::record::zone_record::Zone;
 
 // The sums over the elements at the external boundary: four over all, then five by kind (a party wall counts with the unconditioned spaces).
 #[derive(Clone, Copy, Default)]
@@ -64,20 +67,15 @@ impl FabricSums {
 }
 
 #[tactic(auto, using(crate::proofs::Laws::Loops::repeat_end))]
-pub fn fabric_sums(
-    n: usize,
-    elements: &[Element; 24],
-    hours: &[ElementHour; 24],
-    vector_x: &[f64; 121],
-) -> FabricSums
-    requires { n ≤ 24 }
-    ensures { result ≡ repeat 0 n (add_element_at elements.now hours.now vector_x.now) no_fabric }
+pub fn fabric_sums(z: &Zone, hour: &Conditions, vector_x: &[f64; 121]) -> FabricSums
+    ensures { result ≡ repeat 0 (at_most24 z.now.count) (add_element_at z.now.building_elements hour.now.elements vector_x.now) no_fabric }
 {
+    let n = z.element_count();
     let mut sums = FabricSums::default();
     for e in 0..n {
-        let el = &elements[e];
+        let el = &z.building_elements[e];
         let t = outer_surface(is_two_nodes(el.kind), vector_x, e);
-        sums.add_element(el, &hours[e], t);
+        sums.add_element(el, &hour.elements[e], t);
     }
     sums
 }

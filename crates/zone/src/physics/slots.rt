@@ -4,6 +4,7 @@ ghost use Rattle.solver.specs.Rows.{set_entry};
 ghost use Rattle.zone.specs.Physics.Slots.{element_slots, set_slots};
 ghost use Rattle.zone.specs.Inner.FabricSums.{outer_surface_by};
 
+// The solver has the same for itself: what it exports asks nothing of its callers, and this asks for its indices in range.
 pub fn set_entry(m: &mut [f64; 625], i: usize, j: usize, x: f64)
     requires { (i < 25) × (j < 25) }
     ensures { m.new ≡ set_entry i j x m.old }

@@ -1,9 +1,7 @@
 // A building element: its record, and what is worked out from it alone.
 ghost use Rattle.std.specs.Prelude.{◌≡◌, min, ◌≤◌};
-ghost use Rattle.zone.specs.Inner.Record.{h_ci_by_code};
 ghost use Rattle.zone.specs.Record.BuildingElement.{
   heat_flow_direction,
-  direction_code,
   h_ci_of,
   surface_convection,
   standard_coefficients,
@@ -36,7 +34,8 @@ pub struct ElementHour {
 }
 
 // The coefficients of an element. A Transparent uses the first two of k_pli, the first of h_pli and the first
-// `treatments` of delta_r; any other kind all of k_pli and h_pli.
+// `treatments` of delta_r; any other kind all of k_pli and h_pli. One struct by value for every kind, whose arrays have room for any: the papers
+// name this form.
 #[derive(Clone, Copy)]
 pub struct Element {
     pub kind: Kind,
@@ -67,7 +66,7 @@ pub struct Coefficients {
     pub pitch_limit_horiz_floor: f64,
 }
 
-#[derive(Clone, Copy)]
+#[derive(Clone, Copy, PartialEq, Eq)]
 pub enum HeatFlowDirection {
     Horizontal,
     Upwards,
@@ -122,7 +121,7 @@ pub fn heat_flow_direction(
 }
 
 // The coefficient of a direction of heat flow.
-fn h_ci_of_direction(c: Coefficients, direction: HeatFlowDirection) -> f64
+pub fn h_ci_of_direction(c: Coefficients, direction: HeatFlowDirection) -> f64
     ensures { result ≡ h_ci_of c direction }
 {
     match direction {
@@ -148,30 +147,8 @@ pub fn h_ci(
     }
 }
 
-// A direction's code, by which it is kept.
-pub fn direction_code(direction: HeatFlowDirection) -> u8
-    ensures { result ≡ direction_code direction }
-{
-    match direction {
-        HeatFlowDirection::Horizontal => 0,
-        HeatFlowDirection::Upwards => 1,
-        HeatFlowDirection::Downwards => 2,
-    }
-}
-
-pub fn h_ci_by_code(c: Coefficients, code: u8) -> f64
-    ensures { result ≡ h_ci_by_code c code }
-{
-    if code == 0 {
-        return c.h_ci_horizontal;
-    }
-    if code == 1 {
-        return c.h_ci_upwards;
-    }
-    c.h_ci_downwards
-}
-
-// h_pli of a Transparent: the resistances of the closed treatments are added to its own.
+// h_pli of a Transparent: the resistances of the closed treatments are added to its own. The bits are halved turn by turn, as in the
+// definition; `treatments_open >> j & 1` would be no plainer.
 pub fn h_pli_transparent(h: f64, delta_r: &[f64; 4], treatments: usize, treatments_open: u8) -> f64
     ensures { result ≡ h_pli_transparent h delta_r.now treatments treatments_open }
 {
@@ -190,10 +167,7 @@ pub fn h_pli_transparent(h: f64, delta_r: &[f64; 4], treatments: usize, treatmen
 pub fn is_two_nodes(kind: Kind) -> bool
     ensures { result ≡ is_two_nodes kind }
 {
-    match kind {
-        Kind::Transparent => true,
-        _ => false,
-    }
+    matches!(kind, Kind::Transparent)
 }
 
 #[tactic(auto, unfolding(crate::specs::Record::BuildingElement::number_of_nodes))]

@@ -1,5 +1,6 @@
 // The record of a zone.
-ghost use Rattle.std.specs.Prelude.{◌≡◌};
+ghost use Rattle.std.specs.Prelude.{◌≡◌, ◌≤◌};
+ghost use Rattle.solver.specs.FastSolver.{at_most24};
 ghost use Rattle.zone.specs.Inner.Head.{no_zone};
 ghost use Rattle.zone.specs.Record.BuildingElement.{node_count};
 
@@ -12,7 +13,8 @@ pub enum ZoneTemperatureControlBasis {
     Operative,
 }
 
-// A zone as its head gives it. The first `count` of `building_elements` are its elements.
+// A zone as its head gives it. The first `count` of `building_elements` are its elements: an array with a count beside it, since the engine's memory
+// is fixed and it has no heap.
 #[derive(Clone, Copy)]
 pub struct Zone {
     pub temp_setpnt_basis: ZoneTemperatureControlBasis,
@@ -46,12 +48,21 @@ impl Zone {
         }
     }
 
+    // How many elements a calculation takes: no more than there are places. It is a number and no slice of them, as most loops go by the element's number
+    // over slots or over the hour's entries too.
+    #[tactic(auto, using(crate::proofs::Laws::Counts::min_24))]
+    pub(crate) fn element_count(&self) -> usize
+        ensures { (result ≡ at_most24 self.now.count) × (result ≤ 24) }
+    {
+        self.count.min(24)
+    }
+
     // The nodes of the zone's elements, and the internal air.
     pub fn node_count(&self) -> usize
         ensures { result ≡ node_count self.now }
     {
         let mut total = 1;
-        for e in &self.building_elements[..self.count.min(24)] {
+        for e in &self.building_elements[..self.element_count()] {
             total += number_of_nodes(e.kind);
         }
         total

@@ -6,4 +6,5 @@ use Rattle.solver.proofs.chain.Chains.divisors_valid.Goals as goal
 pub returns : goal.returns
 unfolding divisors_valid
 returns c =
-    all_from_range (chain_divisors_valid c.args.self.now.two_nodes c.args.self.now.diag) _ _ _ _ _ c.all.ensures.ran (λ x b q k. search (rules, tests))
+    rw (← c.count.ensures)
+    (all_from_range (chain_divisors_valid c.args.self.now.two_nodes c.args.self.now.diag) _ _ _ _ _ c.all.ensures.ran (λ x b q k. search (rules, tests)))

@@ -4,4 +4,4 @@ use Rattle.solver.specs.Lu.{back_step}
 use Rattle.solver.proofs.lu.Lu.back_substitution.Given as goal
 
 abbrev pub invariant-loop-k : goal.invariant-loop-k
-invariant-loop-k l = repeat_down l.k (back_step l.self.matrix) l.b ≡ repeat_down l.w (back_step l.self.matrix) l.fn.b
+invariant-loop-k l = repeat_down l.k (back_step l.self.matrix) l.b ≡ repeat_down l.fn.count.n (back_step l.self.matrix) l.fn.b

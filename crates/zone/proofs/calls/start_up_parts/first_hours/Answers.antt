@@ -1,19 +1,21 @@
-use Rattle.std.proofs.Common.{arith, refl, ap, rules, length-set}
+use Rattle.std.proofs.Common.{rules, tests, ◌≡◌, refl, ap, ◌∙◌, map, get_or, length, arith}
+use Rattle.std.proofs.lemmas.List.{get_or-map}
+use lib.ListN.{length-map}
+use Rattle.zone.specs.declared.record.building_element.Element.{Element}
+use Rattle.zone.specs.Format.Decode.{no_element, no_element_hour}
 use Rattle.zone.specs.Calls.StartUp.{first_hour}
+use Rattle.zone.specs.Physics.Slots.{element}
 use Rattle.zone.proofs.Laws.Elements.{element_is}
-use Rattle.zone.proofs.Laws.StartUp.{first_hours, first_hours_next}
+use Rattle.zone.proofs.Laws.FromFn.{from_fn_is}
 use Rattle.zone.proofs.calls.start_up_parts.first_hours.Goals as goal
 
-pub loop-i-init : goal.loop-i-init
-loop-i-init c = record { sized = refl; filled = λ j h. absurd (omega arith) }
-
-pub loop-i-preserved : goal.loop-i-preserved
-loop-i-preserved c = let l = c.loop-i in
-    record {
-      sized = simp length-set l.invariant.sized;
-      filled = first_hours_next c.args.elements.now l.hours l.i _ (omega (arith, l.invariant.sized, c.loop-i-test.true)) (ap first_hour (element_is c.args.elements.now l.i _ (search rules))) l.invariant.filled;
-    }
-
 pub returns : goal.returns
-returns c = let l = c.loop-i in
-    first_hours c.args.elements.now l.hours (search rules) l.invariant.sized (λ j h. l.invariant.filled j (omega (arith, c.loop-i-test.false)))
+returns c =
+    let es = c.args.elements.now in
+    let long : length es ≡ 24 = search rules in
+    from_fn_is _ (λ f. f.0.now ≡ es) (λ i. (element es i).first_hour) 24 (λ f i y q few kept k.
+    let is : (d : Element) → (get_or es i d).first_hour ≡ (element es i).first_hour =
+    λ d. ap (λ (e : Element). e.first_hour) (element_is es i d (omega (arith, few, long))) in
+    (search (rules, kept, is), search (rules, tests, kept)))
+    (map first_hour es) no_element_hour _ _ refl (length-map es first_hour ∙ long)
+    (λ i h. get_or-map first_hour es i no_element no_element_hour (omega (arith, h, long))) c.from_fn.ensures.items

@@ -1,12 +1,11 @@
-use Rattle.std.proofs.Common.{sym}
-use Rattle.zone.proofs.Laws.Conditions.{open_out, open_in, open_end}
+use Rattle.std.proofs.Common.{◌∙◌, rules, tests}
+use Rattle.std.proofs.lemmas.Iterator.{YieldsList-from_slice}
+use Rattle.std.proofs.lemmas.Iterator.Consumers.{YieldsList-from_enumerate}
+use Rattle.std.proofs.lemmas.Iterator.Search.{all_from_yields_List}
+use Rattle.zone.proofs.Laws.Conditions.{open_test, open_all}
 use Rattle.zone.proofs.check.conditions_tests.open_bits_valid.Goals as goal
 
-pub returns-then-not-open_within : goal.returns-then-not-open_within
-returns-then-not-open_within c = open_out _ _ _ _ c.loop-i.invariant _ c.loop-i-test.true (sym c.if-not-open_within.ensures)
-
-pub loop-i-preserved : goal.loop-i-preserved
-loop-i-preserved c = open_in _ _ _ _ c.loop-i.invariant _ c.loop-i-test.true (sym c.if-not-open_within.ensures)
-
 pub returns : goal.returns
-returns c = open_end _ _ _ _ c.loop-i.invariant c.loop-i-test.false
+returns c =
+    all_from_yields_List (open_test c.args.s.now) _ _ _ c.all.ensures.ran (YieldsList-from_enumerate (YieldsList-from_slice c.args.elements.now cc) cc)
+    (λ x b q k. search (rules, tests)) ∙ open_all c.args.s.now c.args.elements.now 0

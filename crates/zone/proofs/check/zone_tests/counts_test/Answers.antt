@@ -1,20 +1,27 @@
-use Rattle.std.proofs.Common.{◌≡◌, sym, true}
-use Rattle.std.proofs.lemmas.Bool.{le-leb, lt-leb}
+use Rattle.std.proofs.Common.{◌≡◌, ◌∙◌, Some, None, not, take, true, sym, rules, tests}
+use Rattle.std.proofs.lemmas.Iterator.{YieldsList-from_slice}
+use Rattle.std.proofs.lemmas.Iterator.Search.{position_from_yields_List}
+use Rattle.zone.specs.Record.Numbers.{structure}
 use Rattle.zone.specs.Check.ZoneTest.{count_valid, element_treatments_valid, counts_test}
-use Rattle.zone.proofs.Laws.Required.{required_out, required_in, required_end}
+use Rattle.zone.proofs.Laws.Required.{required_by}
 use Rattle.zone.proofs.check.zone_tests.counts_test.Goals as goal
 
-pub returns-then-max_treatments-e : goal.returns-then-max_treatments-e
+pub returns-in-Some : goal.returns-in-Some
 unfolding counts_test
-returns-then-max_treatments-e c =
+returns-in-Some c =
+    let elements = take c.args.z.now.count c.args.z.now.building_elements in
+    let placed =
+    position_from_yields_List (λ e. not (element_treatments_valid e)) _ _ c.position.result c.position.ensures.ran (YieldsList-from_slice elements cc)
+    (λ x b q k. search (rules, tests)) in
     let valid : count_valid c.args.z.now.count ≡ true = sym c.if-not-count_valid.ensures in
-    rw valid (required_out element_treatments_valid _ _ _ _ c.loop-i.invariant _ c.loop-i-test.true (lt-leb _ _ (rw c.max_treatments.ensures at c.if-max_treatments-e.true)))
+    rw valid (required_by element_treatments_valid structure elements (Some c.in-Some.i) (sym c.in-Some.is ∙ placed))
 
-pub loop-i-preserved : goal.loop-i-preserved
-loop-i-preserved c = required_in element_treatments_valid _ _ _ _ c.loop-i.invariant _ c.loop-i-test.true (le-leb _ _ (rw c.max_treatments.ensures at c.if-max_treatments-e.false))
-
-pub returns : goal.returns
+pub returns-in-None : goal.returns-in-None
 unfolding counts_test
-returns c =
+returns-in-None c =
+    let elements = take c.args.z.now.count c.args.z.now.building_elements in
+    let placed =
+    position_from_yields_List (λ e. not (element_treatments_valid e)) _ _ c.position.result c.position.ensures.ran (YieldsList-from_slice elements cc)
+    (λ x b q k. search (rules, tests)) in
     let valid : count_valid c.args.z.now.count ≡ true = sym c.if-not-count_valid.ensures in
-    rw valid (required_end element_treatments_valid _ _ _ _ c.loop-i.invariant c.loop-i-test.false)
+    rw valid (required_by element_treatments_valid structure elements None (sym c.in-None.is ∙ placed))

@@ -1,19 +1,27 @@
-use Rattle.std.proofs.Common.{◌≡◌, sym, true}
+use Rattle.std.proofs.Common.{◌≡◌, ◌∙◌, Some, None, not, take, true, sym, rules, tests}
+use Rattle.std.proofs.lemmas.Iterator.{YieldsList-from_slice}
+use Rattle.std.proofs.lemmas.Iterator.Search.{position_from_yields_List}
+use Rattle.zone.specs.Record.Numbers.{zone_value}
 use Rattle.zone.specs.Check.ZoneTest.{front_in_range, element_in_range, values_test}
-use Rattle.zone.proofs.Laws.Required.{required_out, required_in, required_end}
+use Rattle.zone.proofs.Laws.Required.{required_by}
 use Rattle.zone.proofs.check.zone_tests.values_test.Goals as goal
 
-pub returns-then-not-element_in_range : goal.returns-then-not-element_in_range
+pub returns-in-Some : goal.returns-in-Some
 unfolding values_test
-returns-then-not-element_in_range c =
+returns-in-Some c =
+    let elements = take c.args.z.now.count c.args.z.now.building_elements in
+    let placed =
+    position_from_yields_List (λ e. not (element_in_range e)) _ _ c.position.result c.position.ensures.ran (YieldsList-from_slice elements cc)
+    (λ x b q k. search (rules, tests)) in
     let front : front_in_range c.args.z.now ≡ true = sym c.if-not-front_in_range.ensures in
-    rw front (required_out element_in_range _ _ _ _ c.loop-i.invariant _ c.loop-i-test.true (sym c.if-not-element_in_range.ensures))
+    rw front (required_by element_in_range zone_value elements (Some c.in-Some.i) (sym c.in-Some.is ∙ placed))
 
-pub loop-i-preserved : goal.loop-i-preserved
-loop-i-preserved c = required_in element_in_range _ _ _ _ c.loop-i.invariant _ c.loop-i-test.true (sym c.if-not-element_in_range.ensures)
-
-pub returns : goal.returns
+pub returns-in-None : goal.returns-in-None
 unfolding values_test
-returns c =
+returns-in-None c =
+    let elements = take c.args.z.now.count c.args.z.now.building_elements in
+    let placed =
+    position_from_yields_List (λ e. not (element_in_range e)) _ _ c.position.result c.position.ensures.ran (YieldsList-from_slice elements cc)
+    (λ x b q k. search (rules, tests)) in
     let front : front_in_range c.args.z.now ≡ true = sym c.if-not-front_in_range.ensures in
-    rw front (required_end element_in_range _ _ _ _ c.loop-i.invariant c.loop-i-test.false)
+    rw front (required_by element_in_range zone_value elements None (sym c.in-None.is ∙ placed))

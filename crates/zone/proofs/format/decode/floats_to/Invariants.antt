@@ -4,8 +4,7 @@ use Rattle.zone.specs.Format.Decode.{floats_at}
 use Rattle.zone.proofs.Laws.Lists.{replaced}
 use Rattle.zone.proofs.format.decode.floats_to.Given as goal
 
--- what is left to read, put where it goes, gives what all of it gives
+-- what is left to read, put where it goes, gives all
 abbrev pub invariant-loop-i : goal.invariant-loop-i
 invariant-loop-i l =
-    replaced l.out (l.to + l.i) (floats_at l.s (l.at + float_size * l.i) (l.count - l.i)) (l.count - l.i)
-    ≡ replaced l.initial.out l.to (floats_at l.s l.at l.count) l.count
+    replaced l.out l.i (floats_at l.s (l.at + float_size * l.i) (l.i-end - l.i)) (l.i-end - l.i) ≡ floats_at l.s l.at l.i-end

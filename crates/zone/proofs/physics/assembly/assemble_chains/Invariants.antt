@@ -7,7 +7,7 @@ use Rattle.zone.proofs.physics.assembly.assemble_chains.Given as goal
 
 abbrev pub invariant-loop-e : goal.invariant-loop-e
 invariant-loop-e l =
-    let rows = rows_by l.elements l.opens l.delta_t (at l.surfaces.h_ci) (at l.surfaces.share) in
+    let rows = rows_by l.z.building_elements l.key.opens l.key.delta_t (at l.surfaces.h_ci) (at l.surfaces.share) in
     record {
       count : l.chains.n ≡ l.fn.chains.n;
       two_nodes : l.chains.two_nodes ≡ l.fn.chains.two_nodes;

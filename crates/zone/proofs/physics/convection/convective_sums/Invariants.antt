@@ -5,5 +5,5 @@ use Rattle.zone.proofs.physics.convection.convective_sums.Given as goal
 
 abbrev pub invariant-loop-e : goal.invariant-loop-e
 invariant-loop-e l =
-    let add = add_loss_at l.c l.elements l.temp_prev l.vector_x in
+    let add = add_loss_at l.c l.z.building_elements l.temp_prev l.vector_x in
     repeat l.e l.n add l.sums ≡ repeat 0 l.n add l.initial.sums

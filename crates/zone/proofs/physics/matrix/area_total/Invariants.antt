@@ -1,8 +1,6 @@
-use Rattle.std.proofs.Common.{◌≡◌}
-use Rattle.solver.specs.Sums.{sum2_add_all, terms}
-use Rattle.zone.specs.Inner.Assembly.{at}
+use Rattle.std.proofs.Common.{◌≡◌, drop}
+use Rattle.solver.specs.Sums.{sum2_add_all}
 use Rattle.zone.proofs.physics.matrix.area_total.Given as goal
 
-abbrev pub invariant-loop-e : goal.invariant-loop-e
-invariant-loop-e l =
-    sum2_add_all l.total (terms l.e l.n (at l.area)) ≡ sum2_add_all l.initial.total (terms 0 l.n (at l.area))
+abbrev pub invariant-loop-area : goal.invariant-loop-area
+invariant-loop-area l = sum2_add_all l.total (drop l.area-index l.areas) ≡ sum2_add_all l.initial.total l.areas

@@ -1,5 +1,6 @@
 use Rattle.std.proofs.Common.{◌≡◌, ◌*◌, ◌≤◌}
 use Rattle.solver.specs.Repeat.{repeat}
+use Rattle.zone.specs.Physics.System.{zone_two_nodes}
 use Rattle.zone.specs.Physics.NodeLayout.{first_node, to_nodes_at}
 use Rattle.zone.proofs.physics.node_layout.to_nodes.Given as goal
 
@@ -7,7 +8,7 @@ abbrev pub invariant-loop-e : goal.invariant-loop-e
 invariant-loop-e l =
     record {
       few : l.n ≤ 24;
-      node_is : l.node ≡ first_node l.two_nodes l.e;
+      node_is : l.node ≡ first_node (zone_two_nodes l.z) l.e;
       bound : l.node ≤ 5 * l.e;
-      left : repeat l.e l.n (to_nodes_at l.two_nodes l.slots) l.temps ≡ repeat 0 l.n (to_nodes_at l.two_nodes l.slots) l.initial.temps;
+      left : repeat l.e l.n (to_nodes_at (zone_two_nodes l.z) l.slots) l.temps ≡ repeat 0 l.n (to_nodes_at (zone_two_nodes l.z) l.slots) l.initial.temps;
     }

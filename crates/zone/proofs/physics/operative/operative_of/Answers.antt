@@ -1,5 +1,4 @@
 use Rattle.std.proofs.Common.{◌∙◌}
-use Rattle.zone.proofs.Laws.Counts.{min_24}
 use Rattle.zone.proofs.Laws.OperativeNodes.{operative_of_nodes}
 use Rattle.zone.proofs.physics.operative.operative_of.Goals as goal
 
@@ -8,8 +7,7 @@ returns c =
     let a = c.args in
     c.mean_of.ensures
     ∙ operative_of_nodes a.z.now a.temps.now
-    _ c.two_nodes_of-two_nodes.ensures
-    _ c.areas_of-area.ensures
-    _ (c.min-n.ensures ∙ min_24 a.z.now.count)
+    _ c.areas_of.ensures
+    _ (c.element_count.ensures.0)
     _ c.area_total-area_el_total.ensures
     _ c.radiant_sum_of_nodes-radiant.ensures.0 _ c.radiant_sum_of_nodes-radiant.ensures.1

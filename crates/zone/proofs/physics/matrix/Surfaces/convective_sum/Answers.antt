@@ -1,9 +1,6 @@
 use Rattle.std.proofs.Common.{rules}
-use Rattle.zone.proofs.Laws.Loops.{sum2_turn, sum2_end}
+use Rattle.zone.specs.Inner.Assembly.{at, convective_by}
 use Rattle.zone.proofs.physics.matrix.Surfaces.convective_sum.Goals as goal
 
-pub loop-e-preserved : goal.loop-e-preserved
-loop-e-preserved c = search (rules, sum2_turn)
-
 pub returns : goal.returns
-returns c = search (rules, sum2_end)
+returns c = c.sum2_of.ensures (convective_by (at c.args.self.now.area) (at c.args.self.now.h_ci)) (λ e x h told. search rules)

@@ -5,4 +5,4 @@ use Rattle.zone.proofs.physics.matrix.Surfaces.couplings.Given as goal
 
 abbrev pub invariant-loop-k : goal.invariant-loop-k
 invariant-loop-k l =
-    repeat l.k l.n (couple (at l.self.share) (at l.self.h_ri l.i) l.i) l.m ≡ repeat 0 l.n (couple (at l.self.share) (at l.self.h_ri l.i) l.i) l.fn.m
+    repeat l.k l.self.n (couple (at l.self.share) (at l.self.h_ri l.i) l.i) l.m ≡ repeat 0 l.self.n (couple (at l.self.share) (at l.self.h_ri l.i) l.i) l.fn.m

@@ -1,8 +1,0 @@
-use lib.Ieee.{of_bits}
-use Rattle.solver.specs.F64.{decimal}
-use Rattle.zone.specs.Check.Ranges.{h_pli_range}
-use Rattle.zone.proofs.check.ranges.h_pli_in_range.Goals as goal
-
-pub returns : goal.returns
-unfolding h_pli_range of_bits decimal
-returns c = c.all_inside.ensures

@@ -1,9 +1,0 @@
-use mathlib.Core.Path.{refl}
-use lib.Ieee.{of_bits}
-use Rattle.solver.specs.F64.{decimal}
-use Rattle.zone.specs.Check.Ranges.{irradiance_range}
-use Rattle.zone.proofs.check.ranges.irradiance_in_range.Goals as goal
-
-pub returns : goal.returns
-unfolding irradiance_range of_bits decimal
-returns c = refl

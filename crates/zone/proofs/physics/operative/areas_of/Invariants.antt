@@ -1,9 +1,0 @@
-use Rattle.std.proofs.Common.{◌≡◌}
-use Rattle.solver.specs.Repeat.{repeat}
-use Rattle.zone.specs.Physics.Slots.{set_term}
-use Rattle.zone.specs.Physics.System.{area_of}
-use Rattle.zone.proofs.physics.operative.areas_of.Given as goal
-
-abbrev pub invariant-loop-e : goal.invariant-loop-e
-invariant-loop-e l =
-    repeat l.e l.n (set_term (area_of l.z.building_elements)) l.area ≡ repeat 0 l.n (set_term (area_of l.z.building_elements)) l.initial.area
