@@ -1,12 +1,21 @@
 -- Bytes of a list from a place on, for reading and for writing.
-use Rattle.std.specs.Prelude.{ℕ, ◌+◌, List, ◌++◌, length, take, drop, replicate, Float, to_bits}
+use Rattle.std.specs.Prelude.{ℕ, zero, suc, ◌+◌, List, [], ◌∷◌, ◌++◌, length, take, drop, replicate, Float, to_bits, from_bits}
 use Rattle.std.specs.Float.Ieee.{binary64}
-use Rattle.std.specs.Int.{w64, to_be_bytes}
+use Rattle.std.specs.Int.{w64, to_be_bytes, from_be_bytes}
 use Rattle.std.specs.List.{flat_map}
 
 -- the `count` bytes of s from `at` on, where those past the end are 0
 abbrev pub bytes_from : List ℕ → (at count : ℕ) → List ℕ
 bytes_from s at count = take count (drop at s ++ replicate count 0)
+
+-- the float at a place
+abbrev pub f64_from : List ℕ → (at : ℕ) → Float
+f64_from s at = from_bits binary64 (from_be_bytes w64 (bytes_from s at 8))
+
+-- so many floats, one behind the other
+unfoldable pub f64s_from : List ℕ → (at count : ℕ) → List Float
+f64s_from s at zero = []
+f64s_from s at (suc n) = f64_from s at ∷ f64s_from s (at + 8) n
 
 -- s with `bytes` from `at` on, of which those past the end are left out
 abbrev pub written : List ℕ → (at : ℕ) → List ℕ → List ℕ

@@ -1,9 +1,10 @@
-// Reading: past the end every byte is 0.
-ghost use Rattle.std.specs.Prelude.{◌≡◌, ◌+◌, ◌<◌, ◌≤◌, length, slice_index, slice_range, from_bits, []};
+// Reading: past the end every byte is 0, and a part is none.
+ghost use Rattle.std.specs.Prelude.{◌≡◌, ◌+◌, ◌<◌, ◌≤◌, length, slice_index, slice_range, from_bits, MatchOption};
 ghost use Rattle.std.specs.Float.Ieee.{binary64};
 ghost use Rattle.std.specs.Int.{w16, w32, w64, from_be_bytes};
-ghost use Rattle.big_endian.specs.Bytes.{bytes_from};
+ghost use Rattle.big_endian.specs.Bytes.{bytes_from, f64_from, f64s_from};
 
+use std::array::from_fn;
 use std::num::f64_from_bits_with_nan;
 
 pub fn byte_at(s: &[u8], at: usize) -> u8
@@ -13,7 +14,7 @@ pub fn byte_at(s: &[u8], at: usize) -> u8
 }
 
 // The `N` bytes from `at` on.
-fn bytes_at<const N: usize>(s: &[u8], at: usize) -> [u8; N]
+pub fn bytes_at<const N: usize>(s: &[u8], at: usize) -> [u8; N]
     ensures { result ≡ bytes_from s.now at N }
 {
     let mut bytes = [0; N];
@@ -44,18 +45,22 @@ pub fn read_u64_be(s: &[u8], at: usize) -> u64
 
 // A NaN's pattern gives a NaN.
 pub fn read_f64_be(s: &[u8], at: usize) -> f64
-    ensures { result ≡ from_bits binary64 (from_be_bytes w64 (bytes_from s.now at 8)) }
+    ensures { result ≡ f64_from s.now at }
 {
     f64_from_bits_with_nan(read_u64_be(s, at))
 }
 
-// The `count` bytes from `from` on, or none where they are not all there. No Option: the programs
-// hand a part to a call of the book, which refuses an empty one, or compare it.
-pub fn part(s: &[u8], from: usize, count: usize) -> &[u8]
-    ensures all { from + count ≤ length s.now → result.now ≡ slice_range s.now from (from + count) }
-    ensures not_all { length s.now < from + count → result.now ≡ [] }
+// One behind the other. A place beyond the greatest number lies past the end, as that number does.
+pub fn read_f64s_be<const N: usize>(s: &[u8], at: usize) -> [f64; N]
+    ensures { result ≡ f64s_from s.now at N }
 {
-    s.get(from..)
-        .and_then(|rest| rest.get(..count))
-        .unwrap_or(&[])
+    from_fn(|i| read_f64_be(s, at.saturating_add(i.saturating_mul(8))))
+}
+
+// The `count` bytes from `from` on; none where they are not all there.
+pub fn part(s: &[u8], from: usize, count: usize) -> Option<&[u8]>
+    ensures { MatchOption result (length s.now < from + count)
+        (λ bytes. (from + count ≤ length s.now) × (bytes.now ≡ slice_range s.now from (from + count))) }
+{
+    s.get(from..).and_then(|rest| rest.get(..count))
 }

@@ -3,12 +3,11 @@ use Rattle.std.specs.Prelude.{Ok, Err, OnErr}
 use Rattle.std.specs.Prelude as Rust
 use mathlib.Core.Path.{◌≡◌, refl, sym, ap, subst, ◌∙◌}
 use mathlib.Core.Bool.{Bool, true, false}
-use mathlib.Core.List.{List, ◌++◌}
+use mathlib.Core.List.{List, ◌++◌, append_assoc}
 use Prim.Native.Nat.{ℕ, ◌+◌, ◌≤◌, ◌<◌}
-use native.Mathlib.Nat.{zero-add}
 use native.Mathlib.Omega.{arith}
 use lib.ListN.{length, take, drop, length-append}
-use lib.Seq.{length-take-le}
+use lib.Seq.{length-take-le, drop-drop}
 use lib.Dec.{T, leb, ltb}
 use lib.Ieee.{binary64, fits}
 use borrow.Author.Tests.{leb-true, le-leb, lt-ltb, lt-leb, le-ltb}
@@ -32,7 +31,7 @@ use Rattle.book.specs.Numbers.{buffer_short, book_full, false_entry}
 use Rattle.book.specs.Model.Interface.{Written}
 use Rattle.book.specs.Model.Calls as Book
 use Rattle.book.specs.Model.Session.{CallSpec}
-use Rattle.book.specs.Inner.Replace.{replace_at}
+use Rattle.book.specs.Inner.Start.{with_start}
 use Rattle.zone.specs.Format.Layout.{conditions_length}
 use Rattle.zone.specs.Format.Limits.{limits_in}
 use Rattle.zone.specs.declared.format.limits.Limits.{Limits}
@@ -45,6 +44,7 @@ use Rattle.book.specs.Inner.Answers.{values_in, written}
 use Rattle.book.specs.declared.book_error.BookError.{BookError}
 use Rattle.book.specs.declared.book.BookState.{BookState}
 use Rattle.book.specs.declared.book.Reply.{Reply}
+use Rattle.book.proofs.Laws.Start.{part_from, with_part, part_is, part_put}
 use Rattle.book.proofs.Laws.Accepted.{hour_body}
 use Rattle.book.proofs.Laws.Body.{part_length, part_back}
 use Rattle.book.proofs.Laws.Heads.{head_inside, head_stops, head_goes_on, starts, starts_not}
@@ -123,10 +123,10 @@ module _ (head : List ℕ) (x : Rust.Result ℕ Refusal) (z : Zone) (e : head_re
       begin_short l = sym (head_goes_on head x z e begun n f ∙ rw (starts z y a s k, lt-leb n (length buf) l))
 
       pub begin_good : (v : Book.BookState Carried) → v ≡ record { state = carried s no_entry_version; count = 0; used = n }
-          → n ≤ length buf → (out : List ℕ) → out ≡ replace_at 0 (take n head) buf → ok (v, out) ≡ Book.begin_res year_interface head buf
-      unfolding Book.begin_res replace_at
+          → n ≤ length buf → (out : List ℕ) → out ≡ with_start (take n head) buf → ok (v, out) ≡ Book.begin_res year_interface head buf
+      unfolding Book.begin_res with_start
       begin_good v v_is l out o =
-          let m : 0 + length (take n head) ≡ n = zero-add _ ∙ length-take-le n head (head_inside head x z e n f) in
+          let m : length (take n head) ≡ n = length-take-le n head (head_inside head x z e n f) in
           (λ t. ok (v_is t, (o ∙ ap (λ (i : ℕ). take n head ++ drop i buf) m) t))
           ∙ sym (head_goes_on head x z e begun n f ∙ rw (starts z y a s k, le-leb n (length buf) l))
 
@@ -184,13 +184,18 @@ module _ (z : Zone) (g : BookState) (version : ℕ) (i : List ℕ) (l : Limits) 
             append_short t = rw (tested, room, gives, long, t)
 
             -- j is the limits' part, as the code cuts it out
-            pub append_good : leb (g.used + m) (length buf) ≡ true → (j : List ℕ) → j ≡ limits_part version l → (out : List ℕ) → out ≡ replace_at g.used (entry_of z version (i ++ j) d x.state) buf
-                → Appends (ok (record { state = carried x.state version; count = g.count + 1; used = g.used + m }, out))
-            unfolding Book.append_res replace_at
-            append_good t j j_is out o =
-                let o' = o ∙ ap (λ y. replace_at g.used (entry_of z version (i ++ y) d x.state) buf) j_is in
-                rw (tested, room, gives, long, t)
-                (λ y. ok (record { state = carried x.state version; count = g.count + 1; used = g.used + m }, (o' ∙ ap (λ (k : ℕ). take g.used buf ++ bytes ++ drop (g.used + k) buf) long) y))
+            pub append_good : leb (g.used + m) (length buf) ≡ true → (j : List ℕ) → j ≡ limits_part version l
+                → (w : List ℕ) → w ≡ with_start (entry_of z version (i ++ j) d x.state) (part_from g.used buf)
+                → Appends (ok (record { state = carried x.state version; count = g.count + 1; used = g.used + m }, with_part g.used buf w))
+            unfolding Book.append_res with_start
+            append_good t j j_is w o =
+                let behind : drop (length bytes) (part_from g.used buf) ≡ drop (g.used + m) buf =
+                (λ y. drop (long y) (part_is g.used buf y)) ∙ drop-drop m g.used buf in
+                let whole : with_part g.used buf w ≡ take g.used buf ++ bytes ++ drop (g.used + m) buf =
+                part_put g.used buf w
+                ∙ ap (λ y. take g.used buf ++ y) (o ∙ ap (λ y. with_start (entry_of z version (i ++ y) d x.state) (part_from g.used buf)) j_is ∙ ap (λ y. bytes ++ y) behind)
+                ∙ sym (append_assoc (take g.used buf) bytes (drop (g.used + m) buf)) in
+                rw (tested, room, gives, long, t) (λ y. ok (record { state = carried x.state version; count = g.count + 1; used = g.used + m }, whole y))
 
 -- the ways out of `appended`
 pub ruleset append_cases = (zone_passed, append_no_zone, append_full, append_version, append_no_hour, append_size, append_short, append_room)

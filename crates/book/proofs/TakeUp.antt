@@ -11,14 +11,14 @@ use native.Mathlib.Omega.{arith}
 use lib.ListN.{length, take, drop, length-drop}
 use lib.Seq.{length-take-le, take-add, drop-drop}
 use borrow.Author.Tests.{lt-ltb, le-ltb}
-use Rattle.zone.specs.Promise.{Result, ok, refused, bind}
+use Rattle.zone.specs.Promise.{Result, ok, refused}
 use Rattle.zone.specs.Record.BuildingElement.{standard_coefficients}
-use Rattle.zone.specs.Format.Head.{ReadHead, head_of}
+use Rattle.zone.specs.Format.Head.{ReadHead}
 use Rattle.zone.specs.Inner.Head.{structured_head, head_read}
 use Rattle.zone.specs.Check.ZoneTest.{zone_test}
 use Rattle.zone.specs.declared.record.zone_record.Zone.{Zone}
 use Rattle.book.specs.declared.book_error.BookError.{BookError}
-use Rattle.zone.proofs.Promise.{and_true, head_no, head_yes}
+use Rattle.zone.proofs.Promise.{and_true}
 use Rattle.zone.specs.Calls.Hour.{hour_version}
 use lib.Dec.{leb}
 use Rattle.zone.specs.Inner.NextHour.{next_hour}
@@ -39,17 +39,16 @@ use Rattle.zone.specs.Format.Limits.{limits_in}
 use Rattle.zone.specs.declared.format.limits.Limits.{Limits}
 use Rattle.book.specs.Layout.{front_size, limits_length, whole_length}
 use Rattle.book.specs.Entry.{entry_of}
-use Rattle.book.specs.Year.{hour, Carried, carried, no_entry_version, start_up, may_follow, hour_entry, entry_length, body_in, item_in, year_interface}
+use Rattle.book.specs.Year.{hour, Carried, carried, no_entry_version, may_follow, hour_entry, entry_length, body_in, item_in, year_interface}
 use Rattle.book.specs.Answers.{number_of as number_of_error, index_of as index_of_error, given_of, answer_of}
 use Rattle.book.specs.Inner.Answers.{values_in}
 use Rattle.book.specs.declared.book.Reply.{Reply}
 use Rattle.book.specs.Inner.Checked.{checked_entry}
-use Rattle.book.specs.Inner.Reader.{zone_or, BookRead, read_of, book_read}
+use Rattle.book.specs.Inner.Reader.{start_in}
 use Rattle.book.specs.Inner.Record.{NextRecord}
 use Rattle.book.specs.declared.record.Records.{Records}
 use Rattle.std.specs.Borrow.{Bor}
 use Rattle.book.specs.declared.book.BookState.{BookState}
-use Rattle.book.specs.declared.entries.ReadBook.{ReadBook}
 use Rattle.book.specs.declared.checked_entry.CheckedEntry.{CheckedEntry}
 use Rattle.book.proofs.Laws.Heads.{head_stops, head_goes_on, starts, starts_not}
 use Rattle.book.proofs.Laws.Interface.{year_laws}
@@ -134,7 +133,7 @@ module _ (z : Zone) (tested : zone_test z ≡ ok tt) (k : ℕ) (s : Carried) (ve
 
 -- ---- the loop over the whole entries
 
-module _ (z : Zone) (s : Records) (same : s.zone.now ≡ z) (v : BookState) (J : Result (Book.BookState Carried))
+module _ (z : Zone) (s : Records) (same : s.layout.zone.now ≡ z) (v : BookState) (J : Result (Book.BookState Carried))
     (inv : J ≡ Book.check_entries year_interface z v.count (given_of v).state v.used (Book.whole_entries year_interface z s.rest.now)) where
   -- no whole entry is left
   pub check_end : (t : Records) → NextRecord s None t → ok (given_of v) ≡ J
@@ -176,72 +175,49 @@ module _ (z : Zone) (s : Records) (same : s.zone.now ≡ z) (v : BookState) (J :
 abbrev entries : (bytes : List ℕ) → ReadHead Zone → Carried → Result (Book.BookState Carried)
 entries bytes h s = Book.check_entries year_interface h.zone 0 s h.length (Book.whole_entries year_interface h.zone (drop h.length bytes))
 
-abbrev read : ReadHead Zone → Carried → Book.BookState Carried → Result BookRead
-read h s v = ok (record { head = h; start = s.state; values = v })
-
-abbrev follows : (bytes : List ℕ) → ReadHead Zone → Carried → Result BookRead
-follows bytes h s = bind (entries bytes h s) (read h s)
+abbrev started : ReadHead Zone → Carried → Result State
+started h s = ok s.state
 
 module _ (bytes : List ℕ) (x : Rust.Result ℕ Refusal) (z : Zone) (e : head_read x z ≡ structured_head bytes) where
-  -- the zone that it leaves
-  pub zone_kept : (given : Zone) → (i : Refusal) → x ≡ Err i → z ≡ given → z ≡ zone_or given (structured_head bytes)
-  zone_kept given i f same = same ∙ rw (head_no (structured_head bytes) x z e i f) refl
+  pub start_no_head : (given : State) → (i : Refusal) → x ≡ Err i → given ≡ start_in given bytes
+  unfolding start_in
+  start_no_head given i f = rw (head_stops bytes x z e started i f) refl
 
-  pub zone_read : (given : Zone) → (n : ℕ) → x ≡ Ok n → z ≡ zone_or given (structured_head bytes)
-  zone_read given n f = rw (head_yes (structured_head bytes) x z e n f) refl
+  pub values_no_head : (i : Refusal) → x ≡ Err i → refused (number_of i) (index_of i) ≡ Book.take_up_res year_interface bytes
+  unfolding Book.take_up_res
+  values_no_head i f = sym (head_stops bytes x z e (entries bytes) i f)
 
-  pub read_no_head : (i : Refusal) → x ≡ Err i → refused (number_of i) (index_of i) ≡ read_of bytes
-  unfolding read_of
-  read_no_head i f = sym (head_stops bytes x z e (follows bytes) i f)
+  pub head_is : (n : ℕ) → x ≡ Ok n → structured_head bytes ≡ ok (record { zone = z; length = n })
+  head_is n f = sym e ∙ ap (λ r. head_read r z) f
 
-  module _ (n : ℕ) (f : x ≡ Ok n) (y : Rust.Result State Refusal) (a : answered y ≡ init_node_temps standard_coefficients z) where
-    pub read_no_start : (i : Refusal) → y ≡ Err i → refused (number_of i) (index_of i) ≡ read_of bytes
-    unfolding read_of
-    read_no_start i k = sym (head_goes_on bytes x z e (follows bytes) n f ∙ rw (starts_not z y a i k))
+module _ (bytes : List ℕ) (z : Zone) (n : ℕ) (e : structured_head bytes ≡ ok (record { zone = z; length = n }))
+    (y : Rust.Result State Refusal) (a : answered y ≡ init_node_temps standard_coefficients z) where
+  pub start_refused : (given : State) → (i : Refusal) → y ≡ Err i → given ≡ start_in given bytes
+  unfolding start_in
+  start_refused given i k = rw (head_goes_on bytes (Ok n) z (sym e) started n refl, starts_not z y a i k) refl
 
-    module _ (s : State) (k : y ≡ Ok s) (d : Rust.Result BookState BookError) (q : values_in d ≡ entries bytes (record { zone = z; length = n }) (carried s no_entry_version)) where
-      read_goes_on : read_of bytes ≡ bind (values_in d) λ v. ok (record { head = record { zone = z; length = n }; start = s; values = v })
-      unfolding read_of
-      read_goes_on = head_goes_on bytes x z e (follows bytes) n f ∙ rw (starts z y a s k, q)
+  pub values_no_start : (i : Refusal) → y ≡ Err i → refused (number_of i) (index_of i) ≡ Book.take_up_res year_interface bytes
+  unfolding Book.take_up_res
+  values_no_start i k = sym (head_goes_on bytes (Ok n) z (sym e) (entries bytes) n refl ∙ rw (starts_not z y a i k))
 
-      pub read_no_book : (i : BookError) → d ≡ Err i → refused (number_of_error i) (index_of_error i) ≡ read_of bytes
-      read_no_book i l = sym (read_goes_on ∙ rw l refl)
+  module _ (s : State) (k : y ≡ Ok s) where
+    pub start_read : (given : State) → s ≡ start_in given bytes
+    unfolding start_in
+    start_read given = rw (head_goes_on bytes (Ok n) z (sym e) started n refl, starts z y a s k) refl
 
-      pub read_all : (v : BookState) → d ≡ Ok v → ok (record { head = record { zone = z; length = n }; start = s; values = given_of v }) ≡ read_of bytes
-      read_all v l = sym (read_goes_on ∙ rw l refl)
-
--- the values of what is read
-pub values_of_read : (bytes : List ℕ) → Book.take_up_res year_interface bytes ≡ bind (read_of bytes) λ b. ok b.values
-unfolding read_of Book.take_up_res
-values_of_read bytes = of_head (head_of bytes)
-  where
-    of_entries : (h : ReadHead Zone) (s : Carried) (r : Result (Book.BookState Carried)) → r ≡ bind (bind r (read h s)) λ b. ok b.values
-    of_entries h s (ok v) = refl
-    of_entries h s (refused n i) = refl
-
-    of_start : (h : ReadHead Zone) (r : Result Carried) → bind r (entries bytes h) ≡ bind (bind r (follows bytes h)) λ b. ok b.values
-    of_start h (ok s) = of_entries h s (entries bytes h s)
-    of_start h (refused n i) = refl
-
-    of_head : (r : Result (ReadHead Zone)) → bind r (λ h. bind (start_up h.zone) (entries bytes h)) ≡ bind (bind r λ h. bind (start_up h.zone) (follows bytes h)) λ b. ok b.values
-    of_head (ok h) = of_start h (start_up h.zone)
-    of_head (refused n i) = refl
-
-module _ (bytes : List ℕ) (x : Rust.Result ReadBook BookError) (z : Zone) (e : book_read x z ≡ read_of bytes) where
-  pub no_values_read : (i : BookError) → x ≡ Err i → refused (number_of_error i) (index_of_error i) ≡ Book.take_up_res year_interface bytes
-  no_values_read i f = sym (values_of_read bytes ∙ rw (sym e, f) refl)
-
-  pub all_values_read : (b : ReadBook) → x ≡ Ok b → ok (given_of b.values) ≡ Book.take_up_res year_interface bytes
-  all_values_read b f = sym (values_of_read bytes ∙ rw (sym e, f) refl)
+    pub values_read : (d : Rust.Result BookState BookError) → values_in d ≡ entries bytes (record { zone = z; length = n }) (carried s no_entry_version)
+        → values_in d ≡ Book.take_up_res year_interface bytes
+    unfolding Book.take_up_res
+    values_read d q = q ∙ sym (head_goes_on bytes (Ok n) z (sym e) (entries bytes) n refl ∙ rw (starts z y a s k) refl)
 
 pub take_up_told : (bytes : List ℕ) (g : BookState) (x : Rust.Result BookState BookError) → values_in x ≡ Book.take_up_res year_interface bytes
     → (r : Reply) → answer_of r ≡ Book.answer_from (given_of g) (values_in x) → answer_of r ≡ Book.take_up year_interface (given_of g) bytes
 unfolding Book.take_up
 take_up_told bytes g x e r q = q ∙ ap (Book.answer_from (given_of g)) e
 
--- the ways out of `check_entry`, of `read_book` and of `taken_up`
+-- the ways out of `check_entry`, of `read_book` and of `start_and_check`
 pub ruleset entry_cases = (entry_front, entry_known, entry_not_next, entry_by_hour)
 
-pub ruleset read_cases = (zone_kept, zone_read, read_no_head, read_no_start, read_no_book, read_all)
+pub ruleset head_cases = (start_no_head, values_no_head, head_is)
 
-pub ruleset values_read = (no_values_read, all_values_read)
+pub ruleset start_cases = (values_no_start, values_read)

@@ -8,7 +8,7 @@ ghost use Rattle.book.specs.Inner.Answers.{values_in, written};
 
 use crate::book_error::{BookError, false_entry};
 use crate::bytes::put;
-use crate::entry::{Entry, limits_bytes, limits_length, put_entry, whole_length};
+use crate::entry::{Entry, EntryLayout, limits_bytes, limits_length};
 use crate::layout::MOST_ENTRIES;
 use crate::versions::{NO_ENTRY_VERSION, may_follow};
 use zone::{Limits, State, Zone, init_node_temps, read_head, zone_test};
@@ -70,7 +70,7 @@ fn begun(head: &[u8], buf: &mut [u8]) -> Result<BookState, BookError>
     if buf.len() < n {
         return Err(BookError::BufferShort);
     }
-    put(&head[..n], buf, 0);
+    put(&head[..n], buf);
     Ok(no_entries(state, n))
 }
 
@@ -112,7 +112,8 @@ fn appended(
     }
     let hour = given.state.next_hour(z, conditions, version, limits);
     let demand = hour.answer?;
-    let length = whole_length(z, version);
+    let layout = EntryLayout { zone: z };
+    let length = layout.whole_length(version);
     if !has_room(given.used, length, buf.len()) {
         return Err(BookError::BufferShort);
     }
@@ -124,7 +125,7 @@ fn appended(
         demand,
         after: &hour.state,
     };
-    put_entry(z, &entry, buf, given.used);
+    layout.put_entry(&entry, &mut buf[given.used..]);
     Ok(BookState {
         state: hour.state,
         count: given.count + 1,

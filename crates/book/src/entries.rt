@@ -1,44 +1,45 @@
 // Take-up: the entries of a book, one after the other.
-ghost use Rattle.std.specs.Prelude.{◌≡◌, ◌≤◌, length, drop};
-ghost use Rattle.zone.specs.Inner.Head.{structured_head};
+ghost use Rattle.std.specs.Prelude.{◌≡◌, ◌≤◌, length, drop, OnErr};
+ghost use Rattle.zone.specs.Promise.{ok};
+ghost use Rattle.zone.specs.Inner.Head.{structured_head, head_read};
 ghost use Rattle.book.specs.Model.Calls as Book;
 ghost use Rattle.book.specs.Year.{carried, no_entry_version, year_interface};
 ghost use Rattle.book.specs.Answers.{given_of, answer_of};
 ghost use Rattle.book.specs.Inner.Answers.{values_in};
-ghost use Rattle.book.specs.Inner.Checked.{TestedKept};
-ghost use Rattle.book.specs.Inner.Reader.{zone_or, read_of, book_read};
+ghost use Rattle.book.specs.Inner.Reader.{start_in};
 
 use crate::book::{BookState, Reply, no_entries, replied};
 use crate::book_error::BookError;
-use crate::checked_entry::check_entry;
+use crate::checked_entry::EntryChecker;
+use crate::entry::EntryLayout;
 use crate::layout::MOST_ENTRIES;
 use crate::record::Records;
-use zone::{KeptMatrix, State, Zone, read_head, start_up_lent};
+use zone::{KeptMatrix, Refusal, State, Zone, read_head, start_up_lent};
 
-// The whole entries behind the head, in order, against the hour steps. The factored matrix is kept from entry to entry.
+// The whole entries behind the head, in order, against the hour steps. The factored matrix is kept from entry to entry. The head's length is handed over beside
+// the bytes, and not the bytes behind it alone: it is the first used length, too.
 #[tactic(auto, using(crate::proofs::TakeUp::check_end, zone::proofs::Promise::tested_few))]
 fn check_entries(
-    z: &Zone,
+    checker: &mut EntryChecker<'_>,
     start: State,
     head_length: usize,
     bytes: &[u8],
-    kept: &mut KeptMatrix,
 ) -> Result<BookState, BookError>
-    requires { TestedKept z.now kept.old × (head_length ≤ length bytes.now) }
+    requires { head_length ≤ length bytes.now }
     ensures { values_in result
-        ≡ Book.check_entries year_interface z.now 0 (carried start no_entry_version) head_length
-        (Book.whole_entries year_interface z.now (drop head_length bytes.now)) }
+        ≡ Book.check_entries year_interface checker.old.zone.now 0 (carried start no_entry_version) head_length
+        (Book.whole_entries year_interface checker.old.zone.now (drop head_length bytes.now)) }
 {
     let mut book = no_entries(start, head_length);
     let records = Records {
-        zone: z,
+        layout: EntryLayout { zone: checker.zone },
         rest: &bytes[head_length..],
     };
     for entry in records {
         if MOST_ENTRIES <= book.count {
             return Err(BookError::BookFull);
         }
-        let checked = check_entry(z, &book, entry, kept)?;
+        let checked = checker.check_entry(&book, entry)?;
         book = BookState {
             state: checked.state,
             count: book.count + 1,
@@ -49,39 +50,51 @@ fn check_entries(
     Ok(book)
 }
 
-// A book that is read: the length of its head, whose zone stands in the one that was lent, the state of its start-up, and the values behind its entries.
+// A book that is read: the length of its head, and the values behind its entries. Each is a Result of its own, since the head's length is told also where
+// what follows is refused.
 #[derive(Clone, Copy)]
 pub struct ReadBook {
-    pub head: usize,
-    pub start: State,
-    pub values: BookState,
+    pub head: Result<usize, Refusal>,
+    pub values: Result<BookState, BookError>,
 }
 
-// A book in bytes: its head, whose zone goes into the one that is lent, also where its values or what follows is refused; start-up; the whole entries.
-#[tactic(auto, using(crate::proofs::TakeUp::read_cases))]
-pub fn read_book(bytes: &[u8], zone: &mut Zone) -> Result<ReadBook, BookError>
-    ensures zone { zone.new ≡ zone_or zone.old (structured_head bytes.now) }
-    ensures book { book_read result zone.new ≡ read_of bytes.now }
+// Start-up, whose state goes to the one that is lent, and the entries of a book with a head of so many bytes.
+#[tactic(auto, using(crate::proofs::TakeUp::start_cases))]
+fn start_and_check(
+    zone: &Zone,
+    head_length: usize,
+    bytes: &[u8],
+    start: &mut State,
+) -> Result<BookState, BookError>
+    requires { structured_head bytes.now ≡ ok (record { zone = zone.now; length = head_length }) }
+    ensures start { start.new ≡ start_in start.old bytes.now }
+    ensures values { values_in result ≡ Book.take_up_res year_interface bytes.now }
 {
-    let head = read_head(bytes, zone)?;
     let mut kept = KeptMatrix::none();
-    let start = start_up_lent(zone, &mut kept)?;
-    let values = check_entries(zone, start, head, bytes, &mut kept)?;
-    Ok(ReadBook {
-        head,
-        start,
-        values,
-    })
+    let state = start_up_lent(zone, &mut kept)?;
+    *start = state;
+    let mut checker = EntryChecker {
+        zone,
+        kept: &mut kept,
+    };
+    check_entries(&mut checker, state, head_length, bytes)
 }
 
-// The values of a book in bytes.
-#[tactic(auto, using(crate::proofs::TakeUp::values_read))]
-fn taken_up(bytes: &[u8]) -> Result<BookState, BookError>
-    ensures { values_in result ≡ Book.take_up_res year_interface bytes.now }
+// A book in bytes, with what a tool reads it by: its head's zone and the state of its start-up go into those that are lent, also where what follows is
+// refused.
+#[tactic(auto, using(crate::proofs::TakeUp::head_cases))]
+pub fn read_book(bytes: &[u8], zone: &mut Zone, start: &mut State) -> ReadBook
+    ensures head { head_read result.head zone.new ≡ structured_head bytes.now }
+    ensures refused { OnErr result.head (zone.new ≡ zone.old) }
+    ensures start { start.new ≡ start_in start.old bytes.now }
+    ensures values { values_in result.values ≡ Book.take_up_res year_interface bytes.now }
 {
-    let mut zone = Zone::none();
-    let book = read_book(bytes, &mut zone)?;
-    Ok(book.values)
+    let head = read_head(bytes, zone);
+    let values = match head {
+        Err(e) => Err(e.into()),
+        Ok(length) => start_and_check(zone, length, bytes, start),
+    };
+    ReadBook { head, values }
 }
 
 // A book in bytes: its head, and whole entries that are what the hour step gives. What is handed back of it.
@@ -89,5 +102,8 @@ fn taken_up(bytes: &[u8]) -> Result<BookState, BookError>
 pub fn take_up(given: BookState, bytes: &[u8]) -> Reply
     ensures { answer_of result ≡ Book.take_up year_interface (given_of given) bytes.now }
 {
-    replied(given, taken_up(bytes))
+    let mut zone = Zone::none();
+    let mut start = given.state;
+    let book = read_book(bytes, &mut zone, &mut start);
+    replied(given, book.values)
 }

@@ -1,19 +1,18 @@
 // The first entry of a rest of the book, and the state after its hour.
-ghost use Rattle.std.specs.Prelude.{◌≡◌, ◌≤◌, length};
+ghost use Rattle.std.specs.Prelude.{◌≡◌};
 ghost use Rattle.book.specs.Inner.Reader.{read_temperatures, read_length, read_first};
 ghost use Rattle.book.specs.Inner.Record.{record_length};
 
-use crate::entry::nodes_of;
+use crate::entry::EntryLayout;
 use crate::layout::{FLOAT_SIZE, MOST_ELEMENTS};
 use crate::record::record_in;
 use zone::{Zone, read_temperatures};
 
 // The node temperatures with which an entry ends, into the first places of `temps`; 0.0 in every place where it is too short to hold them.
-fn read_state(z: &Zone, entry: &[u8], temps: &mut [f64; 121])
-    requires { z.now.count ≤ 24 }
-    ensures { temps.new ≡ read_temperatures z.now entry.now temps.old }
+fn read_state(layout: &EntryLayout<'_>, entry: &[u8], temps: &mut [f64; 121])
+    ensures { temps.new ≡ read_temperatures layout.now.zone.now entry.now temps.old }
 {
-    let nodes = nodes_of(z);
+    let nodes = layout.nodes();
     let size = FLOAT_SIZE * nodes;
     if entry.len() < size {
         *temps = [0.0; 121];
@@ -31,7 +30,8 @@ pub fn read_entry(z: &Zone, rest: &[u8], temps: &mut [f64; 121]) -> Option<usize
     if MOST_ELEMENTS < z.count {
         return None;
     }
-    let length = record_in(z, rest)?;
-    read_state(z, &rest[..length], temps);
+    let layout = EntryLayout { zone: z };
+    let length = record_in(&layout, rest)?;
+    read_state(&layout, &rest[..length], temps);
     Some(length)
 }

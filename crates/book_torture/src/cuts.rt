@@ -8,7 +8,7 @@ use crate::replies::{has_entries, is_refused, is_take_up_refused, same_book_stat
 use crate::small_book::{Book, CUT_OFF, HOURS, ROOM};
 use crate::tally::Tally;
 use crate::version::Version;
-use big_endian::{part, put_bytes};
+use big_endian::put_bytes;
 use book::{BookError, BookState};
 use std::iter::StepBy;
 use std::ops::Range;
@@ -43,17 +43,17 @@ impl Continuation<'_> {
     }
 
     fn is_right_at(&self, cut: usize) -> bool {
+        let Some(left) = self.whole.bytes.get(..cut) else {
+            return false;
+        };
         // Within the head nothing is taken up.
         if cut < HEAD {
-            return is_take_up_refused(
-                part(&self.whole.bytes, 0, cut),
-                BookError::Zone(Refusal::HeadShort),
-            );
+            return is_take_up_refused(left, BookError::Zone(Refusal::HeadShort));
         }
         let mut b = [CUT_OFF; ROOM];
-        put_bytes(&mut b, 0, part(&self.whole.bytes, 0, cut));
+        put_bytes(&mut b, 0, left);
         let entries = self.whole.plan.entries(self.whole.plan.whole_before(cut));
-        taken_up(part(&b, 0, cut))
+        taken_up(left)
             .filter(|taken| has_entries(taken, entries))
             .is_some_and(|taken| self.is_continued(taken, &mut b))
     }

@@ -1,10 +1,11 @@
 // A small book with one byte changed, and what take-up answers of it.
+use crate::changed::with_bytes;
 use crate::expected::{Expected, expected_at, is_answered};
 use crate::layout::{HEAD, LIMITS, LIMITS_PLACE};
 use crate::small_book::{Book, PLAN, USED};
 use crate::tally::{Tally, count_one};
 use crate::version::Version;
-use big_endian::{byte_at, part, put_byte};
+use big_endian::byte_at;
 use book::BookError;
 use std::ops::Range;
 use zone::Refusal;
@@ -62,16 +63,15 @@ impl Damages {
         }
     }
 
-    // The byte at a place changed, and back: in place, here and in the other files, since what is asked in between differs from file to file.
     fn count_at(&mut self, book: &mut Book, place: usize) {
         let house = book.house;
-        let b = &mut book.bytes;
-        let byte = byte_at(b, place);
-        put_byte(b, place, byte ^ CHANGES[place % CHANGES.len()]);
-        let bytes = part(b, 0, USED);
-        let expected = expected_at(house, bytes, place);
-        self.count(Part::at(place), expected, is_answered(bytes, expected));
-        put_byte(b, place, byte);
+        let b = &mut book.bytes[..USED];
+        let changed = byte_at(b, place) ^ CHANGES[place % CHANGES.len()];
+        let (expected, right) = with_bytes(b, place, [changed], |bytes| {
+            let expected = expected_at(house, bytes, place);
+            (expected, is_answered(bytes, expected))
+        });
+        self.count(Part::at(place), expected, right);
     }
 }
 

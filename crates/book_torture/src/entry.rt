@@ -18,11 +18,13 @@ const CONVECTIVE: usize = 10 * 8;
 
 const RADIATIVE: usize = 11 * 8;
 
-// All bytes of an entry.
+// All bytes of an entry, and the conditions and results among them.
 #[derive(Clone, Copy)]
 pub struct Entry<'a> {
     bytes: &'a [u8],
     pub version: Version,
+    pub conditions: &'a [u8],
+    pub results: &'a [u8],
 }
 
 // The limit that holds a power, W.
@@ -36,7 +38,12 @@ impl<'a> Entry<'a> {
     // With which a rest of a book begins; none where the rest ends before it does.
     pub fn first_of(rest: &'a [u8], version: Version) -> Option<Entry<'a>> {
         let bytes = rest.get(..version.entry_length())?;
-        Some(Entry { bytes, version })
+        Some(Entry {
+            bytes,
+            version,
+            conditions: part(bytes, CONDITIONS_PLACE, CONDITIONS)?,
+            results: part(bytes, version.results_place(), RESULTS)?,
+        })
     }
 
     // Of a book in the versions of a plan.
@@ -49,14 +56,6 @@ impl<'a> Entry<'a> {
         read_u32_be(self.bytes, 0) as usize + LENGTH == self.bytes.len()
     }
 
-    pub fn conditions(&self) -> &'a [u8] {
-        part(self.bytes, CONDITIONS_PLACE, CONDITIONS)
-    }
-
-    pub fn results(&self) -> &'a [u8] {
-        part(self.bytes, self.version.results_place(), RESULTS)
-    }
-
     // Those of an entry of version 3. Of another these bytes are results, which no rule takes for limits.
     pub fn limits(&self) -> Limits {
         Limits {
@@ -66,28 +65,28 @@ impl<'a> Entry<'a> {
     }
 
     pub fn heating(&self) -> f64 {
-        read_f64_be(self.results(), 0)
+        read_f64_be(self.results, 0)
     }
 
     pub fn cooling(&self) -> f64 {
-        read_f64_be(self.results(), COOLING)
+        read_f64_be(self.results, COOLING)
     }
 
     pub fn rate(&self) -> f64 {
-        read_f64_be(self.results(), RATE)
+        read_f64_be(self.results, RATE)
     }
 
     pub fn convective(&self) -> f64 {
-        read_f64_be(self.conditions(), CONVECTIVE)
+        read_f64_be(self.conditions, CONVECTIVE)
     }
 
     pub fn radiative(&self) -> f64 {
-        read_f64_be(self.conditions(), RADIATIVE)
+        read_f64_be(self.conditions, RADIATIVE)
     }
 
     // W, as the demand asks for it.
     pub fn power_asked(&self) -> f64 {
-        (self.heating() + self.cooling()) * 1000.0 / read_f64_be(self.conditions(), HOUR_LENGTH)
+        (self.heating() + self.cooling()) * 1000.0 / read_f64_be(self.conditions, HOUR_LENGTH)
     }
 
     // What the plant of version 3 cannot give more of.
@@ -117,9 +116,9 @@ impl<'a> Entry<'a> {
     // Of a power, the convective share. Cooling has one of its own from version 2 on.
     pub fn fraction_of(&self, power: f64) -> f64 {
         if self.version != Version::One && power < 0.0 {
-            read_f64_be(self.conditions(), COOLING_FRACTION)
+            read_f64_be(self.conditions, COOLING_FRACTION)
         } else {
-            read_f64_be(self.conditions(), HEATING_FRACTION)
+            read_f64_be(self.conditions, HEATING_FRACTION)
         }
     }
 }

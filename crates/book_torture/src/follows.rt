@@ -6,7 +6,6 @@ use crate::replies::accepted;
 use crate::small_book::{Book, HOURS, PLAN};
 use crate::tally::Tally;
 use crate::version::{VERSIONS, Version};
-use big_endian::part;
 use book::{BookError, BookState};
 use zone::Refusal;
 
@@ -28,12 +27,11 @@ impl Follows {
             ..whole.taken(count)
         };
         let (reply, b) = whole.appended(given, u64::from(version), limits_at(count));
-        if accepted(reply).is_none() {
-            return self.may.count(false);
-        }
         let before = PLAN.entries(count);
         let after = before.followed_by(version);
-        let bytes = part(&b, 0, after.used);
+        let Some(bytes) = accepted(reply).and_then(|_| b.get(..after.used)) else {
+            return self.may.count(false);
+        };
         if version < before.last_version {
             self.may_not.count(is_answered(
                 bytes,
@@ -42,8 +40,8 @@ impl Follows {
         } else {
             self.may.count(is_answered(bytes, Ok(after)));
         }
-        let short = part(&b, 0, after.used.saturating_sub(1));
-        self.short.count(is_answered(short, Ok(before)));
+        let short = bytes.split_last();
+        self.short.count(short.is_some_and(|(_, short)| is_answered(short, Ok(before))));
     }
 }
 

@@ -3,7 +3,6 @@ use crate::layout::{LENGTH, YEAR};
 use crate::questions::{Question, temperatures};
 use crate::tally::{Mark, Tally};
 use crate::year::{PLAN, USED, Year};
-use big_endian::part;
 use std::io;
 
 // Start-up's temperature and the hours'.
@@ -26,11 +25,13 @@ fn check_questions(bytes: &[u8], temperatures: &[f64; TEMPERATURES]) -> Tally {
 }
 
 pub fn print_questions(rt: &impl Print, year: &Year) -> io::Result<()> {
-    let Some(temperatures) = temperatures::<TEMPERATURES>(year.house, &year.bytes, PLAN) else {
+    let temperatures = temperatures::<TEMPERATURES>(year.house, &year.bytes, PLAN);
+    let bytes = year.bytes.get(..USED + LENGTH);
+    let (Some(temperatures), Some(bytes)) = (temperatures, bytes) else {
         return println!(rt; "the operative temperatures of the year: {}", Mark(false));
     };
     println!(rt;
         "the three questions of the year, answered as by a walk over the hours: {}",
-        check_questions(part(&year.bytes, 0, USED + LENGTH), &temperatures)
+        check_questions(bytes, &temperatures)
     )
 }

@@ -64,7 +64,7 @@ impl House {
     // What the hour of an entry needs, and the state after it.
     pub fn hour_step(&self, before: &State, entry: Entry) -> Option<(Demand, State)> {
         let version = u64::from(entry.version);
-        let reply = before.hour_step(&self.zone, entry.conditions(), version, entry.limits());
+        let reply = before.hour_step(&self.zone, entry.conditions, version, entry.limits());
         let (demand, _) = reply.answer.ok()?;
         Some((demand, reply.state))
     }
@@ -78,7 +78,7 @@ impl House {
         share: f64,
     ) -> Option<State> {
         let rate = entry.rate();
-        let reply = before.update_temperatures(&self.zone, entry.conditions(), gains, share, rate);
+        let reply = before.update_temperatures(&self.zone, entry.conditions, gains, share, rate);
         reply.answer.ok()?;
         Some(reply.state)
     }

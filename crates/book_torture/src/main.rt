@@ -5,6 +5,7 @@
 #![tactic(auto)]
 
 mod appends;
+mod changed;
 mod cuts;
 mod damage;
 mod entry;

@@ -1,13 +1,15 @@
 // Which hours of a book have which version, and where their entries stand.
+ghost use Rattle.std.specs.Prelude.{◌+◌, ◌<◌, ◌^◌};
+
 use crate::layout::{ENTRY, HEAD, LIMITS, LONG_ENTRY};
 use crate::version::Version;
 use std::ops::Range;
 
-// The first hours of version 2 and of version 3; where they are the same, no hour has version 2.
+// From which hour on an entry has version 2, and from which on version 3; never, where it is none. Where both are the same, no hour has version 2.
 #[derive(Clone, Copy)]
 pub struct Plan {
-    pub two: usize,
-    pub three: usize,
+    pub two: Option<usize>,
+    pub three: Option<usize>,
 }
 
 // The whole entries with which a book begins: how many, where the last one ends, and its version, 1 where there is none.
@@ -18,11 +20,11 @@ pub struct Entries {
     pub last_version: Version,
 }
 
-// A change that is behind every hour of a year.
-const NEVER: usize = 10000;
-
 impl Entries {
-    pub fn followed_by(self, version: Version) -> Entries {
+    // With one more, which ends further on unless this place is the greatest number.
+    pub fn followed_by(self, version: Version) -> Entries
+        ensures longer { self.used + 1 < 2 ^ 64 → self.used < result.used }
+    {
         Entries {
             count: self.count.saturating_add(1),
             used: self.used.saturating_add(version.entry_length()),
@@ -33,9 +35,9 @@ impl Entries {
 
 impl Plan {
     pub fn version_at(self, hour: usize) -> Version {
-        if self.three <= hour {
+        if self.three.is_some_and(|three| three <= hour) {
             Version::Three
-        } else if self.two <= hour {
+        } else if self.two.is_some_and(|two| two <= hour) {
             Version::Two
         } else {
             Version::One
@@ -44,7 +46,7 @@ impl Plan {
 
     // Where an entry begins, which is also the used length of as many entries. Those of version 3 are longer.
     pub fn place_of(self, entry: usize) -> usize {
-        let long = entry.saturating_sub(self.three);
+        let long = self.three.map_or(0, |three| entry.saturating_sub(three));
         let limits = LIMITS.saturating_mul(long);
         ENTRY
             .saturating_mul(entry)
@@ -70,24 +72,25 @@ impl Plan {
 
     // How many whole entries a book has that is cut at a byte behind the head.
     pub fn whole_before(self, cut: usize) -> usize {
-        let change = self.place_of(self.three);
-        if cut < change {
-            cut.saturating_sub(HEAD) / ENTRY
-        } else {
-            self.three.saturating_add((cut - change) / LONG_ENTRY)
+        match self.three {
+            Some(three) if self.place_of(three) <= cut => {
+                let behind = cut.saturating_sub(self.place_of(three));
+                three.saturating_add(behind / LONG_ENTRY)
+            }
+            _ => cut.saturating_sub(HEAD) / ENTRY,
         }
     }
 
     // So many hours by this plan, all others of this version, which must not be below the last.
     pub fn continued_in(self, count: usize, version: Version) -> Plan {
-        let two = self.two.min(count);
-        let three = self.three.min(count);
+        let two = Some(self.two.map_or(count, |two| two.min(count)));
+        let three = Some(self.three.map_or(count, |three| three.min(count)));
         match version {
             Version::One => Plan {
-                two: NEVER,
-                three: NEVER,
+                two: None,
+                three: None,
             },
-            Version::Two => Plan { two, three: NEVER },
+            Version::Two => Plan { two, three: None },
             Version::Three => Plan { two, three },
         }
     }

@@ -1,7 +1,7 @@
 // What the calls answer: an acceptance with what it hands back, or a refusal, which hands back what was given.
 use crate::plan::Entries;
+use big_endian::same_floats;
 use book::{BookError, BookState, Reply};
-use std::num::f64_to_bits_with_nan;
 use zone::State;
 
 // What no call on these books hands back, so that what was given can be told from what was found.
@@ -22,14 +22,11 @@ pub fn accepted(reply: Reply) -> Option<BookState> {
     reply.answer.ok().map(|()| reply.values)
 }
 
-fn same_bits(x: f64, y: f64) -> bool {
-    f64_to_bits_with_nan(x) == f64_to_bits_with_nan(y)
-}
-
-// Here and in replay, since a crate for these lines would be longer. No derived equality, since the zone's states have none, and floats are the same here where their bits are.
+// No derived equality: by that a NaN is unlike itself, and zeros of either sign are equal. In replay too: `big_endian`
+// knows no state, no crate of the engine compares two, and one that knows them would be a line in crates.txt, a lib.rt and imports on
+// both sides for two conjunctions.
 pub fn same_states(a: &State, b: &State) -> bool {
-    let mut pairs = a.temps.iter().zip(&b.temps);
-    a.nodes == b.nodes && pairs.all(|(x, y)| same_bits(*x, *y))
+    a.nodes == b.nodes && same_floats(&a.temps, &b.temps)
 }
 
 pub fn same_book_states(a: &BookState, b: &BookState) -> bool {

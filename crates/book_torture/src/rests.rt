@@ -4,7 +4,7 @@ use crate::layout::{FRONT, LONG_ENTRY, VERSION_PLACE};
 use crate::small_book::{Book, CUT_OFF, HOURS, PLAN, ROOM, THREE, TWO};
 use crate::tally::Tally;
 use crate::version::{VERSION_BYTES, Version};
-use big_endian::{part, put_byte, put_bytes};
+use big_endian::{put_byte, put_bytes};
 
 // The longest rest is longer than any entry.
 const MOST: usize = LONG_ENTRY + 7;
@@ -33,17 +33,17 @@ impl Rests {
 
     // Behind so many hours of the small book, of this version byte.
     fn count_behind(&mut self, whole: &Book, count: usize, byte: u8) {
-        let used = PLAN.place_of(count);
         let mut b = [CUT_OFF; WITH_REST];
-        put_bytes(&mut b, 0, part(&whole.bytes, 0, used));
-        put_byte(&mut b, used.saturating_add(VERSION_PLACE), byte);
+        let Some(hours) = whole.hours(count) else {
+            return self.count(0, byte, false);
+        };
+        put_bytes(&mut b, 0, hours);
+        put_byte(&mut b, hours.len().saturating_add(VERSION_PLACE), byte);
         for rest in 0..=MOST {
-            let bytes = part(&b, 0, used.saturating_add(rest));
-            self.count(
-                rest,
-                byte,
-                is_answered(bytes, expected_of_rest(count, rest, byte)),
-            );
+            let expected = expected_of_rest(count, rest, byte);
+            let bytes = b.get(..hours.len().saturating_add(rest));
+            let right = bytes.is_some_and(|bytes| is_answered(bytes, expected));
+            self.count(rest, byte, right);
         }
     }
 }

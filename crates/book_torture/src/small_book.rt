@@ -5,7 +5,6 @@ use crate::layout::{ENTRY, HEAD, LIMITS, LONG_ENTRY};
 use crate::plan::Plan;
 use crate::replies::{made_up, same_book_states, taken_up};
 use crate::tally::Mark;
-use big_endian::part;
 use book::{BookState, Reply};
 use std::fmt;
 use zone::Limits;
@@ -18,8 +17,8 @@ pub const TWO: usize = 14;
 pub const THREE: usize = 27;
 
 pub const PLAN: Plan = Plan {
-    two: TWO,
-    three: THREE,
+    two: Some(TWO),
+    three: Some(THREE),
 };
 
 // Its bytes, and room for as many hours that all have version 3.
@@ -52,10 +51,14 @@ impl<'a> Book<'a> {
         })
     }
 
-    // The values of so many of its hours, taken up.
+    // The head and so many of its hours.
+    pub fn hours(&self, count: usize) -> Option<&[u8]> {
+        self.bytes.get(..self.plan.place_of(count))
+    }
+
+    // Their values, taken up.
     pub fn taken(&self, count: usize) -> BookState {
-        let bytes = part(&self.bytes, 0, self.plan.place_of(count));
-        book::take_up(made_up(), bytes).values
+        self.hours(count).and_then(taken_up).unwrap_or(made_up())
     }
 
     // A copy to which an hour is appended behind the given ones, and what that answered. The version may be one that no hour has.
@@ -68,7 +71,7 @@ impl<'a> Book<'a> {
     // Taken up it is the book that the last append handed back.
     fn is_whole(&self) -> bool {
         let counted = self.end.count == HOURS && self.end.used == self.plan.place_of(HOURS);
-        let taken = taken_up(part(&self.bytes, 0, self.end.used));
+        let taken = self.bytes.get(..self.end.used).and_then(taken_up);
         counted && taken.is_some_and(|values| same_book_states(&values, &self.end))
     }
 }

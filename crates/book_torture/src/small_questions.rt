@@ -3,7 +3,6 @@ use crate::layout::HEAD;
 use crate::questions::{Question, temperatures};
 use crate::small_book::{Book, HOURS, PLAN, USED};
 use crate::tally::{Mark, Tally};
-use big_endian::part;
 use std::io;
 
 // Start-up's temperature and the hours'.
@@ -12,7 +11,9 @@ const TEMPERATURES: usize = HOURS + 1;
 // The place of the cut says which two of the book's temperatures are asked for, and whether the value is one of them or lies
 // between them; hours behind the cut are among them.
 fn cut_is_right(whole: &Book, temperatures: &[f64; TEMPERATURES], cut: usize) -> bool {
-    let bytes = part(&whole.bytes, 0, cut);
+    let Some(bytes) = whole.bytes.get(..cut) else {
+        return false;
+    };
     let a = temperatures[cut % TEMPERATURES];
     let b = temperatures[cut / TEMPERATURES % TEMPERATURES];
     let question = Question::by(a, b, cut % 2 == 0);

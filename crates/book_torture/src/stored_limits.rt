@@ -1,9 +1,10 @@
 // Other limits in the entries of the small book's version 3: out of their range, and within it.
+use crate::changed::with_bytes;
 use crate::expected::{Expected, expected_at, is_answered};
 use crate::layout::{COOLING_LIMIT_PLACE, LIMITS_PLACE};
 use crate::small_book::{Book, HOURS, PLAN, THREE, USED};
 use crate::tally::{Tally, count_one};
-use big_endian::{part, read_u64_be, write_u64_be};
+use big_endian::read_u64_be;
 use book::BookError;
 use zone::Refusal;
 
@@ -38,29 +39,32 @@ pub struct OtherLimits {
 }
 
 impl OtherLimits {
-    // The limit that stands at this place changed to each of the values, and back; one that it has already is no change.
+    // The limit that stands at this place changed to each of the values; one that it has already is no change.
     fn count_at(&mut self, book: &mut Book, entry: usize, place: usize) {
         let house = book.house;
-        let b = &mut book.bytes;
+        let b = &mut book.bytes[..USED];
         let own = read_u64_be(b, place);
         for bits in OUTSIDE.into_iter().filter(|bits| *bits != own) {
-            write_u64_be(b, place, bits);
-            let answered = is_answered(
-                part(b, 0, USED),
-                Err(BookError::Zone(Refusal::FalseEntry(entry))),
+            let refused = Err(BookError::Zone(Refusal::FalseEntry(entry)));
+            let right = with_bytes(
+                b,
+                place,
+                bits.to_be_bytes(),
+                |bytes| is_answered(bytes, refused),
             );
-            self.outside.count(answered);
+            self.outside.count(right);
         }
         for bits in WITHIN.into_iter().filter(|bits| *bits != own) {
-            write_u64_be(b, place, bits);
-            let bytes = part(b, 0, USED);
-            self.count_within(bytes, expected_at(house, bytes, place));
+            let (expected, right) = with_bytes(b, place, bits.to_be_bytes(), |bytes| {
+                let expected = expected_at(house, bytes, place);
+                (expected, is_answered(bytes, expected))
+            });
+            self.count_within(expected, right);
         }
-        write_u64_be(b, place, own);
     }
 
-    fn count_within(&mut self, bytes: &[u8], expected: Expected) {
-        self.within.count(is_answered(bytes, expected));
+    fn count_within(&mut self, expected: Expected, right: bool) {
+        self.within.count(right);
         match expected {
             Ok(_) => count_one(&mut self.held),
             Err(_) => count_one(&mut self.false_entry),

@@ -1,4 +1,6 @@
 // The versions that hours have, and what hangs on them: how long an entry is, and where its results begin.
+ghost use Rattle.std.specs.Prelude.{◌<◌};
+
 use crate::layout::{ENTRY, LIMITS, LIMITS_PLACE, LONG_ENTRY};
 use std::fmt;
 
@@ -21,7 +23,9 @@ pub const VERSION_BYTES: [u8; 6] = [1, 2, 3, 0, 4, 255];
 
 impl Version {
     // All bytes of an entry.
-    pub fn entry_length(self) -> usize {
+    pub fn entry_length(self) -> usize
+        ensures { 0 < result }
+    {
         match self {
             Version::One | Version::Two => ENTRY,
             Version::Three => LONG_ENTRY,

@@ -1,5 +1,6 @@
 // Small books that pass to a newer version at each of their hours in turn, with one version byte changed, and what take-up answers
 // of them.
+use crate::changed::with_bytes;
 use crate::expected::{Expected, expected_with_version, is_answered};
 use crate::house::House;
 use crate::layout::VERSION_PLACE;
@@ -7,7 +8,7 @@ use crate::plan::Plan;
 use crate::small_book::{Book, HOURS};
 use crate::tally::{Tally, count_one};
 use crate::version::{VERSION_BYTES, Version};
-use big_endian::{byte_at, part, put_byte};
+use big_endian::byte_at;
 use book::BookError;
 use zone::Refusal;
 
@@ -36,19 +37,19 @@ impl Changes {
         }
     }
 
-    // The version byte of an entry changed to each version that hours have and to some that none has, and back; a byte that has the
-    // version already is no change.
+    // The version byte of an entry changed to each version that hours have and to some that none has; a byte that has the version
+    // already is no change.
     fn count_entry(&mut self, book: &mut Book, entry: usize) {
         let Book { plan, .. } = *book;
-        let b = &mut book.bytes;
+        let Some(b) = book.bytes.get_mut(..plan.place_of(HOURS)) else {
+            return self.answers.count(false);
+        };
         let place = plan.place_of(entry).saturating_add(VERSION_PLACE);
         let own = byte_at(b, place);
         for byte in VERSION_BYTES.into_iter().filter(|byte| *byte != own) {
             let expected = expected_with_version(b, plan, entry, byte);
-            put_byte(b, place, byte);
-            self.answers
-                .count(is_answered(part(b, 0, plan.place_of(HOURS)), expected));
-            put_byte(b, place, own);
+            let right = with_bytes(b, place, [byte], |bytes| is_answered(bytes, expected));
+            self.answers.count(right);
             self.count(expected, entry, byte);
         }
     }
@@ -71,7 +72,11 @@ pub fn check_versions(house: &House) -> Changes {
     let mut changes = Changes::default();
     for change in 0..=HOURS {
         for (two, three) in [(change, HOURS), (change, change), (change / 2, change)] {
-            changes.count_book(house, Plan { two, three });
+            let plan = Plan {
+                two: Some(two),
+                three: Some(three),
+            };
+            changes.count_book(house, plan);
         }
     }
     changes

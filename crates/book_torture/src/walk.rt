@@ -1,14 +1,15 @@
 // What stands in the bytes of a book, read entry by entry: where each ends by its version byte, and whether the head's reading,
 // start-up and hour step give what it holds.
+ghost use Rattle.std.specs.Prelude.{◌<◌, length, IfOk, IfSome};
+
 use crate::entry::Entry;
 use crate::house::House;
 use crate::layout::{
     NODES, RESULT_TEMPERATURES, RESULTS, TEMPERATURES, TRIGGER, TRIGGER_RATE, VERSION_PLACE,
 };
 use crate::plan::Entries;
-use crate::small_book::HOURS;
 use crate::version::Version;
-use big_endian::{put_byte, read_f64_be, write_f64_be, write_f64s_be};
+use big_endian::{put_byte, read_f64s_be, write_f64_be, write_f64s_be};
 use book::BookError;
 use zone::{Demand, Refusal, State};
 
@@ -38,13 +39,9 @@ pub fn last_state(b: &[u8], entries: Entries) -> Option<State> {
         return None;
     }
     let bytes = b.get(..entries.used)?.last_chunk::<TEMPERATURES>()?;
-    let mut temps = [0.0; 121];
-    for (temp, eight) in temps.iter_mut().zip(bytes.chunks_exact(8)) {
-        *temp = read_f64_be(eight, 0);
-    }
     Some(State {
         nodes: NODES,
-        temps,
+        temps: read_f64s_be(bytes, 0),
     })
 }
 
@@ -58,11 +55,13 @@ fn results_stand(house: &House, before: &State, entry: Entry) -> bool {
     let Some((demand, after)) = house.hour_step(before, entry) else {
         return false;
     };
-    results_of(demand, &after).as_slice() == entry.results()
+    results_of(demand, &after).as_slice() == entry.results
 }
 
 // So many entries are true, and the next one too; none where the bytes end before it does.
-fn past_next(house: &House, b: &[u8], walked: Entries) -> Result<Option<Entries>, BookError> {
+fn past_next(house: &House, b: &[u8], walked: Entries) -> Result<Option<Entries>, BookError>
+    ensures { IfOk result (λ next. IfSome next (λ further. (walked.used < length b.now) × (walked.used < further.used))) }
+{
     let false_entry = Err(BookError::Zone(Refusal::FalseEntry(walked.count)));
     let rest = b.get(walked.used..).unwrap_or(&[]);
     let Some(byte) = rest.get(VERSION_PLACE) else {
@@ -84,15 +83,11 @@ fn past_next(house: &House, b: &[u8], walked: Entries) -> Result<Option<Entries>
     Ok(Some(walked.followed_by(version)))
 }
 
-// From so many true entries on; a small book has no more than its hours, so that this many steps are enough. A `while let` would have to be
-// proved to end.
+// From so many true entries on.
 pub fn walk_on(house: &House, b: &[u8], from: Entries) -> Result<Entries, BookError> {
     let mut walked = from;
-    for _ in 0..=HOURS {
-        match past_next(house, b, walked)? {
-            Some(further) => walked = further,
-            None => break,
-        }
+    while let Some(further) = past_next(house, b, walked)? {
+        walked = further;
     }
     Ok(walked)
 }

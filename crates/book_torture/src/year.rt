@@ -1,4 +1,5 @@
 // The book of a whole year: checked as it is, cut, damaged, and with bytes behind it.
+use crate::changed::with_bytes;
 use crate::fill::{append_hours, begin_and_append};
 use crate::house::House;
 use crate::layout::{ENTRY, HEAD, LIMITS, LONG_ENTRY, VERSION_PLACE, YEAR};
@@ -7,7 +8,7 @@ use crate::replies::{
     accepted, has_entries, is_refused, is_take_up_refused, made_up, same_book_states, taken_up,
 };
 use crate::small_book::CUT_OFF;
-use big_endian::{byte_at, part, put_byte};
+use big_endian::byte_at;
 use book::{BookError, BookState, Reply};
 use std::alloc::{AllocError, Global};
 use zone::Refusal;
@@ -18,8 +19,8 @@ pub const TWO: usize = 2928;
 pub const THREE: usize = 5856;
 
 pub const PLAN: Plan = Plan {
-    two: TWO,
-    three: THREE,
+    two: Some(TWO),
+    three: Some(THREE),
 };
 
 // Head and 8,784 entries, and with as many bytes behind them as no entry has.
@@ -74,51 +75,52 @@ impl<'a> Year<'a> {
         is_refused(reply, &self.end, BookError::BookFull) && self.is_unchanged()
     }
 
-    // Taken up with so many bytes behind it, which have this version byte.
-    fn take_up_with(&mut self, rest: usize, byte: u8) -> Reply {
-        let place = USED + VERSION_PLACE;
-        put_byte(&mut self.bytes, place, byte);
-        let reply = book::take_up(made_up(), part(&self.bytes, 0, USED.saturating_add(rest)));
-        put_byte(&mut self.bytes, place, 0);
-        reply
+    // Taken up with so many bytes behind it, which have this version byte where there are enough of them; none where there is no
+    // room for as many.
+    fn take_up_with(&mut self, rest: usize, byte: u8) -> Option<Reply> {
+        let bytes = self
+            .bytes
+            .as_mut_slice()
+            .get_mut(..USED.saturating_add(rest))?;
+        let take_up = |bytes: &[u8]| book::take_up(made_up(), bytes);
+        Some(with_bytes(bytes, USED + VERSION_PLACE, [byte], take_up))
     }
 
     // It is the year.
     pub fn drops(&mut self, rest: usize, byte: u8) -> bool {
-        let taken = accepted(self.take_up_with(rest, byte));
+        let taken = self.take_up_with(rest, byte).and_then(accepted);
         taken.is_some_and(|values| same_book_states(&values, &self.end))
     }
 
     // It is one entry too long.
     pub fn is_too_long(&mut self, rest: usize, byte: u8) -> bool {
-        is_refused(
-            self.take_up_with(rest, byte),
-            &made_up(),
-            BookError::BookFull,
-        )
+        let reply = self.take_up_with(rest, byte);
+        reply.is_some_and(|reply| is_refused(reply, &made_up(), BookError::BookFull))
     }
 
     // Cut, taken up, and filled again to the end it is the year that was never cut.
     pub fn is_continued(&mut self, cut: usize) -> bool {
         let entries = PLAN.entries(PLAN.whole_before(cut));
         fill_from(&mut self.bytes, cut, CUT_OFF);
-        let end = taken_up(part(&self.bytes, 0, cut))
+        let end = self
+            .bytes
+            .get(..cut)
+            .and_then(taken_up)
             .filter(|taken| has_entries(taken, entries))
             .and_then(|taken| append_hours(self.house, taken, YEAR, PLAN, &mut self.bytes));
         fill_from(&mut self.bytes, USED, 0);
         end.is_some_and(|end| same_book_states(&end, &self.end)) && self.is_unchanged()
     }
 
-    // Bits of a byte of an entry changed, and back: the entry is false.
+    // Bits of a byte of an entry changed: the entry is false.
     pub fn is_false_with(&mut self, entry: usize, within: usize, change: u8) -> bool {
         let place = PLAN.place_of(entry).saturating_add(within);
-        let byte = byte_at(&self.bytes, place);
-        put_byte(&mut self.bytes, place, byte ^ change);
-        let refused = is_take_up_refused(
-            part(&self.bytes, 0, USED),
-            BookError::Zone(Refusal::FalseEntry(entry)),
-        );
-        put_byte(&mut self.bytes, place, byte);
-        refused
+        let false_entry = BookError::Zone(Refusal::FalseEntry(entry));
+        let is_false = |bytes: &[u8]| is_take_up_refused(bytes, false_entry);
+        let Some(b) = self.bytes.as_mut_slice().get_mut(..USED) else {
+            return false;
+        };
+        let changed = byte_at(b, place) ^ change;
+        with_bytes(b, place, [changed], is_false)
     }
 }

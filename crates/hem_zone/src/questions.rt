@@ -10,8 +10,7 @@ use tools::{QuestionError, first_above, hours_within, nearest_hour};
 // HEM_NONE of the C header, for C has no Option: no hour has this number.
 const NONE: u64 = u64::MAX;
 
-// The hour, or that there is none, into `hour`. The count of hours_within is written apart: a function for both would be given how each is written, and save
-// two lines.
+// The hour, or the number of hours, or that there is none, into `hour`.
 #[tactic(auto, unfolding(crate::specs::Code::answered, crate::specs::Code::answer_code, crate::specs::Code::lent_after))]
 fn hour_out(answer: Result<Option<usize>, QuestionError>, hour: &mut u64) -> u32
     ensures { (result, hour.new) ≡ answered hour_or_none hour.old (Question.answered answer) }
@@ -40,13 +39,7 @@ pub extern "C" fn hem_first_above(bytes: &[u8], value: f64, hour: &mut u64) -> u
 pub extern "C" fn hem_hours_within(bytes: &[u8], lower: f64, upper: f64, hours: &mut u64) -> u32
     ensures { (result, hours.new) ≡ hem_hours_within_outcome bytes.now lower upper hours.old }
 {
-    match hours_within(bytes, lower, upper) {
-        Err(e) => error_code(e),
-        Ok(count) => {
-            *hours = count as u64;
-            0
-        }
-    }
+    hour_out(hours_within(bytes, lower, upper).map(Some), hours)
 }
 
 // The hour whose operative temperature is nearest to the value, the earlier on a tie.

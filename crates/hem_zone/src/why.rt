@@ -1,35 +1,11 @@
 // Why an hour on the zone of a head has its rate and its load.
 ghost use Rattle.std.specs.Prelude.{◌≡◌};
 ghost use Rattle.hem_zone.specs.Inner.Answers.{code_of};
-ghost use Rattle.hem_zone.specs.Why.{reason_out, load_out, hem_why_outcome};
+ghost use Rattle.hem_zone.specs.Why.{hem_why_outcome};
 
 use crate::arrays::state_in;
 use crate::code::code_of;
-use zone::{Load, Reason, Refusal, Zone, read_head};
-
-// The places of the paper's list, which are the C interface's numbers.
-fn reason_out(reason: Reason) -> u64
-    ensures { result ≡ reason_out reason }
-{
-    match reason {
-        Reason::NoChoice => 1,
-        Reason::NotAboveVentilationSetpoint => 2,
-        Reason::NotAboveSupply => 3,
-        Reason::WindowsDoNotCool => 4,
-        Reason::StillAboveCoolingSetpoint => 5,
-        Reason::WindowsEnough => 6,
-    }
-}
-
-fn load_out(load: Load) -> u64
-    ensures { result ≡ load_out load }
-{
-    match load {
-        Load::Neither => 0,
-        Load::Heating => 1,
-        Load::Cooling => 2,
-    }
-}
+use zone::{Refusal, Zone, read_head};
 
 #[tactic(auto, using(crate::proofs::Outcomes::why_by_structure), unfolding(crate::specs::Code::answered, crate::specs::Code::answer_code, crate::specs::Code::lent_after))]
 fn why(
@@ -45,8 +21,8 @@ fn why(
     let mut zone = Zone::none();
     read_head(head, &mut zone)?;
     let (named, beside) = state_in(temps, nodes).why(&zone, conditions)?;
-    *reason = reason_out(named);
-    *load = load_out(beside);
+    *reason = named as u64;
+    *load = beside as u64;
     Ok(())
 }
 

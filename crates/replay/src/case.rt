@@ -37,7 +37,7 @@ impl fmt::Display for Profile {
     }
 }
 
-// The hour step counts three times, once for each version: as the file numbers them, and the summary has a column for each.
+// The hour step counts three times, once for each version: as the file numbers them, and the summary has a line for each.
 #[derive(Clone, Copy, Debug, PartialEq, Eq)]
 pub enum Operation {
     Demand,
@@ -90,7 +90,8 @@ pub struct Case<'a> {
     pub operation: Operation,
     pub head: &'a [u8],
     pub hour: Hour<'a>,
-    // The values, or the number of the refusal: the file holds no more of one.
+    // The values, or the number of the refusal: the file holds no more of one, and any number may stand there. It is compared with
+    // the engine's error's `number()`.
     pub answer: Result<&'a [u8], u32>,
 }
 

@@ -111,9 +111,9 @@ impl<'a> Comparison<'a> {
         self.value(f64_to_bits_with_nan(rate.unwrap_or(0.0)));
     }
 
-    // Reasons are stored as 1 to 6, loads as 0 to 2.
+    // Reasons are stored as 1 to 6, loads as 0 to 2: their numbers.
     pub fn reason(&mut self, reason: Reason, load: Load) {
-        self.value(reason as u64 + 1);
+        self.value(reason as u64);
         self.value(load as u64);
     }
 

@@ -10,6 +10,7 @@ const REASON: usize = 40;
 
 const LOAD: usize = 48;
 
+// In book_torture too: to share one line, a crate with a line in crates.txt, a lib.rt and two imports, since `big_endian` counts nothing.
 fn count(n: &mut u64) {
     *n = n.saturating_add(1);
 }
@@ -40,25 +41,15 @@ impl fmt::Display for Counts {
 }
 
 // How many were run, how many of them differed, and which one first, counted from 1, by what.
-#[derive(Drop)]
-pub struct Differences<T> {
+#[derive(Default, Drop)]
+pub struct Differences {
     all: u64,
     differ: u64,
-    first: Option<(u64, T)>,
+    first: Option<(u64, Difference)>,
 }
 
-impl<T> Default for Differences<T> {
-    fn default() -> Self {
-        Differences {
-            all: 0,
-            differ: 0,
-            first: None,
-        }
-    }
-}
-
-impl<T: Copy> Differences<T> {
-    fn count(&mut self, difference: Option<T>) {
+impl Differences {
+    fn count(&mut self, difference: Option<Difference>) {
         count(&mut self.all);
         if let Some(difference) = difference {
             count(&mut self.differ);
@@ -67,7 +58,7 @@ impl<T: Copy> Differences<T> {
     }
 }
 
-impl<T: fmt::Display> fmt::Display for Differences<T> {
+impl fmt::Display for Differences {
     fn fmt<W: fmt::Write>(&self, f: &mut fmt::Formatter<W>) -> fmt::Result {
         write!(f, "{:>6}", self.all)?;
         match &self.first {
@@ -112,7 +103,7 @@ impl fmt::Display for Numbers {
 
 #[derive(Default, Drop)]
 pub struct CaseTally {
-    pub differences: Differences<Difference>,
+    pub differences: Differences,
     pub numbers: Numbers,
     // By profile and by operation.
     pub counts: [[Counts; 6]; 4],
@@ -150,17 +141,16 @@ impl CaseTally {
 
 #[derive(Default, Drop)]
 pub struct RowTally {
-    // By the number that came.
-    pub differences: Differences<u32>,
+    pub differences: Differences,
     pub numbers: Numbers,
     pub calls: [u64; 12],
 }
 
 impl RowTally {
-    pub fn count(&mut self, row: &Row<'_>, came: Option<u32>) {
+    pub fn count(&mut self, row: &Row<'_>, difference: Option<Difference>) {
         count(&mut self.calls[row.call as usize]);
         self.numbers
             .count(row.answer.err().map_or(0, |refusal| refusal.number));
-        self.differences.count(came);
+        self.differences.count(difference);
     }
 }

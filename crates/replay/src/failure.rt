@@ -2,22 +2,17 @@
 use book::BookError;
 use tools::QuestionError;
 
-// A refusal of the zone, the book or a question. By number, since the rows record numbers; worked_houses has its own, whose rows print otherwise.
-#[derive(Clone, Copy, Debug, PartialEq, Eq)]
-pub struct Refusal {
-    pub number: u32,
-    pub index: usize,
-}
-
 #[derive(Clone, Copy, Debug, PartialEq, Eq)]
 pub enum Failure {
-    Refused(Refusal),
+    // By the zone, the book or a question.
+    Refused(QuestionError),
     // What a call must leave as it was has changed.
     Changed,
     // Of a demand and its reason only one is refused, or each with another number or index.
     RefusedOtherwise,
 }
 
+// Three, as of worked_houses' `Refusal`: `?` converts in one step, so a type of the program around a shared one would need them again.
 impl From<zone::Refusal> for Failure {
     fn from(refusal: zone::Refusal) -> Self {
         Failure::from(BookError::from(refusal))
@@ -32,10 +27,7 @@ impl From<BookError> for Failure {
 
 impl From<QuestionError> for Failure {
     fn from(refusal: QuestionError) -> Self {
-        Failure::Refused(Refusal {
-            number: refusal.number(),
-            index: refusal.index(),
-        })
+        Failure::Refused(refusal)
     }
 }
 
@@ -43,7 +35,7 @@ impl Failure {
     // The number by which the summary names it: beside the refusals' own numbers two that none of them has.
     pub fn number(self) -> u32 {
         match self {
-            Failure::Refused(refusal) => refusal.number,
+            Failure::Refused(refusal) => refusal.number(),
             Failure::RefusedOtherwise => 98,
             Failure::Changed => 99,
         }

@@ -1,7 +1,7 @@
 // The state before an hour, its conditions and the call's own floats, as a case and a row store them.
 use crate::bad_record::BadRecord;
 use crate::record::Record;
-use big_endian::read_f64_be;
+use big_endian::read_f64s_be;
 use zone::{Limits, State};
 
 #[derive(Drop)]
@@ -29,13 +29,9 @@ impl<'a> Hour<'a> {
 
     // Not read by the engine, which is what is tested.
     pub fn state(&self) -> State {
-        let mut temps = [0.0; 121];
-        for (temp, bytes) in temps.iter_mut().zip(self.temps.chunks_exact(8)) {
-            *temp = read_f64_be(bytes, 0);
-        }
         State {
             nodes: self.nodes,
-            temps,
+            temps: read_f64s_be(self.temps, 0),
         }
     }
 

@@ -1,6 +1,6 @@
 // The rows made from the papers' order of tests: each call's number and index, and what an accepted one gives.
 use crate::bad_record::BadRecord;
-use crate::comparison::Comparison;
+use crate::comparison::{Comparison, Difference};
 use crate::counts::RowTally;
 use crate::failure::Failure;
 use crate::records::Records;
@@ -44,19 +44,14 @@ fn run(row: &Row<'_>, seen: &mut Comparison<'_>) -> Result<(), Failure> {
     }
 }
 
-// The number that came, 0 of an accepted call, where the answer is not the expected one.
-fn other_number(row: &Row<'_>) -> Option<u32> {
+// That of cases.rt, but that a row's refusal has an index too: one for both would be passed how a failure and an answer are compared.
+fn difference(row: &Row<'_>) -> Option<Difference> {
     let mut seen = Comparison::new(row.answer.unwrap_or(&[]));
-    let came = run(row, &mut seen);
-    let same = match (came, row.answer) {
-        (Ok(()), Ok(_)) => seen.difference().is_none(),
-        (Err(failure), Err(refusal)) => failure == Failure::Refused(refusal),
-        _ => false,
-    };
-    if same {
-        None
-    } else {
-        Some(came.err().map_or(0, Failure::number))
+    match (run(row, &mut seen), row.answer) {
+        (Ok(()), Ok(_)) => seen.difference(),
+        (Ok(()), Err(_)) => Some(Difference::Accepted),
+        (Err(Failure::Refused(error)), Err(refusal)) if refusal.is_of(error) => None,
+        (Err(failure), _) => Some(Difference::Number(failure.number())),
     }
 }
 
@@ -65,7 +60,7 @@ pub fn check_rows(bytes: &[u8]) -> Result<RowTally, BadRecord> {
     let mut tally = RowTally::default();
     for record in Records::new(bytes) {
         let row = Row::read(record)?;
-        tally.count(&row, other_number(&row));
+        tally.count(&row, difference(&row));
     }
     Ok(tally)
 }

@@ -1,11 +1,11 @@
 // A row of the refusals: a call, and the answer that the papers' order of tests gives it. make_data.py has the layout in words.
 use crate::bad_record::BadRecord;
-use crate::failure::Refusal;
 use crate::hour::Hour;
 use crate::record::Record;
 use crate::zone_calls;
 use book::BookState;
 use std::fmt;
+use tools::QuestionError;
 use zone::Zone;
 
 #[derive(Clone, Copy, Debug, PartialEq, Eq)]
@@ -70,36 +70,43 @@ impl fmt::Display for Call {
     }
 }
 
+// A refusal as the file holds it: by number and index, which may be those of no error of the engine.
+#[derive(Clone, Copy, Debug, PartialEq, Eq)]
+pub struct Refusal {
+    pub number: u32,
+    index: usize,
+}
+
+impl Refusal {
+    pub fn is_of(self, error: QuestionError) -> bool {
+        self.number == error.number() && self.index == error.index()
+    }
+}
+
 // The change that a row makes of a zone once its head is read.
 #[derive(Clone, Copy, Debug, PartialEq, Eq)]
 pub enum Change {
-    None,
     Count(u16),
     FirstTreatments(u16),
     NoUsefulArea,
     NoSecondArea,
 }
 
-// A column of the file and the one behind it: the numbers are the file's, and two changes take the value.
-impl TryFrom<(u8, u16)> for Change {
-    type Error = BadRecord;
-
-    fn try_from((number, value): (u8, u16)) -> Result<Self, BadRecord> {
+impl Change {
+    // A column of the file and the one behind it: the numbers are the file's, 0 for no change, and two changes take the value.
+    fn read(number: u8, value: u16) -> Result<Option<Self>, BadRecord> {
         match number {
-            0 => Ok(Change::None),
-            1 => Ok(Change::Count(value)),
-            2 => Ok(Change::FirstTreatments(value)),
-            3 => Ok(Change::NoUsefulArea),
-            4 => Ok(Change::NoSecondArea),
+            0 => Ok(None),
+            1 => Ok(Some(Change::Count(value))),
+            2 => Ok(Some(Change::FirstTreatments(value))),
+            3 => Ok(Some(Change::NoUsefulArea)),
+            4 => Ok(Some(Change::NoSecondArea)),
             _ => Err(BadRecord::Change(number)),
         }
     }
-}
 
-impl Change {
     fn make(self, zone: &mut Zone) {
         match self {
-            Change::None => {}
             Change::Count(count) => zone.count = usize::from(count),
             Change::FirstTreatments(treatments) => zone.building_elements[0].treatments =
                 usize::from(treatments),
@@ -114,7 +121,7 @@ pub struct Row<'a> {
     pub call: Call,
     // Of a take-up and of a question the whole book.
     pub head: &'a [u8],
-    change: Change,
+    change: Option<Change>,
     pub hour: Hour<'a>,
     count: usize,
     used: usize,
@@ -134,7 +141,7 @@ impl<'a> Row<'a> {
         let index = usize::from(record.take_u16()?);
         let head_length = record.take_u32()? as usize;
         let head = record.take(head_length)?;
-        let change = Change::try_from((record.take_u8()?, record.take_u16()?))?;
+        let change = Change::read(record.take_u8()?, record.take_u16()?)?;
         let nodes = usize::from(record.take_u16()?);
         let hour = Hour {
             nodes,
@@ -178,7 +185,9 @@ impl<'a> Row<'a> {
 
     pub fn zone(&self) -> Result<Zone, zone::Refusal> {
         let mut zone = zone_calls::read(self.head)?;
-        self.change.make(&mut zone);
+        if let Some(change) = self.change {
+            change.make(&mut zone);
+        }
         Ok(zone)
     }
 }

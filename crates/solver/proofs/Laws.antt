@@ -14,7 +14,7 @@ pub mod Reduction
 pub mod Loaded
 pub mod Together
 pub mod Loads
-pub mod Fill
+pub mod FromFn
 pub mod Signs
 pub mod Signed
 pub mod Order

@@ -1,5 +1,7 @@
 // The chains of nodes. A slot is the place of a node: element e has slots 5e to 5e + 4 from its outer to its inner surface, a two-node
 // element only the last two of them, so that the inner surface is always 5e + 4; the air is slot 120.
+// Element e is a number below 24 by the contracts of six private functions: what goes over `0..self.count().n` and calls five of them knows the bound, these
+// call the sixth, and each counts with e, as in `5 * e + 4`; a type that has the bound would be made at each element and taken apart in each of the six.
 ghost use Rattle.std.specs.Prelude.{◌≡◌, ◌+◌, ◌*◌, ◌<◌, ◌≤◌};
 ghost use Rattle.solver.specs.FastSolver.{at_most24};
 ghost use Rattle.solver.specs.Inner.Reduced.{reduce_chain, reduce_chains, inner_shares};

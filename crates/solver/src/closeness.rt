@@ -2,7 +2,7 @@
 ghost use Rattle.std.specs.Prelude.{◌≡◌};
 ghost use Rattle.solver.specs.Closeness.{abs, max, relative_eq, close_in_demand, isclose, close_in_windows_test, valid_divisor, within_state_bound};
 
-// |x|; of either zero it is +0.0. The body is the library's; the name stays, as it is exported.
+// |x|; of either zero it is +0.0. The body is the library's; the function stays by a rule of the project, that what is exported keeps its promise.
 #[tactic(auto, using(crate::proofs::Laws::Signs::without_sign))]
 pub fn abs(x: f64) -> f64
     ensures { result ≡ abs x }
@@ -10,7 +10,8 @@ pub fn abs(x: f64) -> f64
     x.abs()
 }
 
-// Not `f64::max`, which gives the other one where one is a NaN, and may give either of two zeros.
+// Not `f64::max`: of two that compare equal it may give either, so that with it `eq (abs a) (abs b) ≡ true → abs a ≡ abs b` is left to prove, which no law
+// of std that a crate can cite says of floats.
 fn max(x: f64, y: f64) -> f64
     ensures { result ≡ max x y }
 {
@@ -64,10 +65,9 @@ pub fn valid_divisor(x: f64) -> bool
     (x != 0.0) & x.is_finite()
 }
 
-// Not beyond a million either way, which neither an infinity nor a nan is. `(-1e6..=1e6).contains(&x)` misses the bar of speed: it takes two
-// instructions more for each of 120 nodes of each solve, which is one in a hundred of an hour step.
+// Not beyond a million either way, which neither an infinity nor a nan is.
 pub fn within_state_bound(x: f64) -> bool
     ensures { result ≡ within_state_bound x }
 {
-    (-1e6 <= x) & (x <= 1e6)
+    (-1e6..=1e6).contains(&x)
 }

@@ -1,8 +1,8 @@
 // The dense part's own: the adjusted diagonals go in, right sides are gathered from their slots, and its unknowns go back to them.
-ghost use Rattle.std.specs.Prelude.{◌≡◌};
+ghost use Rattle.std.specs.Prelude.{◌≡◌, Float};
 ghost use Rattle.solver.specs.Repeat.{repeat};
 ghost use Rattle.solver.specs.FastSolver.{set_inner_diagonals, scatter_inner, scatter_dense};
-ghost use Rattle.solver.specs.Inner.Reduced.{gather_reduced, gather_loaded};
+ghost use Rattle.solver.specs.Inner.Reduced.{gathered, gather_reduced, gather_loaded};
 
 use crate::chain::Count;
 use crate::rows::set_entry;
@@ -43,31 +43,34 @@ pub struct RightSide {
     pub inner: [f64; 24],
 }
 
-// Two methods, and not one with a load of nothing: x + 0.0 is not x where x is -0.0.
 impl RightSide {
-    // The dense part's right side.
-    #[tactic(auto, using(crate::proofs::Laws::Counting::repeat_turn, crate::proofs::Laws::Counting::repeat_end), unfolding(crate::specs::Inner::Reduced::gather_reduced))]
-    pub(crate) fn gather(&self, count: Count) -> [f64; 25]
-        ensures { result ≡ gather_reduced count.n self.now.b self.now.inner }
+    // The dense part's right side: at each inner surface what f makes of its right side, less what the last step subtracts; and the air's.
+    #[tactic(auto, using(crate::proofs::Laws::Counting::repeat_turn, crate::proofs::Laws::Counting::repeat_end))]
+    fn gathered<F: Fn(f64) -> f64>(&self, count: Count, air: f64, f: F) -> [f64; 25]
+        requires callable { (x : Float) → F.pre f x }
+        ensures { (term : Float → Float) → ((x y : Float) → F.post f x y → y ≡ term x) → result ≡ gathered count.n term self.now.b self.now.inner air }
     {
         let mut v = [0.0; 25];
         for e in 0..count.n {
-            v[e] = self.b[5 * e + 4] - self.inner[e];
-        }
-        v[count.n] = self.b[120];
-        v
-    }
-
-    // The same with a load: gains at each inner surface, and the air's right side.
-    #[tactic(auto, using(crate::proofs::Laws::Counting::repeat_turn, crate::proofs::Laws::Counting::repeat_end), unfolding(crate::specs::Inner::Reduced::gather_loaded))]
-    pub(crate) fn gather_loaded(&self, gains: f64, air: f64, count: Count) -> [f64; 25]
-        ensures { result ≡ gather_loaded count.n self.now.b self.now.inner gains air }
-    {
-        let mut v = [0.0; 25];
-        for e in 0..count.n {
-            v[e] = (self.b[5 * e + 4] + gains) - self.inner[e];
+            v[e] = f(self.b[5 * e + 4]) - self.inner[e];
         }
         v[count.n] = air;
         v
+    }
+
+    // Without a load.
+    #[tactic(auto, unfolding(crate::specs::Inner::Reduced::gather_reduced))]
+    pub(crate) fn gather(&self, count: Count) -> [f64; 25]
+        ensures { result ≡ gather_reduced count.n self.now.b self.now.inner }
+    {
+        self.gathered(count, self.b[120], |b| b)
+    }
+
+    // With a load: gains at each inner surface, and the air's right side.
+    #[tactic(auto, unfolding(crate::specs::Inner::Reduced::gather_loaded))]
+    pub(crate) fn gather_loaded(&self, gains: f64, air: f64, count: Count) -> [f64; 25]
+        ensures { result ≡ gather_loaded count.n self.now.b self.now.inner gains air }
+    {
+        self.gathered(count, air, |b| b + gains)
     }
 }

@@ -1,4 +1,5 @@
-// The dense solve of w unknowns: elimination with partial pivoting, and substitution.
+// The dense solve of w unknowns: elimination with partial pivoting, and substitution. Rows, columns and ends are numbers with their bounds in the contracts,
+// for the reason that rows.rt gives.
 ghost use Rattle.std.specs.Prelude.{◌≡◌, ◌+◌, ◌-◌, ◌*◌, ◌<◌, ◌≤◌, drop};
 ghost use Rattle.solver.specs.Repeat.{repeat};
 ghost use Rattle.solver.specs.Rows.{pivot_row};
@@ -30,8 +31,8 @@ fn interchange_rows(m: &mut [f64; 625], k: usize, q: usize, pivots: &[f64; 25])
     set_row(m, k, pivots);
 }
 
-// The share of the last unknown, which is x, is subtracted from the right sides of the n rows above. `zip` is no plainer: it needs a `take(n)`
-// on mutable entries, and the rows have the numbers of the equations.
+// The share of the last unknown, which is x, is subtracted from the right sides of the n rows above. By index: after a loop over
+// `b[..n].iter_mut().zip(last)` the proof knows nothing of b's first n places (its goal has any list there), and `enumerate` leaves `last` its index.
 #[tactic(auto, using(crate::proofs::Laws::Counting::repeat_turn, crate::proofs::Laws::Counting::repeat_end))]
 fn subtract_last_multiples(last: &[f64; 25], b: &mut [f64; 25], x: f64, count: Count)
     ensures { b.new ≡ repeat 0 count.n (subtract_last_multiple last.now x) b.old }
@@ -50,6 +51,8 @@ fn back_last(last: &[f64; 25], b: &mut [f64; 25], count: Count)
     subtract_last_multiples(last, b, x, count);
 }
 
+// The count is that of the chains (`Chains::count`), handed to each method: in `Lu` there would be a second one, and as the fields of `Lu`, `Chains` and
+// `Factors` are public, `Factors` would need an invariant that the two are equal.
 impl Lu {
     // The pivot row of column k: the rows from row k on, one part of the flat matrix, are handed to the pivot search.
     fn pivot_row(&self, w: usize, k: usize) -> usize

@@ -1,10 +1,13 @@
-// A matrix of at most 25 rows in one flat array, row i from place 25 i on.
+// A matrix of at most 25 rows in one flat array, row i from place 25 i on. Rows and columns are numbers whose bounds stand in the contracts: they come from
+// loops over `0..n`, `(0..n).rev()` or `k + 1..w`, from `Count` or from `pivot_row`, which know them, and are counted with, as in `25 * i + j`; a type that
+// has the bound would be made in each turn of those loops and taken apart in each function here.
 ghost use Rattle.std.specs.Prelude.{◌≡◌, ◌+◌, ◌*◌, ◌<◌, ◌≤◌, length};
 ghost use Rattle.solver.specs.Repeat.{repeat};
 ghost use Rattle.solver.specs.Rows.{entry, set_entry, row, set_row, pivot_row, eliminate_row};
 ghost use Rattle.solver.specs.Inner.Columns.{column_of};
 
 use crate::closeness::abs;
+use std::array::from_fn;
 
 pub fn entry(m: &[f64; 625], i: usize, j: usize) -> f64
     requires { (i < 25) × (j < 25) }
@@ -38,32 +41,24 @@ pub fn pivot_row(part: &[f64], k: usize, n: usize) -> usize
     found
 }
 
-// Row i, copied entry by entry: `copy_from_slice` misses the bar of speed, with 2500 instructions more in a factorisation of 25 rows.
+// Row i, copied.
 pub fn row(m: &[f64; 625], i: usize) -> [f64; 25]
     requires { i < 25 }
     ensures { result ≡ row i m.now }
 {
-    let mut r = [0.0; 25];
-    for j in 0..25 {
-        r[j] = entry(m, i, j);
-    }
-    r
+    from_fn(|j| entry(m, i, j))
 }
 
 // Column j, copied.
-#[tactic(auto, using(crate::proofs::Laws::Counting::repeat_turn, crate::proofs::Laws::Counting::repeat_end), unfolding(crate::specs::Inner::Columns::column_of))]
 pub fn column(m: &[f64; 625], j: usize) -> [f64; 25]
     requires { j < 25 }
     ensures { result ≡ column_of j m.now }
 {
-    let mut c = [0.0; 25];
-    for i in 0..25 {
-        c[i] = entry(m, i, j);
-    }
-    c
+    from_fn(|i| entry(m, i, j))
 }
 
-// Entry by entry, as `row` is: `copy_from_slice` misses the bar of speed here too, with 1400 instructions more where every column changes two rows.
+// Entry by entry: `copy_from_slice` takes 1,400 instructions more where every column changes two rows, 1.2 % of an hour step with
+// windows: above the bar of docs/PERFORMANCE.md.
 pub fn set_row(m: &mut [f64; 625], i: usize, r: &[f64; 25])
     requires { i < 25 }
     ensures { m.new ≡ set_row i r.now m.old }

@@ -8,7 +8,7 @@ ghost use Rattle.solver.specs.Answers.{answered, number_in};
 ghost use Rattle.solver.specs.Closeness.{valid_divisor};
 ghost use Rattle.solver.specs.Inner.Factored.{solved, fast_solver};
 ghost use Rattle.solver.specs.Inner.Columns.{column_of, factor_last};
-ghost use Rattle.solver.specs.Inner.Reduced.{gather_reduced, gather_loaded};
+ghost use Rattle.solver.specs.Inner.Reduced.{gather_loaded};
 ghost use Rattle.solver.specs.Inner.Apart.{factored_columns, reduced_base, substitute_factors};
 
 use crate::chain::Chains;
@@ -43,21 +43,23 @@ pub struct Factors {
 }
 
 impl Factors {
-    // Of the dense part's right side v and a reduced right side, where the temperatures come to stand.
+    // Of a reduced right side and the dense part's, v, which is gathered from it, the temperatures.
     #[tactic(auto, unfolding(crate::specs::Inner::Apart::substitute_apart, crate::specs::Inner::Apart::temperatures_apart))]
     fn substitute_apart(
         &self,
+        base: &RightSide,
         last: &[f64; 25],
-        v: &mut [f64; 25],
-        b: &mut [f64; 121],
+        mut v: [f64; 25],
+        temps: &mut [f64; 121],
     ) -> Result<(), SolveError>
-        ensures { solved (number_in result) b.new ≡ substitute_factors self.now last.now v.old b.old }
+        ensures { solved (number_in result) temps.new ≡ substitute_factors self.now last.now v base.now.b }
     {
         let count = self.chains.count();
-        self.lu.solve_apart(last, v, count);
-        scatter_dense(v, count, b);
-        self.chains.back_substitute(b);
-        if self.chains.nodes_within(b) {
+        *temps = base.b;
+        self.lu.solve_apart(last, &mut v, count);
+        scatter_dense(&v, count, temps);
+        self.chains.back_substitute(temps);
+        if self.chains.nodes_within(temps) {
             Ok(())
         } else {
             Err(SolveError::Temperature)
@@ -105,21 +107,7 @@ impl Factors {
         self.chains.inner_shares(&base.b, &mut base.inner);
     }
 
-    // The temperatures of a right side that is reduced.
-    fn substitute_reduced(
-        &self,
-        base: &RightSide,
-        last: &[f64; 25],
-        temps: &mut [f64; 121],
-    ) -> Result<(), SolveError>
-        ensures { solved (number_in result) temps.new ≡ substitute_factors self.now last.now (gather_reduced (at_most24 self.now.chains.n) base.now.b base.now.inner) base.now.b }
-    {
-        let mut v = base.gather(self.chains.count());
-        *temps = base.b;
-        self.substitute_apart(last, &mut v, temps)
-    }
-
-    // The same with a load, apart for the reason that `RightSide` gives: gains at each inner surface, and the air's right side.
+    // The temperatures of a reduced right side with a load: gains at each inner surface, and the air's right side.
     pub fn substitute_load(
         &self,
         base: &RightSide,
@@ -130,9 +118,8 @@ impl Factors {
     ) -> Result<(), SolveError>
         ensures { solved (number_in result) temps.new ≡ substitute_factors self.now last.now (gather_loaded (at_most24 self.now.chains.n) base.now.b base.now.inner gains air) base.now.b }
     {
-        let mut v = base.gather_loaded(gains, air, self.chains.count());
-        *temps = base.b;
-        self.substitute_apart(last, &mut v, temps)
+        let v = base.gather_loaded(gains, air, self.chains.count());
+        self.substitute_apart(base, last, v, temps)
     }
 }
 
@@ -163,5 +150,6 @@ pub fn fast_solver(a: &Matrix, temps: &mut [f64; 121]) -> Result<(), SolveError>
         inner: [0.0; 24],
     };
     factors.reduce_base(&mut base);
-    factors.substitute_reduced(&base, &last, temps)
+    let v = base.gather(factors.chains.count());
+    factors.substitute_apart(&base, &last, v, temps)
 }

@@ -4,11 +4,10 @@ ghost use Rattle.tools.specs.Questions.{first_above, first_above_in};
 ghost use Rattle.tools.specs.Answers.{answered};
 ghost use Rattle.tools.specs.Inner.Hours.{hours_left};
 
-use crate::asked::asked_book;
+use crate::asked::answer_of;
 use crate::hours::Hours;
 use crate::question_error::QuestionError;
 use crate::values::{goes_above, value_valid};
-use zone::Zone;
 
 // `start` is the temperature before the first hour.
 #[tactic(auto, using(crate::proofs::Laws::Above::none_at_first))]
@@ -26,14 +25,11 @@ fn hour_above(hours: Hours, start: f64, value: f64) -> Option<usize>
 }
 
 // The book's bytes are taken up first; then the value is tested.
-#[tactic(auto, unfolding(crate::specs::Questions::first_above_in))]
+#[tactic(auto, using(crate::proofs::Laws::Asked::above_asked))]
 pub fn first_above(bytes: &[u8], value: f64) -> Result<Option<usize>, QuestionError>
     ensures { answered result ≡ first_above_in bytes.now value }
 {
-    let mut zone = Zone::none();
-    let book = asked_book(bytes, &mut zone)?;
-    if !value_valid(value) {
-        return Err(QuestionError::QuestionValue);
-    }
-    Ok(hour_above(book.hours, book.start, value))
+    answer_of(bytes, value_valid(value), |book| {
+        hour_above(book.hours, book.start, value)
+    })
 }

@@ -4,11 +4,10 @@ ghost use Rattle.tools.specs.Questions.{nearest_hour, nearest_hour_in};
 ghost use Rattle.tools.specs.Answers.{answered};
 ghost use Rattle.tools.specs.Inner.Hours.{hours_left};
 
-use crate::asked::asked_book;
+use crate::asked::answer_of;
 use crate::hours::Hours;
 use crate::question_error::QuestionError;
 use crate::values::{distance, nearer, value_valid};
-use zone::Zone;
 
 // An earlier hour gives way to a smaller distance only.
 #[tactic(auto, using(crate::proofs::Laws::Nearest::nearest_at_first))]
@@ -26,14 +25,11 @@ fn hour_nearest(hours: Hours, value: f64) -> Option<usize>
 }
 
 // The book's bytes are taken up first; then the value is tested.
-#[tactic(auto, unfolding(crate::specs::Questions::nearest_hour_in))]
+#[tactic(auto, using(crate::proofs::Laws::Asked::nearest_asked))]
 pub fn nearest_hour(bytes: &[u8], value: f64) -> Result<Option<usize>, QuestionError>
     ensures { answered result ≡ nearest_hour_in bytes.now value }
 {
-    let mut zone = Zone::none();
-    let book = asked_book(bytes, &mut zone)?;
-    if !value_valid(value) {
-        return Err(QuestionError::QuestionValue);
-    }
-    Ok(hour_nearest(book.hours, value))
+    answer_of(bytes, value_valid(value), |book| {
+        hour_nearest(book.hours, value)
+    })
 }

@@ -2,7 +2,7 @@
 ghost use Rattle.std.specs.Prelude.{◌≡◌};
 ghost use Rattle.tools.specs.Questions.{goes_above, within, distance, nearer, value_valid, band_valid};
 
-use solver::{abs, within_state_bound};
+use solver::within_state_bound;
 
 pub fn value_valid(value: f64) -> bool
     ensures { result ≡ value_valid value }
@@ -25,18 +25,18 @@ pub fn goes_above(value: f64, before: f64, temperature: f64) -> bool
     (before <= value) & (value < temperature)
 }
 
-// Two comparisons: `(lower..=upper).contains(..)` was tried, and the check did not find it alone.
+#[tactic(auto, using(solver::proofs::Laws::Order::le_is))]
 pub fn is_within(lower: f64, upper: f64, temperature: f64) -> bool
     ensures { result ≡ within lower upper temperature }
 {
-    (lower <= temperature) & (temperature <= upper)
+    (lower..=upper).contains(&temperature)
 }
 
-// The solver's `abs`: with the library's own, of a difference, the check did not find it alone.
+#[tactic(auto, using(crate::proofs::Laws::Nearer::distance_is))]
 pub fn distance(value: f64, temperature: f64) -> f64
     ensures { result ≡ distance value temperature }
 {
-    abs(temperature - value)
+    (temperature - value).abs()
 }
 
 // One distance is less than another; a NaN, were there one, is more than every number.

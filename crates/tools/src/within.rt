@@ -4,11 +4,10 @@ ghost use Rattle.tools.specs.Questions.{hours_within, hours_within_in};
 ghost use Rattle.tools.specs.Answers.{answered};
 ghost use Rattle.tools.specs.Inner.Hours.{hours_left};
 
-use crate::asked::asked_book;
+use crate::asked::answer_of;
 use crate::hours::Hours;
 use crate::question_error::QuestionError;
 use crate::values::{band_valid, is_within};
-use zone::Zone;
 
 fn count_within(hours: Hours, lower: f64, upper: f64) -> usize
     ensures { result ≡ hours_within lower upper (hours_left hours.entry) }
@@ -17,14 +16,11 @@ fn count_within(hours: Hours, lower: f64, upper: f64) -> usize
 }
 
 // The book's bytes are taken up first; then the band is tested.
-#[tactic(auto, unfolding(crate::specs::Questions::hours_within_in))]
+#[tactic(auto, using(crate::proofs::Laws::Asked::within_asked))]
 pub fn hours_within(bytes: &[u8], lower: f64, upper: f64) -> Result<usize, QuestionError>
     ensures { answered result ≡ hours_within_in bytes.now lower upper }
 {
-    let mut zone = Zone::none();
-    let book = asked_book(bytes, &mut zone)?;
-    if !band_valid(lower, upper) {
-        return Err(QuestionError::QuestionValue);
-    }
-    Ok(count_within(book.hours, lower, upper))
+    answer_of(bytes, band_valid(lower, upper), |book| {
+        count_within(book.hours, lower, upper)
+    })
 }

@@ -12,6 +12,7 @@
 #![tactic(auto)]
 
 mod answers;
+mod bytes;
 mod chilled_ceiling;
 mod convection;
 mod house_p;

@@ -27,7 +27,7 @@ pub enum Cause {
 }
 
 // A refusal of the zone, the book or a question, with the index of the element or the hour that it is about, 0 where it is about none. By
-// number, since the rows show numbers.
+// number: were what is expected an error of the engine, its `number()` would be laid beside itself, and a wrong number would be `ok`.
 #[derive(Clone, Copy, Debug, PartialEq, Eq)]
 pub struct Refusal {
     pub number: u32,
@@ -55,6 +55,8 @@ impl Display for Refusal {
 
 impl Error for Refusal {}
 
+// Three, as of replay's `Failure`: `?` converts in one step. A shared type could not print in the rows' columns, and a type of the
+// program around it would need the three again.
 impl From<zone::Refusal> for Refusal {
     fn from(refusal: zone::Refusal) -> Refusal {
         Refusal::from(BookError::from(refusal))

@@ -20,7 +20,7 @@ pub const MADE_UP: Counts = Counts {
     last_version: 77,
 };
 
-// A program makes up its own values: others than those of its books.
+// As `made_up` of book_torture: for both there would be a crate that knows `BookState`, a line in crates.txt, a lib.rt and two imports, for one value.
 pub fn nothing() -> BookState {
     BookState {
         state: State {

@@ -1,6 +1,5 @@
 -- What proofs of the layers above cite beside Claims, of the zone's laws and the solver's: Laws is private.
 pub use Rattle.solver.proofs.Laws.Fits.{AllFit, take_fits}
-pub use Rattle.solver.proofs.Laws.Parts.{drop_next}
 pub use Rattle.solver.proofs.Laws.Result.{bind_is, bind_ok, require_ok, ok_inj, ok_not_refused}
 pub use Rattle.solver.proofs.Laws.Refusals.{bind_refuses, refusal_by, refuses_also, test_refuses}
 pub use Rattle.solver.proofs.Laws.Tests.{and_true}

@@ -5,6 +5,7 @@ mod demand;
 pub mod free;
 pub mod hour;
 pub mod hour_kept;
+pub mod hour_start;
 pub mod kept;
 pub mod load;
 pub mod reason;

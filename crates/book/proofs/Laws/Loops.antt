@@ -1,21 +1,23 @@
--- Numbers as the library writes them, the loop that writes floats, one turn and the end, and the comparison of bytes.
+-- Numbers as the library writes them, the loop that writes floats, its beginning and one turn, and the comparison of bytes.
 use Rattle.std.proofs.Common.{nat_eq}
-use Prim.Native.Nat.{ℕ, ◌+◌, ◌/◌, ◌%◌, ◌≤◌, ◌<◌}
+use Rattle.std.proofs.lemmas.List.{take_more}
+use Prim.Native.Nat.{ℕ, ◌+◌, ◌*◌, ◌/◌, ◌%◌, ◌<◌}
 use mathlib.Core.Path.{◌≡◌, refl, sym, ap, ◌∙◌}
 use mathlib.Core.Bool.{Bool, true, false, cond, ◌&&◌}
-use mathlib.Core.List.{List, [], ◌∷◌, ◌++◌}
+use mathlib.Core.List.{List, [], ◌∷◌, ◌++◌, append_assoc, append-nil}
 use native.Mathlib.Omega.{arith}
-use lib.ListN.{length, drop, get_or, drop_of_length-le}
+use lib.ListN.{length, take, get_or}
+use lib.Seq.{length-take-le}
 use lib.Pointwise.{pointwise}
-use lib.Ieee.{Float, nan, binary64, to_bits}
-use Rattle.zone.proofs.Promise.{drop_next, length_bytes_of}
+use lib.Ieee.{Float, nan}
+use Rattle.zone.proofs.Promise.{length_row}
 use Rattle.std.specs.Cmp.{nat_eq_equiv}
 use Rattle.std.specs.Int.{w32, w64, to_be_bytes}
 use Rattle.zone.specs.Format.Bytes.{bytes_of}
 use Rattle.zone.specs.Format.Encode.{float_bytes, row_bytes}
 use Rattle.book.specs.Model.Bytes.{equal_bytes}
-use Rattle.book.specs.Inner.Replace.{replace_at}
-use Rattle.book.proofs.Laws.Replace.{replace_none, replace_then}
+use Rattle.book.specs.Inner.Start.{with_start}
+use Rattle.book.proofs.Laws.Start.{part_from, with_part, start_behind}
 
 -- ---- numbers, as std writes them
 
@@ -41,24 +43,30 @@ eight_bytes n =
 
 -- ---- floats one behind the other
 
-module _ (xs : List Float) (i : ℕ) (p : ℕ) (b w : List ℕ) (inv : replace_at p (row_bytes (drop i xs)) b ≡ w) where
-  floats_first : i < length xs → row_bytes (drop i xs) ≡ float_bytes (get_or xs i nan) ++ row_bytes (drop (i + 1) xs)
-  unfolding row_bytes
-  floats_first h = rw (drop_next xs i nan h)
+row_append : (xs ys : List Float) → row_bytes (xs ++ ys) ≡ row_bytes xs ++ row_bytes ys
+unfolding row_bytes
+row_append [] ys = refl
+row_append (x ∷ xs) ys = ap (λ (l : List ℕ). float_bytes x ++ l) (row_append xs ys) ∙ sym (append_assoc (float_bytes x) (row_bytes xs) (row_bytes ys))
 
-  pub floats_more : i < length xs → p ≤ length b → (b₁ : List ℕ) → b₁ ≡ replace_at p (float_bytes (get_or xs i nan)) b → (q : ℕ) → q ≡ p + 8
-      → replace_at q (row_bytes (drop (i + 1) xs)) b₁ ≡ w
-  floats_more h l b₁ e q q_is =
-      let F : List ℕ = float_bytes (get_or xs i nan) in
-      let R : List ℕ = row_bytes (drop (i + 1) xs) in
-      let at : q ≡ p + length F = q_is ∙ ap (λ (k : ℕ). p + k) (sym (length_bytes_of 8 (to_bits binary64 (get_or xs i nan)))) in
-      replace_then p q F R b b₁ (replace_at q R b₁) l at e refl
-      ∙ ap (λ (l : List ℕ). replace_at p l b) (sym (floats_first h))
-      ∙ inv
+row_next : (xs : List Float) (i : ℕ) → i < length xs → row_bytes (take (i + 1) xs) ≡ row_bytes (take i xs) ++ float_bytes (get_or xs i nan)
+unfolding row_bytes
+row_next xs i h =
+    ap row_bytes (take_more xs i nan h)
+    ∙ row_append (take i xs) (get_or xs i nan ∷ [])
+    ∙ ap (λ (l : List ℕ). row_bytes (take i xs) ++ l) (append-nil (float_bytes (get_or xs i nan)))
 
-  pub floats_done : length xs ≤ i → b ≡ w
-  unfolding row_bytes
-  floats_done h = sym (replace_none p b) ∙ ap (λ (l : List Float). replace_at p (row_bytes l) b) (sym (drop_of_length-le xs {i = i} h)) ∙ inv
+-- one float more, behind those before it
+pub floats_more : (xs : List Float) (i : ℕ) (b b₁ x : List ℕ) → i < length xs → b₁ ≡ with_start (row_bytes (take i xs)) b
+    → x ≡ with_start (float_bytes (get_or xs i nan)) (part_from (8 * i) b₁) → with_part (8 * i) b₁ x ≡ with_start (row_bytes (take (i + 1) xs)) b
+floats_more xs i b b₁ x h e₁ e₂ =
+    let long : length (row_bytes (take i xs)) ≡ 8 * i = length_row (take i xs) ∙ ap (λ (n : ℕ). 8 * n) (length-take-le i xs (omega arith)) in
+    start_behind (8 * i) (row_bytes (take i xs)) (float_bytes (get_or xs i nan)) b b₁ x (sym long) e₁ e₂
+    ∙ ap (λ (l : List ℕ). with_start l b) (sym (row_next xs i h))
+
+-- no float yet
+pub floats_none : (b : List ℕ) → b ≡ with_start (row_bytes []) b
+unfolding row_bytes with_start
+floats_none b = refl
 
 -- ---- the comparison of bytes
 

@@ -1,31 +1,28 @@
 -- What `read_book` says of bytes, against the plain book that they are taken up as: the refusal, or the contents, which are read back from the bytes.
-use Rattle.std.specs.Prelude.{Ok, Err}
+use Rattle.std.specs.Prelude.{Ok}
 use Rattle.std.specs.Prelude as Rust
 use Prim.Native.Nat.{ℕ, ◌≤◌}
 use mathlib.Core.Path.{◌≡◌, refl, sym, ap, subst, ◌∙◌}
 use mathlib.Core.List.{List, map}
 use lib.ListN.{length, drop}
 use Rattle.zone.specs.Promise.{ok, refused}
-use Rattle.zone.specs.Inner.Head.{structured_head}
+use Rattle.zone.specs.Inner.Head.{structured_head, head_read}
 use Rattle.zone.specs.Record.BuildingElement.{standard_coefficients}
 use Rattle.zone.specs.Check.ZoneTest.{zone_test}
-use Rattle.zone.specs.Format.Head.{head_of}
+use Rattle.zone.specs.Format.Head.{ReadHead, head_of}
 use Rattle.zone.specs.Calls.StartUp.{init_node_temps}
 use Rattle.zone.specs.declared.record.zone_record.Zone.{Zone}
+use Rattle.zone.specs.declared.record.refusal.Refusal.{Refusal}
 use Rattle.zone.specs.declared.calls.state.State.{State}
-use Rattle.zone.proofs.Promise.{bind_ok, ok_inj, head_as_tested, structured_within, structured_few}
+use Rattle.zone.proofs.Promise.{bind_ok, ok_inj, head_yes, head_as_tested, structured_within, structured_few}
 use Rattle.book.specs.Model.Calls as Book
 use Rattle.book.specs.Model.PlainTakeUp.{contents_in}
 use Rattle.book.specs.Year.{Carried, carried, no_entry_version, start_up, year_interface}
-use Rattle.book.specs.Answers.{number_of, index_of}
-use Rattle.book.specs.Inner.Reader.{BookRead, read_of, book_read, state_in}
-use Rattle.book.specs.declared.entries.ReadBook.{ReadBook}
-use Rattle.book.specs.declared.book_error.BookError.{BookError}
+use Rattle.book.specs.Inner.Reader.{start_in, state_in}
 use Rattle.book.proofs.Model.Contents.{contents_taken, contents_refused}
 use Rattle.book.proofs.Model.Laws.Entries.{Entries}
 use Rattle.book.proofs.Laws.Interface.{year_laws}
 use Rattle.book.proofs.Laws.Reader.{states_read}
-use Rattle.book.proofs.TakeUp.{no_values_read}
 
 -- an accepted book, as it is read
 pub record ReadContents (bytes : List ℕ) (z : Zone) (n : ℕ) (start : State) : Type 0 where
@@ -39,20 +36,29 @@ pub record ReadContents (bytes : List ℕ) (z : Zone) (n : ℕ) (start : State) 
 start_is_carried : (z : Zone) (s : Carried) → start_up z ≡ ok s → s ≡ carried s.state no_entry_version
 start_is_carried z s e = let a = bind_ok (init_node_temps standard_coefficients z) _ s e in subst (λ x. x ≡ carried x.state no_entry_version) (ok_inj a.2) refl
 
-module _ (bytes : List ℕ) (x : Rust.Result ReadBook BookError) (z : Zone) (e : book_read x z ≡ read_of bytes) where
-  pub book_refused : (i : BookError) → x ≡ Err i → contents_in year_interface bytes ≡ refused (number_of i) (index_of i)
-  book_refused i f = contents_refused year_interface year_laws bytes (number_of i) (index_of i) (sym (no_values_read bytes x z e i f))
+module _ (bytes : List ℕ) (n j : ℕ) (e : refused n j ≡ Book.take_up_res year_interface bytes) where
+  pub book_refused : contents_in year_interface bytes ≡ refused n j
+  book_refused = contents_refused year_interface year_laws bytes n j (sym e)
 
-  pub book_taken : (b : ReadBook) → x ≡ Ok b → ReadContents bytes z b.head b.start
-  unfolding read_of
-  book_taken b f =
-      let read : read_of bytes ≡ ok _ = sym e ∙ ap (λ y. book_read y z) f in
-      let h = bind_ok (head_of bytes) _ _ read in
-      let s = bind_ok (start_up h.0.zone) _ _ h.2 in
-      let v = bind_ok (Book.check_entries year_interface h.0.zone 0 s.0 h.0.length _) _ _ s.2 in
+start_of : (bytes : List ℕ) (given : State) (h : ReadHead Zone) (s : Carried) → head_of bytes ≡ ok h → start_up h.zone ≡ ok s → s.state ≡ start_in given bytes
+unfolding start_in
+start_of bytes given h s p q = rw (p, q) refl
+
+module _ (bytes : List ℕ) (v : Book.BookState Carried) (e : ok v ≡ Book.take_up_res year_interface bytes) (given : State) where
+  -- the head is that whose structure is right, too
+  record AcceptedBook : Type 0 where
+    pub h : ReadHead Zone
+    pub structured : structured_head bytes ≡ ok h
+    pub read : ReadContents bytes h.zone h.length (start_in given bytes)
+
+  accepted_book : AcceptedBook
+  unfolding Book.take_up_res
+  accepted_book =
+      let h = bind_ok (head_of bytes) _ v (sym e) in
+      let s = bind_ok (start_up h.0.zone) _ v h.2 in
       let t = bind_ok (structured_head bytes) _ h.0 (sym (head_as_tested bytes) ∙ h.1) in
       let structured : structured_head bytes ≡ ok h.0 = t.1 ∙ ap ok (ok_inj (bind_ok (zone_test t.0.zone) _ h.0 t.2).2) in
-      let T = contents_taken year_interface year_laws bytes h.0.zone h.0.length s.0 v.0 h.1 s.1 v.1 in
+      let T = contents_taken year_interface year_laws bytes h.0.zone h.0.length s.0 v h.1 s.1 s.2 in
       let as_read : ReadContents bytes h.0.zone h.0.length s.0.state = record {
         few = structured_few bytes h.0 structured;
         inside = structured_within bytes h.0 structured;
@@ -60,4 +66,11 @@ module _ (bytes : List ℕ) (x : Rust.Result ReadBook BookError) (z : Zone) (e :
         contents = T.contents ∙ ap (λ y. ok (record { zone = h.0.zone; start = y; entries = T.es })) (start_is_carried h.0.zone s.0 s.1);
         states = ap (λ y. map (λ c. (state_in h.0.zone c).temps) y) (sym T.same) ∙ states_read h.0.zone 0 s.0 _ T.es T.entries_are;
       } in
-      subst (λ (y : BookRead). ReadContents bytes y.head.zone y.head.length y.start) (ok_inj v.2) as_read
+      record { h = h.0; structured = structured; read = subst (λ y. ReadContents bytes h.0.zone h.0.length y) (start_of bytes given h.0 s.0 h.1 s.1) as_read }
+
+  module _ (r : Rust.Result ℕ Refusal) (z : Zone) (head_is : head_read r z ≡ structured_head bytes) (n : ℕ) (q : r ≡ Ok n) where
+    pub book_taken : ReadContents bytes z n (start_in given bytes)
+    book_taken =
+        let a = accepted_book in
+        let same : a.h ≡ record { zone = z; length = n } = ok_inj (sym a.structured ∙ head_yes (structured_head bytes) r z head_is n q) in
+        subst (λ (y : ReadHead Zone). ReadContents bytes y.zone y.length (start_in given bytes)) same a.read

@@ -1,20 +1,19 @@
--- What the check of entries asks for, and what the check of one answers.
-use Rattle.std.specs.Prelude.{◌≡◌, Ok, Err}
+-- What the check of an entry answers, and what EntryChecker (src/checked_entry.rt) needs of a kept matrix.
+use Rattle.std.specs.Prelude.{Ok, Err}
 use Rattle.std.specs.Prelude as Rust
+use Rattle.std.specs.Coded.{codes}
+use Rattle.std.proofs.Props.{props}
 use Rattle.zone.specs.Promise.{Result, ok, refused}
-use Rattle.zone.specs.Check.ZoneTest.{zone_test}
-use Rattle.zone.specs.Inner.Kept.{Kept}
-use Rattle.zone.specs.Inner.KeptMatrix.{held_in}
+use Rattle.zone.specs.Inner.Kept.{Kept, Held, held}
 use Rattle.zone.specs.declared.record.zone_record.Zone.{Zone}
-use Rattle.zone.specs.declared.hour.kept.KeptMatrix.{KeptMatrix}
 use Rattle.book.specs.Answers.{number_of, index_of}
 use Rattle.book.specs.Year.{Carried, carried}
 use Rattle.book.specs.declared.book_error.BookError.{BookError}
 use Rattle.book.specs.declared.checked_entry.CheckedEntry.{CheckedEntry}
 
--- a zone that passes its test, with a matrix of it or none
-abbrev pub TestedKept : Zone → KeptMatrix → Type 0
-TestedKept z m = (zone_test z ≡ ok tt) × Kept z (held_in m)
+-- a ghost field says what has one proof at most
+pub Kept_prop : (z : Zone) (x : Held) → IsProp (Kept z x)
+Kept_prop z (held flags numbers key a column) = hlevel (codes, props)
 
 -- the state and the version after the entry
 abbrev pub checked_entry : Rust.Result CheckedEntry BookError → Result Carried

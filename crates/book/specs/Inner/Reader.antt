@@ -1,45 +1,24 @@
--- What is read of a book: its head, the state of its start-up and its values, and the first entry of a rest of it with the state after its hour.
-use Rattle.std.specs.Prelude as Rust
-use Rattle.std.specs.Prelude.{Ok, Err, ℕ, ◌-◌, ◌*◌, ◌≡◌, cond, List, ◌++◌, length, take, drop, replicate, leb, Float}
+-- What is read of a book: the state of its start-up, and the first entry of a rest of it with the state after its hour.
+use Rattle.std.specs.Prelude.{ℕ, ◌-◌, ◌*◌, cond, List, ◌++◌, length, take, drop, replicate, leb, Float}
 use Rattle.std.proofs.Math.Option.{Option, none}
 use Rattle.zone.specs.Promise.{Result, ok, refused, bind, zero64}
 use Rattle.zone.specs.Record.BuildingElement.{node_count}
 use Rattle.zone.specs.Format.Bytes.{float_size}
 use Rattle.zone.specs.Format.Decode.{floats_at}
-use Rattle.zone.specs.Format.Head.{ReadHead, head_of}
+use Rattle.zone.specs.Format.Head.{head_of}
 use Rattle.zone.specs.Inner.Temperatures.{most_nodes}
 use Rattle.zone.specs.declared.record.zone_record.Zone.{Zone}
 use Rattle.zone.specs.declared.calls.state.State.{State}
 use Rattle.book.specs.Model.Bytes.{from_option}
-use Rattle.book.specs.Model.Calls as Book
-use Rattle.book.specs.Year.{Carried, start_up, entry_length, year_interface}
-use Rattle.book.specs.Answers.{number_of, index_of, given_of}
-use Rattle.book.specs.declared.book_error.BookError.{BookError}
-use Rattle.book.specs.declared.entries.ReadBook.{ReadBook}
+use Rattle.book.specs.Year.{start_up, entry_length}
 
--- the zone of the head with which bytes begin, whatever its values are; the given one where the head's structure is refused
-abbrev pub zone_or : (given : Zone) → Result (ReadHead Zone) → Zone
-zone_or given (ok h) = h.zone
-zone_or given (refused number index) = given
+-- start-up's state, of the head with which bytes begin; the given one where head or start-up is refused
+abbrev pub state_or : (given : State) → Result State → State
+state_or given (ok s) = s
+state_or given (refused number index) = given
 
--- what is read of a book: its head, the state of its start-up, and the values behind its entries
-pub record BookRead : Type 0 where
-  pub head : ReadHead Zone
-  pub start : State
-  pub values : Book.BookState Carried
-
--- a take-up, with the head and the start-up that it goes through
-unfoldable pub read_of : List ℕ → Result BookRead
-read_of bytes =
-    bind (head_of bytes) λ h.
-    bind (start_up h.zone) λ s.
-    bind (Book.check_entries year_interface h.zone 0 s h.length (Book.whole_entries year_interface h.zone (drop h.length bytes))) λ v.
-    ok (record { head = h; start = s.state; values = v })
-
--- the answer of `read_book`, with the zone that it leaves
-abbrev pub book_read : Rust.Result ReadBook BookError → Zone → Result BookRead
-book_read (Ok b) z = ok (record { head = record { zone = z; length = b.head }; start = b.start; values = given_of b.values })
-book_read (Err e) z = refused (number_of e) (index_of e)
+unfoldable pub start_in : (given : State) → List ℕ → State
+start_in given bytes = state_or given (bind (head_of bytes) λ h. bind (start_up h.zone) λ s. ok s.state)
 
 -- "N node temperatures": an entry ends with them
 abbrev pub temperatures_of : Zone → (entry : List ℕ) → List Float

@@ -14,5 +14,5 @@ record_length (Some n) = some n
 abbrev pub NextRecord : Records → Rust.Option (Bor (List ℕ)) → Records → Type 0
 NextRecord s r t =
     MatchOption r
-    ((entry_length s.zone.now s.rest.now ≡ none) × (t ≡ s))
-    (λ x. (entry_length s.zone.now s.rest.now ≡ some (length x.now)) × (x.now ≡ take (length x.now) s.rest.now) × (t.rest.now ≡ drop (length x.now) s.rest.now) × (t.zone ≡ s.zone))
+    ((entry_length s.layout.zone.now s.rest.now ≡ none) × (t ≡ s))
+    (λ x. (entry_length s.layout.zone.now s.rest.now ≡ some (length x.now)) × (x.now ≡ take (length x.now) s.rest.now) × (t.rest.now ≡ drop (length x.now) s.rest.now) × (t.layout ≡ s.layout))

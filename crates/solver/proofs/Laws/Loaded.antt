@@ -10,7 +10,7 @@ use lib.Ieee.{Float, nan}
 use Rattle.solver.specs.F64.{◌+ᶠ◌, ◌-ᶠ◌, ◌*ᶠ◌, ◌/ᶠ◌, zero64}
 use Rattle.solver.specs.Repeat.{repeat}
 use Rattle.solver.specs.Chain.{reduce_right_sides}
-use Rattle.solver.specs.Inner.Reduced.{reduce_chain, reduce_chains, set_inner_share, inner_shares, gather_reduced_inner, gather_reduced, add_gains, with_load, gather_loaded_inner, gather_loaded}
+use Rattle.solver.specs.Inner.Reduced.{reduce_chain, reduce_chains, set_inner_share, inner_shares, gathered_inner, gather_reduced, add_gains, with_load, gather_loaded}
 use Rattle.solver.specs.FastSolver.{gather_dense, scatter_dense}
 use Rattle.solver.specs.Inner.Reduced.{scatter_inner}
 use Rattle.solver.proofs.Laws.Turns.{repeat_same, repeat_commutes, repeat_overwrites}
@@ -60,7 +60,7 @@ module _ (n : ℕ) (gains air : Float) (y : List Float) (hn : n ≤ 24) (hy : le
       let z = repeat 0 n (add_gains gains) y in
       rw (get_or-set_same z 120 air nan (omega (arith, gains_length)))
       (ap (λ (t : List Float). set t n air)
-      (repeat_same (gather_reduced_inner (set z 120 air) shares) (gather_loaded_inner y shares gains) 0 n (replicate 25 zero64)
+      (repeat_same (gathered_inner (λ x. x) (set z 120 air) shares) (gathered_inner (λ x. x +ᶠ gains) y shares) 0 n (replicate 25 zero64)
       (λ e t u v.
       let w : get_or z (5 * e + 4) nan ≡ more e (get_or y (5 * e + 4) nan) = stores_in nan place more 0 n y e (λ a b o q. o (omega arith)) u v (omega arith) in
       rw (get_or-set_other z 120 (5 * e + 4) air nan (λ q. omega arith), w))))

@@ -1,12 +1,26 @@
 -- The order of floats, in the words `lt x y ≡ true` and `lt x y ≡ false`: the library's laws, which say it by `T`.
-use mathlib.Core.Path.{◌≡◌, sym, ◌∙◌}
-use mathlib.Core.Bool.{Bool, true, false}
+use mathlib.Core.Path.{◌≡◌, refl, sym, ◌∙◌}
+use mathlib.Core.Bool.{Bool, true, false, cond, ◌||◌}
 use lib.Dec.{not_T}
-use lib.Ieee.{Float, lt, le, is_nan}
+use lib.Ieee.{Float, lt, eq, le, is_nan}
 use lib.Ieee.Bits.{is_true, is_false}
 use Rattle.std.proofs.lemmas.Float.{T_from_true, T_from_false, le_left, le_right, le_of_lt, le_of_not-lt, lt_irrefl, lt_of_le_of_lt}
 use Rattle.std.proofs.lemmas.Float as Library
+use Rattle.std.specs.Prelude.{Some, None}
+use Rattle.std.specs.declared.cmp.Ordering.TheVariants.{Less, Equal, Greater}
+use Rattle.std.specs.Ordering.{is_le, is_some_and, partial_le, float_partial_cmp}
 use Rattle.solver.proofs.Laws.Signs.{never}
+
+-- the library's comparison, with which it tests a range
+pub le_is : (x y : Float) → partial_le float_partial_cmp x y ≡ le x y
+unfolding le
+le_is x y = go (lt x y) (eq x y) (lt y x)
+  where
+    go : (less same more : Bool) → is_some_and is_le (cond less (Some Less) (cond same (Some Equal) (cond more (Some Greater) None))) ≡ (less || same)
+    go true s m = refl
+    go false true m = refl
+    go false false true = refl
+    go false false false = refl
 
 -- a float that is no NaN
 abbrev pub NoNan : Float → Type 0

@@ -10,7 +10,7 @@ use lib.Ieee.{Float, nan}
 use Rattle.solver.specs.F64.{◌-ᶠ◌, ◌*ᶠ◌, ◌/ᶠ◌, zero64}
 use Rattle.solver.specs.Repeat.{repeat}
 use Rattle.solver.specs.Chain.{outer_slot, adjust_right_side, reduce_right_side, reduce_right_sides}
-use Rattle.solver.specs.Inner.Reduced.{reduce_chain, reduce_chains, inner_share, set_inner_share, inner_shares, gather_reduced_inner, gather_reduced}
+use Rattle.solver.specs.Inner.Reduced.{reduce_chain, reduce_chains, inner_share, set_inner_share, inner_shares, gathered_inner, gather_reduced}
 use Rattle.solver.specs.FastSolver.{gather_dense, scatter_dense}
 use Rattle.solver.specs.Inner.Reduced.{gather_inner, scatter_inner}
 use Rattle.solver.proofs.Laws.Turns.{repeat_keeps, repeat_last, repeat_same, repeat_commutes, repeat_splits, repeat_overwrites, repeat_relates}
@@ -97,7 +97,7 @@ module _ (diag prev : List Float) where
         let air : get_or z 120 nan ≡ get_or y 120 nan = stores_out nan inner less 0 n y 120 (omega arith) (λ i u v e. omega arith) in
         rw (lasts_store, air)
         (ap (λ (t : List Float). set t n (get_or y 120 nan))
-        (repeat_same (gather_inner z) (gather_reduced_inner y c) 0 n (replicate 25 zero64)
+        (repeat_same (gather_inner z) (gathered_inner (λ x. x) y c) 0 n (replicate 25 zero64)
         (λ e t u v.
         let s : get_or c e nan ≡ inner_share diag prev y e = stores_in nan (λ i. i) (λ i x. inner_share diag prev y i) 0 n shares e (λ a b n q. n q) u v (omega arith) in
         let w : get_or z (5 * e + 4) nan ≡ less e (get_or y (5 * e + 4) nan) = stores_in nan inner less 0 n y e (λ a b n q. n (omega arith)) u v (omega arith) in

@@ -56,14 +56,17 @@ pub column_length : (n : ℕ) (m : List Float) → length (column_of n m) ≡ 25
 unfolding column_of
 column_length n m = stores_length nan (λ i. i) (λ i x. entry i n m) 0 25 (replicate 25 zero64)
 
-pub own_column : (n : ℕ) (m : List Float) → length m ≡ 625 → Apart n m m (column_of n m)
+pub column_at : (n : ℕ) (m : List Float) (i : ℕ) → i < 25 → get_or (column_of n m) i nan ≡ entry i n m
 unfolding column_of
+column_at n m i u = stores_in nan (λ i. i) (λ i x. entry i n m) 0 25 (replicate 25 zero64) i (λ x y n e. n e) (omega arith) u u
+
+pub own_column : (n : ℕ) (m : List Float) → length m ≡ 625 → Apart n m m (column_of n m)
 own_column n m h =
     record {
       full_length = h;
       m_length = h;
       others = λ i j u v o. refl;
-      column = λ i u. sym (stores_in nan (λ i. i) (λ i x. entry i n m) 0 25 (replicate 25 zero64) i (λ x y n e. n e) (omega arith) u u);
+      column = λ i u. sym (column_at n m i u);
     }
 
 -- another entry in the last row of the last column: the column alone changes, as it does with the air change rate

@@ -24,12 +24,17 @@ set_inner_share diag prev b e inner = set inner e (inner_share diag prev b e)
 unfoldable pub inner_shares : ℕ → List Float → List Float → List Float → List Float → List Float
 inner_shares n diag prev b inner = repeat 0 n (set_inner_share diag prev b) inner
 
--- the dense part's right side, from a right side whose chains are reduced
-abbrev pub gather_reduced_inner : List Float → List Float → ℕ → List Float → List Float
-gather_reduced_inner b inner e v = set v e (get_or b (5 * e + 4) nan -ᶠ get_or inner e nan)
+-- The dense part's right side, from a right side whose chains are reduced: at each inner surface what f makes of its right side, less the last step's
+-- share; and the air's.
+abbrev pub gathered_inner : (Float → Float) → List Float → List Float → ℕ → List Float → List Float
+gathered_inner f b inner e v = set v e (f (get_or b (5 * e + 4) nan) -ᶠ get_or inner e nan)
 
+abbrev pub gathered : ℕ → (Float → Float) → List Float → List Float → Float → List Float
+gathered n f b inner air = set (repeat 0 n (gathered_inner f b inner) (replicate 25 zero64)) n air
+
+-- without a load
 unfoldable pub gather_reduced : ℕ → List Float → List Float → List Float
-gather_reduced n b inner = set (repeat 0 n (gather_reduced_inner b inner) (replicate 25 zero64)) n (get_or b 120 nan)
+gather_reduced n b inner = gathered n (λ x. x) b inner (get_or b 120 nan)
 
 -- a load: gains at each inner surface, and the right side of the air
 abbrev pub add_gains : Float → ℕ → List Float → List Float
@@ -38,12 +43,9 @@ add_gains gains e b = set b (5 * e + 4) (get_or b (5 * e + 4) nan +ᶠ gains)
 unfoldable pub with_load : ℕ → (gains air : Float) → List Float → List Float
 with_load n gains air b = set (repeat 0 n (add_gains gains) b) 120 air
 
--- the dense part's right side with a load
-abbrev pub gather_loaded_inner : List Float → List Float → Float → ℕ → List Float → List Float
-gather_loaded_inner b inner gains e v = set v e ((get_or b (5 * e + 4) nan +ᶠ gains) -ᶠ get_or inner e nan)
-
+-- with a load
 unfoldable pub gather_loaded : ℕ → List Float → List Float → (gains air : Float) → List Float
-gather_loaded n b inner gains air = set (repeat 0 n (gather_loaded_inner b inner gains) (replicate 25 zero64)) n air
+gather_loaded n b inner gains air = gathered n (λ x. x +ᶠ gains) b inner air
 
 -- one turn of gathering, of scattering and of the inner diagonals (specs/FastSolver.antt)
 abbrev pub gather_inner : List Float → ℕ → List Float → List Float

@@ -1,31 +1,38 @@
 -- A question that is asked of a book as it is read, against the plain book's contents.
 use Rattle.std.specs.Prelude.{Ok, Err}
 use Rattle.std.specs.Prelude as Rust
-use Prim.Native.Nat.{ℕ, ◌-◌, ◌≤◌}
+use Prim.Native.Nat.{ℕ, ◌-◌}
 use mathlib.Core.Path.{◌≡◌, refl, sym, ap, ◌∙◌}
-use mathlib.Core.Bool.{false}
+use mathlib.Core.Bool.{Bool, false}
 use mathlib.Core.List.{List, [], ◌∷◌, map}
 use lib.ListN.{length, take, drop}
 use lib.Ieee.{Float}
 use borrow.Author.Tests.{le-leb}
 use Rattle.solver.proofs.Laws.Parts.{part_to_end}
-use Rattle.zone.specs.Promise.{Result, ok, refused}
+use Rattle.zone.specs.Promise.{Result, ok, refused, bind, require}
 use Rattle.zone.specs.Calls.State.{operative_of}
+use Rattle.zone.specs.Answers.{number_of as number_of_refusal, index_of as index_of_refusal}
+use Rattle.zone.specs.Inner.Head.{structured_head, head_read}
+use Rattle.zone.specs.declared.calls.state.State.{State}
+use Rattle.zone.specs.declared.record.refusal.Refusal.{Refusal}
 use Rattle.zone.specs.declared.record.zone_record.Zone.{Zone}
-use Rattle.book.specs.Model.Calls.{whole_entries}
+use Rattle.book.specs.Model.Calls.{whole_entries, take_up_res}
 use Rattle.book.specs.Model.Plain.{Contents}
 use Rattle.book.specs.Model.PlainTakeUp.{contents_in}
-use Rattle.book.specs.Answers.{number_of, index_of}
-use Rattle.book.specs.declared.entries.ReadBook.{ReadBook}
+use Rattle.book.specs.Answers.{number_of, index_of, given_of}
+use Rattle.book.specs.declared.book.BookState.{BookState}
 use Rattle.book.specs.declared.book_error.BookError.{BookError}
-use Rattle.book.specs.Inner.Reader.{most_elements, read_of, book_read, state_in}
+use Rattle.book.specs.Inner.Answers.{values_in}
+use Rattle.book.specs.Inner.Reader.{most_elements, start_in, state_in}
 use Rattle.book.specs.Year.{year_interface}
+use Rattle.book.proofs.TakeUp.{values_no_head}
+use Rattle.book.proofs.Laws.Heads.{head_inside}
 use Rattle.book.proofs.Laws.ReadBook.{ReadContents, book_refused, book_taken}
 use Rattle.tools.specs.Numbers.{question_value}
-use Rattle.tools.specs.Questions.{value_valid, band_valid, first_above_in, hours_within_in, nearest_hour_in}
+use Rattle.tools.specs.Questions.{start_temperature, hour_temperatures, value_valid, band_valid, first_above, hours_within, nearest_hour, first_above_in, hours_within_in, nearest_hour_in}
 use Rattle.tools.specs.Inner.Hours.{temperatures_in, hours_left}
 use Rattle.tools.specs.declared.hours.Hours.{Hours}
-use Rattle.tools.specs.Inner.Asked.{asked_of}
+use Rattle.tools.specs.Inner.Asked.{asked_of, answer_of}
 
 map_twice : {A B C : Type 0} (f : B → C) (g : A → B) (l : List A) → map f (map g l) ≡ map (λ x. f (g x)) l
 map_twice f g [] = refl
@@ -61,24 +68,42 @@ module _ (bytes : List ℕ) (c : Contents year_interface) (e : contents_in year_
   unfolding nearest_hour_in
   nearest_invalid value h = rw (e, h) refl
 
+-- ---- a question is asked of the plain book's contents
+
+module _ {A : Type 0} (valid : Bool) (question : Float → List Float → A) where
+  asked_contents : (d : Result (Contents year_interface))
+      → (bind {A = Float × List Float} (bind d λ c. ok (start_temperature c, hour_temperatures c)) λ b. bind (require valid question_value) λ _. ok (question b.0 b.1))
+      ≡ (bind d λ c. bind (require valid question_value) λ _. ok (question (start_temperature c) (hour_temperatures c)))
+  asked_contents (ok c) = refl
+  asked_contents (refused number index) = refl
+
+module _ (bytes : List ℕ) where
+  pub above_asked : (value : Float) → first_above_in bytes value ≡ answer_of bytes (value_valid value) (first_above value)
+  unfolding answer_of first_above_in
+  above_asked value = sym (asked_contents (value_valid value) (first_above value) (contents_in year_interface bytes))
+
+  pub within_asked : (lower upper : Float) → hours_within_in bytes lower upper ≡ answer_of bytes (band_valid lower upper) (λ _. hours_within lower upper)
+  unfolding answer_of hours_within_in
+  within_asked lower upper = sym (asked_contents (band_valid lower upper) (λ _. hours_within lower upper) (contents_in year_interface bytes))
+
+  pub nearest_asked : (value : Float) → nearest_hour_in bytes value ≡ answer_of bytes (value_valid value) (λ _. nearest_hour value)
+  unfolding answer_of nearest_hour_in
+  nearest_asked value = sym (asked_contents (value_valid value) (λ _. nearest_hour value) (contents_in year_interface bytes))
+
 -- ---- the book as it is read
 
-module _ (bytes : List ℕ) (r : Rust.Result ReadBook BookError) (z : Zone) (read_is : book_read r z ≡ read_of bytes) where
-  abbrev asked : Result (Float × List Float)
-  asked = asked_of bytes
+module _ (bytes : List ℕ) (h : Rust.Result ℕ Refusal) (z : Zone) (head_is : head_read h z ≡ structured_head bytes) where
+  pub asked_no_head : (i : Refusal) → h ≡ Err i → refused (number_of_refusal i) (index_of_refusal i) ≡ asked_of bytes
+  asked_no_head i q = rw (book_refused bytes (number_of_refusal i) (index_of_refusal i) (values_no_head bytes h z head_is i q)) refl
 
-  pub asked_no_book : (e : BookError) → r ≡ Err e → refused (number_of e) (index_of e) ≡ asked
-  asked_no_book e q = rw (book_refused bytes r z read_is e q) refl
+module _ (bytes : List ℕ) (x : Rust.Result BookState BookError) (values_are : values_in x ≡ take_up_res year_interface bytes) where
+  pub asked_no_book : (e : BookError) → x ≡ Err e → refused (number_of e) (index_of e) ≡ asked_of bytes
+  asked_no_book e q = rw (book_refused bytes (number_of e) (index_of e) (sym (ap values_in q) ∙ values_are)) refl
 
-  module _ (b : ReadBook) (q : r ≡ Ok b) where
-    abbrev n : ℕ
-    n = b.head
-
-    abbrev C : ReadContents bytes z n b.start
-    C = book_taken bytes r z read_is b q
-
-    pub asked_inside : n ≤ length bytes
-    asked_inside = C.inside
+  module _ (v : BookState) (accepted : x ≡ Ok v) (h : Rust.Result ℕ Refusal) (z : Zone) (head_is : head_read h z ≡ structured_head bytes) (n : ℕ) (read : h ≡ Ok n)
+      (given start : State) (start_is : start ≡ start_in given bytes) where
+    abbrev C : ReadContents bytes z n (start_in given bytes)
+    C = book_taken bytes (given_of v) (sym (ap values_in accepted) ∙ values_are) given h z head_is n read
 
     -- the temperatures that stand in the bytes are those of the plain book's hours
     same_temperatures : temperatures_in z (drop n bytes) ≡ map (λ x. operative_of z x.after.state.temps) C.es
@@ -93,5 +118,8 @@ module _ (bytes : List ℕ) (r : Rust.Result ReadBook BookError) (z : Zone) (rea
     hours_are h zone_is entries_are =
         rw (zone_is, entries_are, part_to_end bytes n, le-leb z.count most_elements C.few) same_temperatures
 
-    pub asked_yes : (t : Float) → t ≡ operative_of z b.start.temps → (h : Hours) → h.zone.now ≡ z → h.entries.now ≡ take (length bytes - n) (drop n bytes) → ok (t, hours_left h) ≡ asked
-    asked_yes t t_is h zone_is entries_are = rw (C.contents, t_is, hours_are h zone_is entries_are) refl
+    pub asked_yes : (t : Float) → t ≡ operative_of z start.temps → (h : Hours) → h.zone.now ≡ z → h.entries.now ≡ take (length bytes - n) (drop n bytes) → ok (t, hours_left h) ≡ asked_of bytes
+    asked_yes t t_is h zone_is entries_are = rw (C.contents, t_is, start_is, hours_are h zone_is entries_are) refl
+
+-- the ways out of `asked_book`
+pub ruleset asked_cases = (head_inside, asked_no_head, asked_no_book, asked_yes)

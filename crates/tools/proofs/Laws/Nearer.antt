@@ -1,11 +1,19 @@
--- The order of distances: `nearer` is transitive, and of two distances one of which is nearer than a third, so is the other where it is not behind the first.
+-- The distance by the library's `abs`, and the order of distances: `nearer` is transitive, and of two distances one of which is nearer than a third, so is
+-- the other where it is not behind the first.
 use mathlib.Core.Path.{◌≡◌, refl, sym, ◌∙◌}
 use mathlib.Core.Bool.{Bool, true, false, not, ◌&&◌, ◌||◌}
-use lib.Ieee.{Float, nan, inf, fin, is_nan, lt, le, eq}
+use lib.Ieee.{Float, nan, inf, fin, binary64, is_nan, lt, le, eq}
+use lib.Ieee.Fits.{sub-fits}
+use Rattle.std.specs.Float.{float_with_sign}
+use Rattle.solver.specs.F64.{◌-ᶠ◌}
+use Rattle.solver.proofs.Laws.Signs.{without_sign}
 use Rattle.solver.proofs.Laws.Order.{NoNan, below_no_nan, lt_trans, le_lt_trans, not_below, not_above, lt_irreflexive}
 use Rattle.zone.proofs.Promise.{and_true}
 use Rattle.book.proofs.Model.Laws.Bytes.{or_false, true_not_false}
-use Rattle.tools.specs.Questions.{nearer}
+use Rattle.tools.specs.Questions.{distance, nearer}
+
+pub distance_is : (value t : Float) → float_with_sign false (t -ᶠ value) ≡ distance value t
+distance_is value t = without_sign (t -ᶠ value) (sub-fits binary64 t value)
 
 -- the two ways to be nearer
 data IsNearer (a b : Float) : Type 0 where

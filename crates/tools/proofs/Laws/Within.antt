@@ -1,4 +1,4 @@
--- The number of hours within a band.
+-- Whether a temperature is within a band, and the number of hours within one.
 use Prim.Native.Nat.{ℕ, zero, suc, ◌+◌, ◌≤◌, ◌<◌}
 use mathlib.Core.Path.{◌≡◌, refl, sym, ap, ◌∙◌}
 use mathlib.Core.Bool.{Bool, true, false, cond}

@@ -1,8 +1,7 @@
-// The room and its hours, in bytes, place by place as the paper gives them: each room writes its own, to be read beside its rows. 20 m2 with a wall and
-// a window, operative temperature under control.
-use crate::zone_read::{NO_CONTROL, ZoneRead};
-use big_endian::write_f64s_be;
-use zone::State;
+// The room and its hours. 20 m2 with a wall and a window, operative temperature under control.
+use crate::bytes::{Element, Hour, Nodes, Part, head_of};
+use crate::zone_read::ZoneRead;
+use zone::{AirChangesPerHourArgument as Rates, State};
 
 // Bytes of its head, of an hour's conditions and of an entry.
 pub const HEAD: usize = 351;
@@ -36,57 +35,40 @@ pub const HEATING_SETPOINT: f64 = 21.0;
 pub const COOLING_SETPOINT: f64 = 24.0;
 
 // An element's part of an hour: external temperature, sun, shading.
-fn part(outside: f64, sun: f64) -> [f64; 5] {
+fn part(outside: f64, sun: f64) -> Part {
     [outside, sun, 0.5 * sun, 1.0, 1.0]
-}
-
-fn put_wall(b: &mut [u8; HEAD]) {
-    write_f64s_be(b, 59, &[12.0, 90.0, 20.0, 4.14, 5.13, 0.6, 15.0]);
-    write_f64s_be(b, 115, &[0.0, 0.0, 0.0, 0.0, 90000.0, 6.0, 3.0, 3.0, 6.0]);
-    write_f64s_be(b, 187, &part(20.0, 0.0));
-}
-
-fn put_window(b: &mut [u8; HEAD]) {
-    b[228] = 4;
-    write_f64s_be(b, 230, &[4.0, 90.0, 20.0, 4.14, 5.13, 0.0, 20.0]);
-    write_f64s_be(b, 286, &[0.0, 0.0, 1.5]);
-    write_f64s_be(b, 310, &part(20.0, 0.0));
 }
 
 // Length 347, version 1, operative basis, two elements, limit 1,000.
 pub fn head() -> [u8; HEAD] {
-    let mut b = [0; HEAD];
     let numbers = [0, 0, 1, 91, 1, 1, 2, 3, 232];
-    b[..9].copy_from_slice(&numbers);
-    write_f64s_be(&mut b, 9, &[20.0, 50.0, 2.0, 20.0, 22.0, NO_CONTROL]);
-    put_wall(&mut b);
-    put_window(&mut b);
-    b
+    let wall = Element {
+        values: [12.0, 90.0, 20.0, 4.14, 5.13, 0.6, 15.0],
+        nodes: Nodes::Five([0.0, 0.0, 0.0, 0.0, 90000.0, 6.0, 3.0, 3.0, 6.0]),
+        first_hour: part(20.0, 0.0),
+    };
+    let window = Element {
+        values: [4.0, 90.0, 20.0, 4.14, 5.13, 0.0, 20.0],
+        nodes: Nodes::Two([0.0, 0.0, 1.5]),
+        first_hour: part(20.0, 0.0),
+    };
+    head_of(numbers, [20.0, 50.0, 2.0, 20.0, 22.0], &[wall, window])
 }
 
 // An hour with this temperature outside, sun on the elements and gains inside; the target of the rates is that of open windows.
 fn conditions(outside: f64, sun: f64, gains: f64) -> [u8; CONDITIONS] {
-    let mut b = [0; CONDITIONS];
-    let front = [
-        1.0,
-        outside,
-        gains,
-        sun,
-        HEATING_FRACTION,
-        COOLING_FRACTION,
-        HEATING_SETPOINT,
-        COOLING_SETPOINT,
-        NO_CONTROL,
-        outside,
-        0.0,
-        0.0,
-    ];
-    write_f64s_be(&mut b, 0, &front);
-    b[96] = 1;
-    write_f64s_be(&mut b, 97, &[0.5, 0.5]);
-    write_f64s_be(&mut b, 113, &part(outside, sun));
-    write_f64s_be(&mut b, 154, &part(outside, sun));
-    b
+    let hour = Hour {
+        external: outside,
+        internal_gains: gains,
+        solar_gains: sun,
+        heating_fraction: HEATING_FRACTION,
+        cooling_fraction: COOLING_FRACTION,
+        supply: outside,
+        rates: Rates::TargetAndWindowsOpen(0.5, 0.5),
+        part: part(outside, sun),
+        ..Hour::of(HEATING_SETPOINT, COOLING_SETPOINT)
+    };
+    hour.bytes()
 }
 
 pub fn warm_hour() -> [u8; CONDITIONS] {

@@ -1,4 +1,4 @@
-// A room of six inner surfaces and its hours, in bytes, place by place as the paper gives them: each room writes its own, to be read beside its rows.
+// A room of six inner surfaces and its hours.
 //
 // Nothing passes the outer surfaces (their h_ce is 0), and it is 0 outside. So a surface takes up what the air gives it by
 // convection: k / 3600 (x - x0) = h_ci (y - x), x0 and x being the surface before and after the hour, y the air after it.
@@ -7,8 +7,7 @@
 // The air: 100 (y - y0) + bridges y + the sum of what it gives = the power, where 100 W/K are its capacity over the hour. The
 // bridges of each room make 100 + bridges + the sum of area h_ci / 2 = 144 W/K, so 144 y = 100 y0 + the sum of area h_ci x0 / 2
 // + the power.
-use crate::zone_read::NO_CONTROL;
-use big_endian::write_f64s_be;
+use crate::bytes::{Element, Hour, head_of};
 use std::num::f64_to_bits_with_nan;
 use zone::State;
 
@@ -17,10 +16,6 @@ pub const SURFACES: usize = 6;
 pub const HEAD: usize = 795;
 
 pub const CONDITIONS: usize = 359;
-
-const FIRST_SURFACE: usize = 57;
-
-const SURFACE_BYTES: usize = 123;
 
 // Two nodes for each surface, and the air.
 const NODES: usize = 2 * SURFACES + 1;
@@ -62,24 +57,12 @@ impl Surface {
 }
 
 impl Room {
-    // Length 791, version 1, air basis, six elements, limit 10. Of an element: kind, area, pitch, nothing outside, the chain; all
-    // else is 0.
+    // Length 791, version 1, air basis, six elements, limit 10.
     pub fn head(&self) -> [u8; HEAD] {
-        let mut b = [0; HEAD];
         let numbers = [0, 0, 3, 23, 1, 0, 6, 0, 10];
-        b[..9].copy_from_slice(&numbers);
-        write_f64s_be(
-            &mut b,
-            9,
-            &[36.0, 100.0, self.bridges, 0.0, 0.0, NO_CONTROL],
-        );
-        for (e, surface) in self.surfaces.iter().enumerate() {
-            let at = FIRST_SURFACE + SURFACE_BYTES * e;
-            b[at] = 4;
-            write_f64s_be(&mut b, at + 2, &[surface.area, surface.pitch]);
-            write_f64s_be(&mut b, at + 58, &[0.0, surface.k, 1.0]);
-        }
-        b
+        let floats = [36.0, 100.0, self.bridges, 0.0, 0.0];
+        let element = |s: Surface| Element::surface(s.area, s.pitch, 0.0, s.k);
+        head_of(numbers, floats, &self.surfaces.map(element))
     }
 
     // The outer surface has the inner one's temperature.
@@ -112,11 +95,5 @@ impl Room {
 
 // An hour with these setpoints, all power by convection; no gains, no sun, no ventilation.
 pub fn conditions_of(heat: f64, cool: f64) -> [u8; CONDITIONS] {
-    let mut b = [0; CONDITIONS];
-    let front = [
-        1.0, 0.0, 0.0, 0.0, 1.0, 1.0, heat, cool, NO_CONTROL, 0.0, 0.0, 0.0,
-    ];
-    write_f64s_be(&mut b, 0, &front);
-    b[96] = 1;
-    b
+    Hour::of(heat, cool).bytes()
 }

@@ -1,5 +1,5 @@
 // The rows about a book of House P.
-use crate::house_p::house::{ENTRY, HEAD, HOUSE_P, Hour};
+use crate::house_p::house::{ENTRY, HEAD, HOUSE_P, hour_of};
 use crate::limits::Meeting;
 use crate::refusal::Refusal;
 use crate::replies::{Counts, number_of, taken_up};
@@ -48,7 +48,7 @@ fn print_cuts(rt: &impl Print, book: &[u8; BOOK]) -> io::Result<()> {
 pub fn print_book(rt: &impl Print) -> anyhow::Result<()> {
     let head = HOUSE_P.head();
     let zone = ZoneRead::read(&head)?;
-    let conditions = Hour::of(21.0, 24.0).conditions();
+    let conditions = hour_of(21.0, 24.0).conditions();
     let mut book = [0; BOOK];
     let begun = zone.begin(&mut book);
     print_used(rt, "begin", begun, 0, HEAD)?;

@@ -4,7 +4,8 @@
 // to the surface. Air: (100 + 43.0625) y + 2.5 (y - x) = A, where 100 W/K are its capacity over the hour and 43.0625 W/K the
 // bridges. Inner surface: 4 x = 2.5 y + B. So 144 y = A + 0.625 B and x = 0.625 y + 0.25 B; the outer surface lies halfway
 // from 20 to the inner one. All power by convection: 144 W for a degree of the air.
-use crate::house_p::house::{HOUSE_P, Hour, start};
+use crate::bytes::Hour;
+use crate::house_p::house::{HOUSE_P, hour_of, start};
 use crate::house_p::met::{Detail, Met, print_hour};
 use crate::limits::{MOST, Meeting};
 use crate::table::{holds, shown};
@@ -59,7 +60,7 @@ fn print_heated(rt: &impl Print, zone: &ZoneRead) -> anyhow::Result<()> {
     print_rows(
         rt,
         zone,
-        Hour::of(21.0, 24.0),
+        hour_of(21.0, 24.0),
         ASKED,
         0.0,
         &[
@@ -120,7 +121,7 @@ fn print_cooled(rt: &impl Print, zone: &ZoneRead) -> anyhow::Result<()> {
     print_rows(
         rt,
         zone,
-        Hour::of(15.0, 19.0),
+        hour_of(15.0, 19.0),
         0.0,
         -ASKED,
         &[
@@ -188,7 +189,7 @@ fn print_shares(rt: &impl Print, zone: &ZoneRead) -> anyhow::Result<()> {
         heating_fraction: 0.5,
         convective: 48.0,
         radiative: 12.0,
-        ..Hour::of(21.0, 24.0)
+        ..hour_of(21.0, 24.0)
     };
     println!(rt; "with other gains of 48 and 12 W, heating fraction 0.5, heating limit 12 W")?;
     let conditions = heated.conditions();
@@ -206,7 +207,7 @@ fn print_shares(rt: &impl Print, zone: &ZoneRead) -> anyhow::Result<()> {
         cooling_fraction: 0.5,
         convective: -48.0,
         radiative: -12.0,
-        ..Hour::of(15.0, 19.0)
+        ..hour_of(15.0, 19.0)
     };
     println!(rt; "with -48 and -12 W, cooling fraction 0.5, cooling limit 12 W")?;
     let conditions = cooled.conditions();
@@ -228,7 +229,7 @@ fn print_no_power(rt: &impl Print, zone: &ZoneRead) -> anyhow::Result<()> {
     let hour = Hour {
         convective: -0.0,
         radiative: -0.0,
-        ..Hour::of(20.0, 24.0)
+        ..hour_of(20.0, 24.0)
     };
     let title = "setpoints 20/24, both limits -0.0: nothing is delivered";
     let rows = [(title, Meeting::limited(-0.0, -0.0), 0.0, NoMore)];
@@ -240,7 +241,7 @@ fn print_earlier(rt: &impl Print, zone: &ZoneRead) -> anyhow::Result<()> {
     print_rows(
         rt,
         zone,
-        Hour::of(21.0, 24.0),
+        hour_of(21.0, 24.0),
         ASKED,
         0.0,
         &[

@@ -5,7 +5,8 @@
 // equations from balance). The surface's area is all there is, so the operative temperature is the mean of y and x. Every
 // number here is a float, and so is every step to it.
 use crate::answers::{above, nearest, within};
-use crate::house_p::house::{ENTRY, HEAD, HOUSE_P, Hour};
+use crate::bytes::Hour;
+use crate::house_p::house::{ENTRY, HEAD, HOUSE_P, hour_of};
 use crate::limits::{MOST as MOST_POWER, Meeting};
 use crate::refusal::{Cause, Refusal};
 use crate::zone_read::ZoneRead;
@@ -47,7 +48,7 @@ fn hour_to(
     let before = 100.0 * (temps[2] - 20.0) + 0.625 * (temps[1] - 20.0);
     let hour = Hour {
         convective: 144.0 * (air - 20.0) - before,
-        ..Hour::of(-100.0, 100.0)
+        ..hour_of(-100.0, 100.0)
     };
     let meeting = Meeting::with(version, MOST_POWER, MOST_POWER);
     zone.append(given, &hour.conditions(), meeting, book).values

@@ -1,5 +1,6 @@
 // The rows of document 01's section "House P".
-use crate::house_p::house::{HOUSE_P, Hour, SINGULAR, start};
+use crate::bytes::Hour;
+use crate::house_p::house::{HOUSE_P, SINGULAR, hour_of, start};
 use crate::refusal::Cause;
 use crate::replies::number_of;
 use crate::table::{row, value};
@@ -21,7 +22,7 @@ fn print_start_up(rt: &impl Print, zone: &ZoneRead) -> anyhow::Result<()> {
 }
 
 fn print_free(rt: &impl Print, zone: &ZoneRead) -> anyhow::Result<()> {
-    let conditions = Hour::of(20.0, 24.0).conditions();
+    let conditions = hour_of(20.0, 24.0).conditions();
     let (after, _) = zone.update(start(), &conditions, 0.0, 0.0, 0.0)?;
     row(rt, "free temperatures, nodes", after.nodes, 3)?;
     print_temps(rt, after)?;
@@ -51,21 +52,21 @@ fn print_demands(rt: &impl Print, zone: &ZoneRead) -> anyhow::Result<()> {
     print_demand(
         rt,
         zone,
-        Hour::of(20.0, 24.0),
+        hour_of(20.0, 24.0),
         ("setpoints 20/24, heating", 0.0, "0"),
         ("setpoints 20/24, cooling", 0.0, "0"),
     )?;
     print_demand(
         rt,
         zone,
-        Hour::of(21.0, 24.0),
+        hour_of(21.0, 24.0),
         ("setpoints 21/24, heating", 144.0 / 1000.0, "144/1000"),
         ("setpoints 21/24, cooling", 0.0, "0"),
     )?;
     print_demand(
         rt,
         zone,
-        Hour::of(15.0, 19.0),
+        hour_of(15.0, 19.0),
         ("setpoints 15/19, heating", 0.0, "0"),
         ("setpoints 15/19, cooling", -144.0 / 1000.0, "-144/1000"),
     )
@@ -95,14 +96,14 @@ pub fn print_zone(rt: &impl Print) -> anyhow::Result<()> {
         rt,
         "setpoints 22/21, refusal",
         &zone,
-        Hour::of(22.0, 21.0),
+        hour_of(22.0, 21.0),
         Cause::CoolingBelowHeating,
     )?;
     print_refused(
         rt,
         "no capacity, no loss, refusal",
         &ZoneRead::read(&SINGULAR.head())?,
-        Hour::of(20.0, 24.0),
+        hour_of(20.0, 24.0),
         Cause::Divisor,
     )?;
     Ok(())

@@ -1,7 +1,8 @@
 // A row for an hour of a room: its reason and its load, and those expected.
+use crate::bytes::Hour;
 use crate::refusal::{Answer, Refusal};
 use crate::table::row;
-use crate::why::room::{Hour, Room};
+use crate::why::room::Room;
 use crate::zone_read::ZoneRead;
 use std::fmt::{self, Display};
 use std::io;

@@ -1,6 +1,6 @@
 // Setpoints are held against the air's temperature or the operative one, the supply against the air's by either basis. Free air is 27.
 use crate::why::answers::print_why;
-use crate::why::room::{Hour, Room};
+use crate::why::room::{Room, hour_of};
 use zone::Load::{Cooling, Neither};
 use zone::Reason::{
     NoChoice, NotAboveSupply, NotAboveVentilationSetpoint, StillAboveCoolingSetpoint, WindowsEnough,
@@ -9,10 +9,10 @@ use zone::ZoneTemperatureControlBasis::{Air, Operative};
 
 // The operative temperature is (35 + 3 y) / 4: free 29, with one air change 26, with the windows open 23.
 fn print_warm_surface(rt: &impl Print) -> anyhow::Result<()> {
-    let higher = Hour::of(18.0, 30.0, 28.0);
-    let lower = Hour::of(18.0, 22.0, 20.0);
-    let between = Hour::of(18.0, 25.0, 26.0);
-    let fixed = Hour::of(18.0, 28.0, 23.0).with_fixed_rate(0.0);
+    let higher = hour_of(18.0, 30.0, 28.0);
+    let lower = hour_of(18.0, 22.0, 20.0);
+    let between = hour_of(18.0, 25.0, 26.0);
+    let fixed = hour_of(18.0, 28.0, 23.0).with_fixed_rate(0.0);
     println!(rt; "surface at 35 and air at 19; setpoints of heating, cooling and ventilation")?;
     for (asked, basis, hour, reason, load) in [
         (
@@ -73,8 +73,8 @@ fn print_warm_surface(rt: &impl Print) -> anyhow::Result<()> {
 
 // Free air is held against the supply by either basis: 27 here, where the operative temperature is 29, and 27 there, where it is 25.
 fn print_supply_between(rt: &impl Print) -> anyhow::Result<()> {
-    let here = Hour::of(18.0, 30.0, 24.0).with_supply(28.0);
-    let there = Hour::of(18.0, 24.75, 24.0).with_supply(26.0);
+    let here = hour_of(18.0, 30.0, 24.0).with_supply(28.0);
+    let there = hour_of(18.0, 24.75, 24.0).with_supply(26.0);
     println!(rt; "the same, supply 28")?;
     for (asked, basis) in [
         ("  18/30/24, by air", Air),

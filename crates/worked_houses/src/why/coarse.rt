@@ -5,8 +5,9 @@
 // Its capacity over the hour is one unit, and each air change an hour is one: y = y0 / n, where n is 1 + the rate in whole units. From
 // 32, with a supply at 0, it is free at 32, and with the windows open, rate 3, at 8. Half of the way is 20, for which the rate found is
 // 0.6: 1.6 units are counted as 2, and found is 16.
+use crate::bytes::Hour;
 use crate::why::answers::print_hours;
-use crate::why::room::{Hour, Room};
+use crate::why::room::{Room, hour_of};
 use crate::why::temperatures::print_rows;
 use zone::Load::{Heating, Neither};
 use zone::Reason::WindowsEnough;
@@ -33,7 +34,7 @@ fn huge_surface(air: f64) -> Room {
 }
 
 fn windows(heat: f64, cool: f64, vent: f64) -> Hour {
-    Hour::of(heat, cool, vent)
+    hour_of(heat, cool, vent)
         .with_supply(0.0)
         .with_rates(0.0, 3.0)
 }

@@ -1,6 +1,6 @@
 // The last two reasons, which go by the temperature at the rate found. More of them: close.rt, coarse.rt.
 use crate::why::answers::print_hours;
-use crate::why::room::{Hour, Room};
+use crate::why::room::{Room, hour_of};
 use zone::Load::{Cooling, Neither};
 use zone::Reason::{StillAboveCoolingSetpoint, WindowsEnough};
 use zone::ZoneTemperatureControlBasis::Air;
@@ -19,13 +19,13 @@ fn print_still_above(rt: &impl Print) -> anyhow::Result<()> {
         &[
             (
                 "  setpoints 18/22",
-                Hour::of(18.0, 22.0, 23.0),
+                hour_of(18.0, 22.0, 23.0),
                 StillAboveCoolingSetpoint,
                 Cooling,
             ),
             (
                 "  21/22",
-                Hour::of(21.0, 22.0, 23.0),
+                hour_of(21.0, 22.0, 23.0),
                 StillAboveCoolingSetpoint,
                 Cooling,
             ),
@@ -37,7 +37,7 @@ fn print_still_above(rt: &impl Print) -> anyhow::Result<()> {
         Room::warm(),
         &[(
             "  18/18.75",
-            Hour::of(18.0, 18.75, 18.5),
+            hour_of(18.0, 18.75, 18.5),
             StillAboveCoolingSetpoint,
             Cooling,
         )],
@@ -53,40 +53,20 @@ fn print_windows_enough(rt: &impl Print) -> anyhow::Result<()> {
         &[
             (
                 "  setpoints 18/25",
-                Hour::of(18.0, 25.0, 23.0),
+                hour_of(18.0, 25.0, 23.0),
                 WindowsEnough,
                 Neither,
             ),
-            (
-                "  18/23",
-                Hour::of(18.0, 23.0, 23.0),
-                WindowsEnough,
-                Neither,
-            ),
-            (
-                "  23/25",
-                Hour::of(23.0, 25.0, 23.0),
-                WindowsEnough,
-                Neither,
-            ),
-            (
-                "  18/28",
-                Hour::of(18.0, 28.0, 23.0),
-                WindowsEnough,
-                Neither,
-            ),
+            ("  18/23", hour_of(18.0, 23.0, 23.0), WindowsEnough, Neither),
+            ("  23/25", hour_of(23.0, 25.0, 23.0), WindowsEnough, Neither),
+            ("  18/28", hour_of(18.0, 28.0, 23.0), WindowsEnough, Neither),
         ],
     )?;
     print_hours(
         rt,
         "ventilation setpoint 18.5, found 19 with the windows open",
         Room::warm(),
-        &[(
-            "  18/25",
-            Hour::of(18.0, 25.0, 18.5),
-            WindowsEnough,
-            Neither,
-        )],
+        &[("  18/25", hour_of(18.0, 25.0, 18.5), WindowsEnough, Neither)],
     )
 }
 
@@ -99,13 +79,13 @@ fn print_gains(rt: &impl Print) -> anyhow::Result<()> {
         &[
             (
                 "  setpoints 18/25",
-                Hour::of(18.0, 25.0, 23.0).with_gains(1600.0),
+                hour_of(18.0, 25.0, 23.0).with_gains(1600.0),
                 WindowsEnough,
                 Neither,
             ),
             (
                 "  18/22",
-                Hour::of(18.0, 22.0, 23.0).with_gains(1600.0),
+                hour_of(18.0, 22.0, 23.0).with_gains(1600.0),
                 StillAboveCoolingSetpoint,
                 Cooling,
             ),

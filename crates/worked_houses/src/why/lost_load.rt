@@ -4,75 +4,69 @@
 // gains take 10 MW. It is free at 21, above its cooling setpoint of 20, so cooling is tried: 10 W for each square metre, some 1e-9 W,
 // are lost among the gains, and what rounding leaves of the two temperatures' difference decides the sign of the demand. With twice the
 // useful area the same hours are cooled.
-use crate::house_p::house::{CONDITIONS, HEAD, Hour, House};
+use crate::bytes::Hour;
+use crate::house_p::house::{HOUSE_P, House, hour_of};
 use crate::why::answers::{Because, why};
 use crate::why::room::NODES;
 use crate::zone_read::ZoneRead;
-use big_endian::{write_f64_be, write_f64s_be};
 use zone::Load::{self, Cooling, Heating};
 use zone::Reason::{NotAboveSupply, StillAboveCoolingSetpoint, WindowsDoNotCool};
-use zone::State;
+use zone::{AirChangesPerHourArgument as Rates, State, ZoneTemperatureControlBasis as Basis};
 
 const USEFUL_AREA: f64 = 5e-11;
 
 // By operative temperature, with 1 m3 of air and a window of 0.01 m2.
-fn house(useful_area: f64) -> [u8; HEAD] {
-    let house = House {
-        k_inner: 3600.0,
-        h_ce: 1.0,
+fn house(useful_area: f64) -> House {
+    House {
+        basis: Basis::Operative,
+        area: 0.01,
+        volume: 1.0,
         bridges: 0.1,
         useful_area,
-    };
-    let mut b = house.head();
-    b[5] = 1;
-    write_f64_be(&mut b, 17, 1.0);
-    write_f64_be(&mut b, 59, 0.01);
-    b
+        ..HOUSE_P
+    }
 }
 
 // Ventilation setpoint 20.8.
-fn conditions(supply: f64, target: f64, open: f64) -> [u8; CONDITIONS] {
-    let hour = Hour {
+fn hour(supply: f64, target: f64, open: f64) -> Hour {
+    Hour {
+        internal_gains: -1e7,
+        vent: 20.8,
+        supply,
         convective: 4e6,
         radiative: 6e6,
-        ..Hour::of(5.0, 20.0)
-    };
-    let gains_internal = -1e7;
-    let mut b = hour.conditions();
-    write_f64_be(&mut b, 16, gains_internal);
-    write_f64s_be(&mut b, 64, &[20.8, supply]);
-    b[96] = 1;
-    write_f64s_be(&mut b, 97, &[target, open]);
-    b
+        rates: Rates::TargetAndWindowsOpen(target, open),
+        ..hour_of(5.0, 20.0)
+    }
 }
 
 fn print_loads(rt: &impl Print, title: &str, useful_area: f64, load: Load) -> anyhow::Result<()> {
-    let head = house(useful_area);
+    let head = house(useful_area).head();
     let zone = ZoneRead::read(&head)?;
     let before = State {
         nodes: NODES,
         temps: [26.0; 121],
     };
     println!(rt; "{title}")?;
-    for (asked, conditions, reason) in [
+    for (asked, hour, reason) in [
         (
             "  supply 40, rates 0 and 1",
-            conditions(40.0, 0.0, 1.0),
+            hour(40.0, 0.0, 1.0),
             NotAboveSupply,
         ),
         (
             "  supply 10, rates 0.001 and 0",
-            conditions(10.0, 0.001, 0.0),
+            hour(10.0, 0.001, 0.0),
             WindowsDoNotCool,
         ),
         (
             "  supply 10, rates 0 and 1",
-            conditions(10.0, 0.0, 1.0),
+            hour(10.0, 0.0, 1.0),
             StillAboveCoolingSetpoint,
         ),
     ] {
         let expected = Ok(Because(reason, load));
-        why(rt, asked, &zone, before, &conditions, expected)?;
+        why(rt, asked, &zone, before, &hour.conditions(), expected)?;
     }
     Ok(())
 }

@@ -1,7 +1,7 @@
 // Hours of the room at 27 for which two reasons hold or more: the earliest is named. Free is 27 and with the windows open 19, if
 // nothing else is said.
 use crate::why::answers::print_hours;
-use crate::why::room::{Hour, Room};
+use crate::why::room::{Room, hour_of};
 use crate::zone_read::NO_CONTROL;
 use zone::Load::{Cooling, Neither};
 use zone::Reason::{NoChoice, NotAboveSupply, NotAboveVentilationSetpoint, WindowsDoNotCool};
@@ -15,19 +15,19 @@ fn print_no_choice_first(rt: &impl Print) -> anyhow::Result<()> {
         &[
             (
                 "  and free not above setpoint",
-                Hour::of(18.0, 25.0, NO_CONTROL).with_fixed_rate(0.0),
+                hour_of(18.0, 25.0, NO_CONTROL).with_fixed_rate(0.0),
                 NoChoice,
                 Cooling,
             ),
             (
                 "  and not above setpoint, 2 and 2",
-                Hour::of(18.0, 25.0, 21.0).with_rates(2.0, 2.0),
+                hour_of(18.0, 25.0, 21.0).with_rates(2.0, 2.0),
                 NoChoice,
                 Neither,
             ),
             (
                 "  and free air not above supply",
-                Hour::of(18.0, 25.0, 23.0)
+                hour_of(18.0, 25.0, 23.0)
                     .with_supply(30.0)
                     .with_fixed_rate(0.0),
                 NoChoice,
@@ -35,13 +35,13 @@ fn print_no_choice_first(rt: &impl Print) -> anyhow::Result<()> {
             ),
             (
                 "  and windows do not cool",
-                Hour::of(18.0, 25.0, 20.0).with_rates(2.0, 2.0),
+                hour_of(18.0, 25.0, 20.0).with_rates(2.0, 2.0),
                 NoChoice,
                 Neither,
             ),
             (
                 "  and still above",
-                Hour::of(18.0, 20.5, 20.0).with_rates(2.0, 2.0),
+                hour_of(18.0, 20.5, 20.0).with_rates(2.0, 2.0),
                 NoChoice,
                 Cooling,
             ),
@@ -57,25 +57,25 @@ fn print_setpoint_first(rt: &impl Print) -> anyhow::Result<()> {
         &[
             (
                 "  and free air not above supply",
-                Hour::of(18.0, 28.0, 27.0).with_supply(30.0),
+                hour_of(18.0, 28.0, 27.0).with_supply(30.0),
                 NotAboveVentilationSetpoint,
                 Neither,
             ),
             (
                 "  and windows do not cool",
-                Hour::of(18.0, 25.0, 19.0).with_rates(4.0, 0.0),
+                hour_of(18.0, 25.0, 19.0).with_rates(4.0, 0.0),
                 NotAboveVentilationSetpoint,
                 Neither,
             ),
             (
                 "  and both of these",
-                Hour::of(18.0, 28.0, 27.0).with_supply(27.0),
+                hour_of(18.0, 28.0, 27.0).with_supply(27.0),
                 NotAboveVentilationSetpoint,
                 Neither,
             ),
             (
                 "  and still above",
-                Hour::of(18.0, 26.0, 27.0),
+                hour_of(18.0, 26.0, 27.0),
                 NotAboveVentilationSetpoint,
                 Cooling,
             ),
@@ -92,13 +92,13 @@ fn print_supply_first(rt: &impl Print) -> anyhow::Result<()> {
         &[
             (
                 "  and windows do not cool",
-                Hour::of(18.0, 29.0, 23.0).with_supply(33.0),
+                hour_of(18.0, 29.0, 23.0).with_supply(33.0),
                 NotAboveSupply,
                 Neither,
             ),
             (
                 "  and they do, and still above",
-                Hour::of(18.0, 30.0, 23.0)
+                hour_of(18.0, 30.0, 23.0)
                     .with_supply(39.0)
                     .with_rates(4.0, 0.0),
                 NotAboveSupply,
@@ -106,7 +106,7 @@ fn print_supply_first(rt: &impl Print) -> anyhow::Result<()> {
             ),
             (
                 "  and they do, and enough",
-                Hour::of(18.0, 36.0, 23.0)
+                hour_of(18.0, 36.0, 23.0)
                     .with_supply(39.0)
                     .with_rates(4.0, 0.0),
                 NotAboveSupply,
@@ -125,19 +125,19 @@ fn print_windows_first(rt: &impl Print) -> anyhow::Result<()> {
         &[
             (
                 "  and still above, 2 and 1",
-                Hour::of(18.0, 20.5, 20.0).with_rates(2.0, 1.0),
+                hour_of(18.0, 20.5, 20.0).with_rates(2.0, 1.0),
                 WindowsDoNotCool,
                 Cooling,
             ),
             (
                 "  and still above, 0 and 5e-324",
-                Hour::of(18.0, 26.0, 23.0).with_rates(0.0, 5e-324),
+                hour_of(18.0, 26.0, 23.0).with_rates(0.0, 5e-324),
                 WindowsDoNotCool,
                 Cooling,
             ),
             (
                 "  and enough, 2 and 1",
-                Hour::of(18.0, 25.0, 20.0).with_rates(2.0, 1.0),
+                hour_of(18.0, 25.0, 20.0).with_rates(2.0, 1.0),
                 WindowsDoNotCool,
                 Neither,
             ),

@@ -1,6 +1,6 @@
 // The first four reasons, which no rate has to be found for, with each load that can stand beside them.
 use crate::why::answers::print_hours;
-use crate::why::room::{Hour, Room};
+use crate::why::room::{Room, hour_of};
 use crate::zone_read::NO_CONTROL;
 use zone::Load::{Cooling, Heating, Neither};
 use zone::Reason::{
@@ -17,19 +17,19 @@ fn print_no_choice(rt: &impl Print) -> anyhow::Result<()> {
         &[
             (
                 "  setpoints 18/25",
-                Hour::of(18.0, 25.0, 23.0).with_fixed_rate(0.0),
+                hour_of(18.0, 25.0, 23.0).with_fixed_rate(0.0),
                 NoChoice,
                 Cooling,
             ),
             (
                 "  18/28",
-                Hour::of(18.0, 28.0, 23.0).with_fixed_rate(0.0),
+                hour_of(18.0, 28.0, 23.0).with_fixed_rate(0.0),
                 NoChoice,
                 Neither,
             ),
             (
                 "  28/30, ventilation 30",
-                Hour::of(28.0, 30.0, 30.0).with_fixed_rate(0.0),
+                hour_of(28.0, 30.0, 30.0).with_fixed_rate(0.0),
                 NoChoice,
                 Heating,
             ),
@@ -42,19 +42,19 @@ fn print_no_choice(rt: &impl Print) -> anyhow::Result<()> {
         &[
             (
                 "  18/18.5",
-                Hour::of(18.0, 18.5, 18.5).with_rates(4.0, 4.0),
+                hour_of(18.0, 18.5, 18.5).with_rates(4.0, 4.0),
                 NoChoice,
                 Cooling,
             ),
             (
                 "  18/25",
-                Hour::of(18.0, 25.0, 18.5).with_rates(4.0, 4.0),
+                hour_of(18.0, 25.0, 18.5).with_rates(4.0, 4.0),
                 NoChoice,
                 Neither,
             ),
             (
                 "  20/25",
-                Hour::of(20.0, 25.0, 23.0).with_rates(4.0, 4.0),
+                hour_of(20.0, 25.0, 23.0).with_rates(4.0, 4.0),
                 NoChoice,
                 Heating,
             ),
@@ -71,19 +71,19 @@ fn print_zeros(rt: &impl Print) -> anyhow::Result<()> {
         &[
             (
                 "  0.0 and -0.0",
-                Hour::of(18.0, 25.0, 23.0).with_rates(0.0, -0.0),
+                hour_of(18.0, 25.0, 23.0).with_rates(0.0, -0.0),
                 NoChoice,
                 Cooling,
             ),
             (
                 "  -0.0 and 0.0",
-                Hour::of(18.0, 25.0, 23.0).with_rates(-0.0, 0.0),
+                hour_of(18.0, 25.0, 23.0).with_rates(-0.0, 0.0),
                 NoChoice,
                 Cooling,
             ),
             (
                 "  -0.0, fixed",
-                Hour::of(18.0, 25.0, 23.0).with_fixed_rate(-0.0),
+                hour_of(18.0, 25.0, 23.0).with_fixed_rate(-0.0),
                 NoChoice,
                 Cooling,
             ),
@@ -99,31 +99,31 @@ fn print_not_above_setpoint(rt: &impl Print) -> anyhow::Result<()> {
         &[
             (
                 "  setpoints 18/25",
-                Hour::of(18.0, 25.0, 27.0),
+                hour_of(18.0, 25.0, 27.0),
                 NotAboveVentilationSetpoint,
                 Cooling,
             ),
             (
                 "  18/28",
-                Hour::of(18.0, 28.0, 27.0),
+                hour_of(18.0, 28.0, 27.0),
                 NotAboveVentilationSetpoint,
                 Neither,
             ),
             (
                 "  28/30, ventilation 28",
-                Hour::of(28.0, 30.0, 28.0),
+                hour_of(28.0, 30.0, 28.0),
                 NotAboveVentilationSetpoint,
                 Heating,
             ),
             (
                 "  18/25, no ventilation setpoint",
-                Hour::of(18.0, 25.0, NO_CONTROL),
+                hour_of(18.0, 25.0, NO_CONTROL),
                 NotAboveVentilationSetpoint,
                 Cooling,
             ),
             (
                 "  18/28, the float below 27",
-                Hour::of(18.0, 28.0, BELOW_27),
+                hour_of(18.0, 28.0, BELOW_27),
                 WindowsEnough,
                 Neither,
             ),
@@ -139,13 +139,13 @@ fn print_not_above_supply(rt: &impl Print) -> anyhow::Result<()> {
         &[
             (
                 "  setpoints 18/25",
-                Hour::of(18.0, 25.0, 23.0).with_supply(27.0),
+                hour_of(18.0, 25.0, 23.0).with_supply(27.0),
                 NotAboveSupply,
                 Cooling,
             ),
             (
                 "  18/28",
-                Hour::of(18.0, 28.0, 23.0).with_supply(27.0),
+                hour_of(18.0, 28.0, 23.0).with_supply(27.0),
                 NotAboveSupply,
                 Neither,
             ),
@@ -158,13 +158,13 @@ fn print_not_above_supply(rt: &impl Print) -> anyhow::Result<()> {
         &[
             (
                 "  18/25",
-                Hour::of(18.0, 25.0, 23.0).with_supply(30.0),
+                hour_of(18.0, 25.0, 23.0).with_supply(30.0),
                 NotAboveSupply,
                 Cooling,
             ),
             (
                 "  18/28",
-                Hour::of(18.0, 28.0, 23.0).with_supply(30.0),
+                hour_of(18.0, 28.0, 23.0).with_supply(30.0),
                 NotAboveSupply,
                 Neither,
             ),
@@ -181,13 +181,13 @@ fn print_windows_do_not_cool(rt: &impl Print) -> anyhow::Result<()> {
         &[
             (
                 "  setpoints 18/18.75",
-                Hour::of(18.0, 18.75, 18.5).with_rates(4.0, 0.0),
+                hour_of(18.0, 18.75, 18.5).with_rates(4.0, 0.0),
                 WindowsDoNotCool,
                 Cooling,
             ),
             (
                 "  18/25",
-                Hour::of(18.0, 25.0, 18.5).with_rates(4.0, 0.0),
+                hour_of(18.0, 25.0, 18.5).with_rates(4.0, 0.0),
                 WindowsDoNotCool,
                 Neither,
             ),
@@ -200,13 +200,13 @@ fn print_windows_do_not_cool(rt: &impl Print) -> anyhow::Result<()> {
         &[
             (
                 "  18/25",
-                Hour::of(18.0, 25.0, 23.0).with_rates(0.0, 5e-324),
+                hour_of(18.0, 25.0, 23.0).with_rates(0.0, 5e-324),
                 WindowsDoNotCool,
                 Cooling,
             ),
             (
                 "  18/28",
-                Hour::of(18.0, 28.0, 23.0).with_rates(0.0, 5e-324),
+                hour_of(18.0, 28.0, 23.0).with_rates(0.0, 5e-324),
                 WindowsDoNotCool,
                 Neither,
             ),

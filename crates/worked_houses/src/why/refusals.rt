@@ -1,8 +1,9 @@
 // Hours that the demand refuses, each asked for its demand and for its reason: the same number and index, before any reason.
+use crate::bytes::{CONDITIONS, Hour};
 use crate::refusal::{Answer, Cause, Refusal};
 use crate::table::row;
 use crate::why::answers::why;
-use crate::why::room::{CONDITIONS, Hour, Room};
+use crate::why::room::{Room, hour_of};
 use crate::zone_read::ZoneRead;
 use big_endian::write_f64_be;
 use std::io;
@@ -48,7 +49,7 @@ fn print_conditions(
 }
 
 fn usual() -> Hour {
-    Hour::of(18.0, 25.0, 23.0)
+    hour_of(18.0, 25.0, 23.0)
 }
 
 // The room's zone with another useful area and so many elements, and a node too few. A zone that its record makes bad is
@@ -161,8 +162,8 @@ fn print_state_and_conditions(rt: &impl Print) -> anyhow::Result<()> {
 // Each with a fixed rate too, where there is no choice whatever the temperatures are.
 fn print_setpoints(rt: &impl Print) -> anyhow::Result<()> {
     let warm = Room::warm();
-    let crossed = Hour::of(26.0, 25.0, 26.0);
-    let vent_below = Hour::of(24.0, 25.0, 23.0);
+    let crossed = hour_of(26.0, 25.0, 26.0);
+    let vent_below = hour_of(24.0, 25.0, 23.0);
     print_hours(
         rt,
         &[
@@ -226,25 +227,25 @@ fn print_no_effect(rt: &impl Print) -> anyhow::Result<()> {
             (
                 "heating without effect: no choice of rates",
                 room,
-                Hour::of(22.0, 25.0, 23.0).with_fixed_rate(1.0),
+                hour_of(22.0, 25.0, 23.0).with_fixed_rate(1.0),
                 Cause::NoEffect,
             ),
             (
                 "cooling without effect: no choice of rates",
                 room,
-                Hour::of(18.0, 20.0, 23.0).with_fixed_rate(1.0),
+                hour_of(18.0, 20.0, 23.0).with_fixed_rate(1.0),
                 Cause::NoEffect,
             ),
             (
                 "free not above ventilation setpoint",
                 room,
-                Hour::of(18.0, 20.0, 23.0).with_rates(1.0, 4.0),
+                hour_of(18.0, 20.0, 23.0).with_rates(1.0, 4.0),
                 Cause::NoEffect,
             ),
             (
                 "still above",
                 room,
-                Hour::of(10.0, 17.0, 20.0).with_rates(1.0, 4.0),
+                hour_of(10.0, 17.0, 20.0).with_rates(1.0, 4.0),
                 Cause::NoEffect,
             ),
         ],

@@ -1,4 +1,4 @@
-// A room with one surface and its hours, in bytes, place by place as the paper gives them: each room writes its own, to be read beside its rows.
+// A room with one surface and its hours.
 //
 // Nothing passes the outer surface (its h_ce is 0). The inner one takes up what the air gives it: k / 3600 (x - x0) = h_ci (y - x),
 // x0 and x being the surface before and after the hour, y the air after it. Its k is 3600 h_ci, so x = (x0 + y) / 2, midway, and
@@ -9,13 +9,10 @@
 //
 // In the rooms of these rows x0 + y0 + g / 80 is 54, if nothing else is said. With a supply at 15 their air is at 27 after an hour
 // without ventilation, at 23 with one air change, at 21 with two and at 19 with four.
-use crate::zone_read::NO_CONTROL;
-use big_endian::write_f64s_be;
+use crate::bytes::{Element, Hour, head_of};
 use zone::{AirChangesPerHourArgument as Rates, State, ZoneTemperatureControlBasis as Basis};
 
 pub const HEAD: usize = 180;
-
-pub const CONDITIONS: usize = 154;
 
 // Two nodes for the surface, and the air.
 pub const NODES: usize = 3;
@@ -55,17 +52,12 @@ impl Room {
         Room::at(Basis::Air, 27.0, 27.0)
     }
 
-    // Length 176, version 1, one element, limit 10. Of the element: kind, area, pitch 90, the chain; all else is 0.
+    // Length 176, version 1, one element, limit 10.
     pub fn head(self) -> [u8; HEAD] {
-        let mut b = [0; HEAD];
         let numbers = [0, 0, 0, 176, 1, self.basis as u8, 1, 0, 10];
-        b[..9].copy_from_slice(&numbers);
-        let front = [self.useful_area, self.volume, 0.0, 0.0, 0.0, NO_CONTROL];
-        write_f64s_be(&mut b, 9, &front);
-        b[57] = 4;
-        write_f64s_be(&mut b, 59, &[self.area, 90.0]);
-        write_f64s_be(&mut b, 115, &[0.0, self.k, 1.0]);
-        b
+        let floats = [self.useful_area, self.volume, 0.0, 0.0, 0.0];
+        let element = Element::surface(self.area, 90.0, 0.0, self.k);
+        head_of(numbers, floats, &[element])
     }
 
     // The outer surface has the inner one's temperature.
@@ -81,29 +73,17 @@ impl Room {
     }
 }
 
-#[derive(Clone, Copy)]
-pub struct Hour {
-    heat: f64,
-    cool: f64,
-    vent: f64,
-    supply: f64,
-    rates: Rates,
-    gains: f64,
+// Supply at 15, no ventilation or, with the windows open, four air changes; no gains but those of other systems, no sun.
+pub fn hour_of(heat: f64, cool: f64, vent: f64) -> Hour {
+    Hour {
+        vent,
+        supply: 15.0,
+        rates: Rates::TargetAndWindowsOpen(0.0, 4.0),
+        ..Hour::of(heat, cool)
+    }
 }
 
 impl Hour {
-    // Supply at 15, no ventilation or, with the windows open, four air changes.
-    pub fn of(heat: f64, cool: f64, vent: f64) -> Hour {
-        Hour {
-            heat,
-            cool,
-            vent,
-            supply: 15.0,
-            rates: Rates::TargetAndWindowsOpen(0.0, 4.0),
-            gains: 0.0,
-        }
-    }
-
     // The cooling setpoint lower by so much.
     pub fn cooled_below(self, difference: f64) -> Hour {
         Hour {
@@ -131,33 +111,9 @@ impl Hour {
     }
 
     pub fn with_gains(self, gains: f64) -> Hour {
-        Hour { gains, ..self }
-    }
-
-    // All power by convection; no gains but those of other systems, no sun.
-    pub fn conditions(self) -> [u8; CONDITIONS] {
-        let mut b = [0; CONDITIONS];
-        let front = [
-            1.0,
-            0.0,
-            0.0,
-            0.0,
-            1.0,
-            1.0,
-            self.heat,
-            self.cool,
-            self.vent,
-            self.supply,
-            self.gains,
-            0.0,
-        ];
-        let (code, rates) = match self.rates {
-            Rates::Cooling(rate) => (0, [rate, 0.0]),
-            Rates::TargetAndWindowsOpen(target, open) => (1, [target, open]),
-        };
-        write_f64s_be(&mut b, 0, &front);
-        b[96] = code;
-        write_f64s_be(&mut b, 97, &rates);
-        b
+        Hour {
+            convective: gains,
+            ..self
+        }
     }
 }

@@ -1,6 +1,6 @@
 // The room's temperatures by rate, and the rates of its demand: the rows of its hours go by them.
 use crate::table::decimals;
-use crate::why::room::{AIR, Hour, Room};
+use crate::why::room::{AIR, Room, hour_of};
 use crate::zone_read::ZoneRead;
 use zone::ZoneTemperatureControlBasis::{self as Basis, Air, Operative};
 
@@ -17,7 +17,7 @@ pub fn print_rows(
 ) -> anyhow::Result<()> {
     let head = room.head();
     let zone = ZoneRead::read(&head)?;
-    let conditions = Hour::of(18.0, 25.0, 23.0).with_supply(supply).conditions();
+    let conditions = hour_of(18.0, 25.0, 23.0).with_supply(supply).conditions();
     println!(rt; "{title}")?;
     for (asked, basis, rate, expected) in rows {
         let (after, _) = zone.update(room.before(), &conditions, 0.0, 0.0, *rate)?;
@@ -34,7 +34,7 @@ pub fn print_rows(
 fn print_rates(rt: &impl Print) -> anyhow::Result<()> {
     let room = Room::warm();
     let head = room.head();
-    let conditions = Hour::of(21.0, 25.0, 23.0).conditions();
+    let conditions = hour_of(21.0, 25.0, 23.0).conditions();
     let demand = ZoneRead::read(&head)?.demand(room.before(), &conditions)?;
     let Some(trigger) = demand.ach_to_trigger_heating else {
         anyhow::bail!("no rate triggers heating");

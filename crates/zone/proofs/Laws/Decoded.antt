@@ -20,12 +20,16 @@ module _ (s : List ℕ) where
   module _ (i n : ℕ) (h : i < n) where
     pub floats_next : (at : ℕ) → floats_at s (at + float_size * i) (n - i) ≡ float_at s (at + float_size * i) ∷ floats_at s (at + float_size * (i + 1)) (n - (i + 1))
     unfolding floats_at
-    floats_next at = let e : at + float_size * i + float_size ≡ at + float_size * (i + 1) = omega arith in rw (one_left n i h, e)
+    floats_next at =
+        let next : at + float_size * (i + 1) ≡ at + float_size * i + float_size = omega arith in
+        rw (one_left n i h, next) refl
 
-    pub hours_next : (at : ℕ) → element_hours_at s (at + element_hour_size * i) (n - i)
-        ≡ element_hour_at s (at + element_hour_size * i) ∷ element_hours_at s (at + element_hour_size * (i + 1)) (n - (i + 1))
+    pub hours_next : (at : ℕ)
+        → element_hours_at s (at + element_hour_size * i) (n - i) ≡ element_hour_at s (at + element_hour_size * i) ∷ element_hours_at s (at + element_hour_size * (i + 1)) (n - (i + 1))
     unfolding element_hours_at
-    hours_next at = let e : at + element_hour_size * i + element_hour_size ≡ at + element_hour_size * (i + 1) = omega arith in rw (one_left n i h, e)
+    hours_next at =
+        let next : at + element_hour_size * (i + 1) ≡ at + element_hour_size * i + element_hour_size = omega arith in
+        rw (one_left n i h, next) refl
 
     pub elements_next : (p : ℕ) → elements_at s p (n - i) ≡ element_at s p ∷ elements_at s (p + size_at s p) (n - (i + 1))
     unfolding elements_at

@@ -2,8 +2,10 @@
 use mathlib.Core.Path.{◌≡◌, sym, ◌∙◌}
 use mathlib.Core.Bool.{Bool, true, false, cond}
 use mathlib.Core.List.{List}
-use Prim.Native.Nat.{ℕ, ◌+◌, ◌≤◌, ◌<◌, ◌/◌, ◌%◌}
+use Prim.Native.Nat.{ℕ, ◌+◌, ◌≤◌, ◌<◌, ◌/◌, ◌%◌, ◌^◌}
 use native.Mathlib.Omega.{arith}
+use Rattle.std.proofs.lemmas.Nat.{and_mask, shr-shr}
+use Rattle.std.specs.Int.Bits.{bit_and}
 use lib.ListN.{length, drop, get_or, drop_of_length-le}
 use lib.Dec.{eqb}
 use lib.Ieee.{Float}
@@ -14,16 +16,16 @@ use Rattle.zone.specs.declared.record.building_element.Kind.{Kind}
 use Rattle.zone.specs.declared.record.building_element.Element.{Element}
 
 -- a loop over the treatments' resistances, whose invariant is that those that are left, added to r, give what all of them give
-module _ (bits : ℕ) (r : Float) (l : List Float) (i : ℕ) (w : Float) (inv : add_closed bits r (drop i l) ≡ w) where
-  pub closed_next : (d r' : Float) → i < length l → r' ≡ cond (eqb (bits % 2) 0) (r +ᶠ get_or l i d) r → add_closed (bits / 2) r' (drop (i + 1) l) ≡ w
+module _ (bits i : ℕ) (r : Float) (l : List Float) (w : Float) (inv : add_closed (bits / 2 ^ i) r (drop i l) ≡ w) where
+  pub closed_next : (d r' : Float) → i < length l → r' ≡ cond (eqb (bit_and (bits / 2 ^ i) 1) 0) (r +ᶠ get_or l i d) r → add_closed (bits / 2 ^ (i + 1)) r' (drop (i + 1) l) ≡ w
   unfolding add_closed
   closed_next d r' h e =
-      let turn : add_closed bits r (drop i l) ≡ add_closed (bits / 2) (cond (eqb (bits % 2) 0) (r +ᶠ get_or l i d) r) (drop (i + 1) l) = rw (drop_next l i d h) in
-      rw e (sym turn ∙ inv)
+      let turn : add_closed (bits / 2 ^ i) r (drop i l) ≡ add_closed (bits / 2 ^ i / 2) (cond (eqb (bits / 2 ^ i % 2) 0) (r +ᶠ get_or l i d) r) (drop (i + 1) l) = rw (drop_next l i d h) in
+      rw (← shr-shr bits i 1, e, and_mask (bits / 2 ^ i) 1) (sym turn ∙ inv)
 
   pub closed_end : length l ≤ i → r ≡ w
   unfolding add_closed
-  closed_end h = let turn : add_closed bits r (drop i l) ≡ r = rw (drop_of_length-le l h) in sym turn ∙ inv
+  closed_end h = let turn : add_closed (bits / 2 ^ i) r (drop i l) ≡ r = rw (drop_of_length-le l h) in sym turn ∙ inv
 
 two_or_five : (b : Bool) → cond b 2 5 ≤ 5
 two_or_five true = omega arith

@@ -1,5 +1,5 @@
 -- The hour's calculations in the calls: what the hour's answer says of a demand, an hour step, an hour after another and one time step.
-use mathlib.Core.Path.{◌≡◌, refl, sym, ap}
+use mathlib.Core.Path.{◌≡◌, refl, sym}
 use mathlib.Core.List.{List}
 use Prim.Native.Nat.{ℕ}
 use lib.Ieee.{Float}
@@ -7,7 +7,6 @@ use Rattle.std.specs.Prelude.{Ok, Err}
 use Rattle.std.specs.Prelude as Rust
 use Rattle.solver.specs.F64.{◌+ᶠ◌}
 use Rattle.solver.specs.Result.{Result, ok, refused, bind}
-use Rattle.solver.proofs.Laws.Result.{ok_inj, ok_not_refused}
 use Rattle.zone.specs.declared.record.refusal.Refusal.{Refusal}
 use Rattle.zone.specs.declared.record.zone_record.Zone.{Zone}
 use Rattle.zone.specs.declared.format.conditions.Conditions.{Conditions}
@@ -19,18 +18,17 @@ use Rattle.zone.specs.Calls.State.{slots_of, state_of}
 use Rattle.zone.specs.Hour.Demand.{delta_t, gains_heat_cool, temperatures_with, space_heat_cool_demand}
 use Rattle.zone.specs.Calls.Hour.{tested_hour_and_limits, tested_step, step, delivered_by, convective_share, hour_step}
 use Rattle.zone.specs.declared.hour.hour.Meeting.TheVariants.{NotMet, WithGains}
-use Rattle.zone.specs.declared.hour.hour.Asked.TheVariants as Asked
 use Rattle.zone.specs.declared.hour.rule.Rule.{Rule}
-use Rattle.zone.specs.declared.hour.time_step.HeatCoolGains.{HeatCoolGains}
+use Rattle.zone.specs.declared.physics.balance.HeatCoolGains.{HeatCoolGains}
 use Rattle.zone.specs.Answers.{answered, answered_with}
-use Rattle.zone.specs.Inner.Hour.{demand_solved, update_solved, hour_solved, step_balance, stepped}
+use Rattle.zone.specs.Inner.Hour.{demand_solved, step_balance, stepped}
 use Rattle.zone.specs.Inner.NextHour.{next_hour, solved_next}
 
 -- ---- the hour, solved
 
 -- the demand, where nothing is met
 pub demand_solved_lem : (z : Zone) (t : List Float) (h : Conditions) (before : List Float)
-    → space_heat_cool_demand standard_coefficients z t h ≡ bind (hour_solved z t h (Asked.Demand NotMet) before) λ u. ok u.0
+    → space_heat_cool_demand standard_coefficients z t h ≡ bind (demand_solved z t h NotMet before) λ u. ok u.0
 unfolding demand_solved
 demand_solved_lem z t h before = go (space_heat_cool_demand standard_coefficients z t h)
   where
@@ -40,33 +38,33 @@ demand_solved_lem z t h before = go (space_heat_cool_demand standard_coefficient
 
 -- the hour step
 module _ (z : Zone) (r : Rule) (s : State) (bytes : List ℕ) (h : Conditions) (read : tested_step z r.version r.limits s bytes ≡ ok h) (t : List Float) (t_is : t ≡ slots_of z s) (before : List Float) where
-  hour_solved_lem : hour_step standard_coefficients z r.version r.limits s bytes ≡ bind (hour_solved z t h (Asked.Demand (WithGains r)) before) (stepped z r t h)
+  hour_solved_lem : hour_step standard_coefficients z r.version r.limits s bytes ≡ bind (demand_solved z t h (WithGains r) before) (stepped z r t h)
   unfolding hour_step step demand_solved
   hour_solved_lem = go (space_heat_cool_demand standard_coefficients z t h) refl
     where
       last : (d : Demand) → space_heat_cool_demand standard_coefficients z t h ≡ ok d → (y : Result (List Float))
           → temperatures_with standard_coefficients z t h (gains_heat_cool h +ᶠ delivered_by r.version r.limits h d) (convective_share r.version h (delivered_by r.version r.limits h d) (gains_heat_cool h +ᶠ delivered_by r.version r.limits h d)) d.ach_cooling ≡ y
-          → hour_step standard_coefficients z r.version r.limits s bytes ≡ bind (hour_solved z t h (Asked.Demand (WithGains r)) before) (stepped z r t h)
+          → hour_step standard_coefficients z r.version r.limits s bytes ≡ bind (demand_solved z t h (WithGains r) before) (stepped z r t h)
       last d p (ok after) q = rw (read, ← t_is, p, q) refl
       last d p (refused n i) q = rw (read, ← t_is, p, q) refl
 
-      go : (x : Result Demand) → space_heat_cool_demand standard_coefficients z t h ≡ x → hour_step standard_coefficients z r.version r.limits s bytes ≡ bind (hour_solved z t h (Asked.Demand (WithGains r)) before) (stepped z r t h)
+      go : (x : Result Demand) → space_heat_cool_demand standard_coefficients z t h ≡ x → hour_step standard_coefficients z r.version r.limits s bytes ≡ bind (demand_solved z t h (WithGains r) before) (stepped z r t h)
       go (ok d) p = last d p _ refl
       go (refused n i) p = rw (read, ← t_is, p) refl
 
 -- the same without the heat balance
 module _ (z : Zone) (r : Rule) (s : State) (bytes : List ℕ) (h : Conditions) (read : tested_hour_and_limits z r.version r.limits s bytes ≡ ok h) (t : List Float) (t_is : t ≡ slots_of z s) (before : List Float) where
-  pub next_solved : next_hour standard_coefficients z r.version r.limits s bytes ≡ solved_next z (hour_solved z t h (Asked.Demand (WithGains r)) before)
+  pub next_solved : next_hour standard_coefficients z r.version r.limits s bytes ≡ solved_next z (demand_solved z t h (WithGains r) before)
   unfolding next_hour demand_solved
   next_solved = go (space_heat_cool_demand standard_coefficients z t h) refl
     where
       last : (d : Demand) → space_heat_cool_demand standard_coefficients z t h ≡ ok d → (y : Result (List Float))
           → temperatures_with standard_coefficients z t h (gains_heat_cool h +ᶠ delivered_by r.version r.limits h d) (convective_share r.version h (delivered_by r.version r.limits h d) (gains_heat_cool h +ᶠ delivered_by r.version r.limits h d)) d.ach_cooling ≡ y
-          → next_hour standard_coefficients z r.version r.limits s bytes ≡ solved_next z (hour_solved z t h (Asked.Demand (WithGains r)) before)
+          → next_hour standard_coefficients z r.version r.limits s bytes ≡ solved_next z (demand_solved z t h (WithGains r) before)
       last d p (ok after) q = rw (read, ← t_is, p, q) refl
       last d p (refused n i) q = rw (read, ← t_is, p, q) refl
 
-      go : (x : Result Demand) → space_heat_cool_demand standard_coefficients z t h ≡ x → next_hour standard_coefficients z r.version r.limits s bytes ≡ solved_next z (hour_solved z t h (Asked.Demand (WithGains r)) before)
+      go : (x : Result Demand) → space_heat_cool_demand standard_coefficients z t h ≡ x → next_hour standard_coefficients z r.version r.limits s bytes ≡ solved_next z (demand_solved z t h (WithGains r) before)
       go (ok d) p = last d p _ refl
       go (refused n i) p = rw (read, ← t_is, p) refl
 
@@ -74,7 +72,7 @@ module _ (z : Zone) (r : Rule) (s : State) (bytes : List ℕ) (h : Conditions) (
 
 -- of a demand that is not met
 pub demand_answered : (z : Zone) (t : List Float) (h : Conditions) (before : List Float) (r : Rust.Result Demand Refusal) (after : List Float)
-    → answered_with r after ≡ hour_solved z t h (Asked.Demand NotMet) before → answered r ≡ space_heat_cool_demand standard_coefficients z t h
+    → answered_with r after ≡ demand_solved z t h NotMet before → answered r ≡ space_heat_cool_demand standard_coefficients z t h
 demand_answered z t h before (Ok d) after e = rw (demand_solved_lem z t h before, ← e) refl
 demand_answered z t h before (Err n) after e = rw (demand_solved_lem z t h before, ← e) refl
 
@@ -86,35 +84,20 @@ hour_untested z r s bytes n i e = rw (← e) refl
 
 module _ (z : Zone) (r : Rule) (s : State) (bytes : List ℕ) (h : Conditions) (read : ok h ≡ tested_step z r.version r.limits s bytes)
     (t before : List Float) (t_is : t ≡ slots_of z s) where
-  pub hour_refused : (n i : ℕ) → refused n i ≡ hour_solved z t h (Asked.Demand (WithGains r)) before → refused n i ≡ hour_step standard_coefficients z r.version r.limits s bytes
+  pub hour_refused : (n i : ℕ) → refused n i ≡ demand_solved z t h (WithGains r) before → refused n i ≡ hour_step standard_coefficients z r.version r.limits s bytes
   hour_refused n i e = rw (hour_solved_lem z r s bytes h (sym read) t t_is before, ← e) refl
 
-  pub hour_accepted : (d : Demand) (after : List Float) → ok (d, after) ≡ hour_solved z t h (Asked.Demand (WithGains r)) before
+  pub hour_accepted : (d : Demand) (after : List Float) → ok (d, after) ≡ demand_solved z t h (WithGains r) before
       → ok (record { demand = d; state = state_of z after; balance = step_balance z t h r d after }) ≡ hour_step standard_coefficients z r.version r.limits s bytes
   hour_accepted d after e = rw (hour_solved_lem z r s bytes h (sym read) t t_is before, ← e) refl
 
 -- of one time step
-module _ (z : Zone) (s : State) (h : Conditions) (g : HeatCoolGains) (ach : Float) (t before : List Float) (t_is : t ≡ slots_of z s) where
-  pub step_refused : (n i : ℕ) → refused n i ≡ hour_solved z t h (Asked.Update g ach) before → refused n i ≡ step standard_coefficients z s h g.gains_heat_cool g.f_hc_c ach
-  unfolding step update_solved
-  step_refused n i = go (temperatures_with standard_coefficients z t h g.gains_heat_cool g.f_hc_c ach) refl
-    where
-      go : (y : Result (List Float)) → temperatures_with standard_coefficients z t h g.gains_heat_cool g.f_hc_c ach ≡ y
-          → refused n i ≡ hour_solved z t h (Asked.Update g ach) before → refused n i ≡ step standard_coefficients z s h g.gains_heat_cool g.f_hc_c ach
-      go (ok after) q e = ok_not_refused _ n i (sym (rw q at e))
-      go (refused m j) q e =
-          let same : ◌≡◌ {A = Result (Demand × List Float)} (refused n i) (refused m j) = rw q at e in
-          let a : n ≡ m = cc in
-          let b : i ≡ j = cc in
-          rw (← t_is, q, a, b) refl
+module _ (z : Zone) (s : State) (h : Conditions) (g : HeatCoolGains) (ach : Float) (t : List Float) (t_is : t ≡ slots_of z s) where
+  pub step_refused : (n i : ℕ) → refused n i ≡ temperatures_with standard_coefficients z t h g.gains_heat_cool g.f_hc_c ach → refused n i ≡ step standard_coefficients z s h g.gains_heat_cool g.f_hc_c ach
+  unfolding step
+  step_refused n i e = rw (← t_is, ← e) refl
 
-  pub step_accepted : (d : Demand) (after : List Float) → ok (d, after) ≡ hour_solved z t h (Asked.Update g ach) before
+  pub step_accepted : (after : List Float) → ok after ≡ temperatures_with standard_coefficients z t h g.gains_heat_cool g.f_hc_c ach
       → step standard_coefficients z s h g.gains_heat_cool g.f_hc_c ach ≡ ok (state_of z after, heat_balance standard_coefficients z t h (delta_t h) g.gains_heat_cool g.f_hc_c ach after)
-  unfolding step update_solved
-  step_accepted d after = go (temperatures_with standard_coefficients z t h g.gains_heat_cool g.f_hc_c ach) refl
-    where
-      go : (y : Result (List Float)) → temperatures_with standard_coefficients z t h g.gains_heat_cool g.f_hc_c ach ≡ y
-          → ok (d, after) ≡ hour_solved z t h (Asked.Update g ach) before
-          → step standard_coefficients z s h g.gains_heat_cool g.f_hc_c ach ≡ ok (state_of z after, heat_balance standard_coefficients z t h (delta_t h) g.gains_heat_cool g.f_hc_c ach after)
-      go (ok after') q e = let same : after ≡ after' = ap (λ (u : Demand × List Float). u.1) (ok_inj (rw q at e)) in rw (← t_is, q, same) refl
-      go (refused m j) q e = ok_not_refused _ m j (rw q at e)
+  unfolding step
+  step_accepted after e = rw (← t_is, ← e) refl

@@ -21,20 +21,21 @@ use Rattle.zone.specs.declared.record.building_element.HeatFlowDirection.{HeatFl
 use Rattle.zone.specs.declared.record.building_element.Coefficients.{Coefficients}
 use Rattle.zone.specs.declared.record.zone_record.Zone.{Zone}
 use Rattle.zone.specs.declared.format.conditions.Conditions.{Conditions}
-use Rattle.zone.specs.declared.hour.hour.Asked.{Asked}
+use Rattle.zone.specs.declared.hour.hour.Meeting.{Meeting}
+use Rattle.zone.specs.declared.physics.balance.HeatCoolGains.{HeatCoolGains}
 use Rattle.zone.specs.declared.physics.assembly.Key.{Key}
 use Rattle.zone.specs.declared.hour.kept.KeptMatrix.{KeptMatrix}
 use Rattle.zone.specs.declared.calls.state.Demand.{Demand}
 use Rattle.zone.specs.Record.BuildingElement.{standard_coefficients}
 use Rattle.zone.specs.Physics.Slots.{air, with_terms, element_hour}
 use Rattle.zone.specs.Physics.System.{h_ci_at, two_nodes_of, c_int}
-use Rattle.zone.specs.Hour.Demand.{delta_t}
+use Rattle.zone.specs.Hour.Demand.{delta_t, control_temperature, temperatures_with}
 use Rattle.zone.specs.Inner.Assembly.{Chains, chains}
 use Rattle.zone.specs.Inner.Assembled.{ZoneTerms, convective_sum, element_chains, couplings_of, element_sides, zone_terms_of, assembled_with, assemble, assemble_step}
 use Rattle.zone.specs.Inner.Solves.{hour_system}
 use Rattle.zone.specs.Inner.Prepared.{Prepared, prepared, prepared_with, prepare}
 use Rattle.zone.specs.Inner.Operative.{areas_of, control_by}
-use Rattle.zone.specs.Inner.Hour.{answer_in, hour_solved}
+use Rattle.zone.specs.Inner.Hour.{Hour, hour_with, update_of, demand_met_of, demand_solved}
 use Rattle.zone.specs.Inner.Kept.{h_ci_in, chains_by, couplings_by, convective_by_sum, terms_by, Factors, factors, factors_from, factors_with, factors_by}
 use Rattle.zone.specs.Inner.Kept.{Held, factors_held, numbers_held, keep_factors, directions_of, treatments_open_at, opens_of, prepared_from, hour_from, hour_held, FactorsOf, Kept}
 use Rattle.zone.specs.Inner.KeptMatrix.{numbers_with, held_with_key, held_in}
@@ -42,7 +43,7 @@ use Rattle.zone.specs.Inner.PreparedHour.{terms_with}
 use Rattle.zone.proofs.Laws.Agree.{Agree}
 use Rattle.zone.proofs.Laws.Terms.{terms_at}
 use Rattle.zone.proofs.Laws.Nodes.{at_most_24_le}
-use Rattle.zone.proofs.Laws.PreparedDemand.{answer_solved}
+use Rattle.zone.proofs.Laws.PreparedDemand.{met_solved, update_solved, control_is}
 use Rattle.zone.proofs.Laws.Kept.{h_ci_in_lem, chains_agree, couplings_agree, sum_agree, chains_own, couplings_own, sum_own, factors_kept}
 
 from_columns : (s : ZoneTerms) (two_nodes : List Bool) (next prev column b : List Float) (k : Columns) →
@@ -99,17 +100,13 @@ module _ (z : Zone) (t : List Float) (h : Conditions) where
         let same : at_most24 s.n ≡ at_most24 n = rw (s_is, n_is) refl in
         rw (inner_is, b'_is, same) refl
 
-    hour_from_lem : (area : List Float) → area ≡ areas_of z → (asked : Asked) (before : List Float) (r : Result (Demand × List Float)) →
-        r
-        ≡ answer_in (prepared s valid two diag next dense interchanges column b' inner) z.volume
-        (control_by z.temp_setpnt_basis z.count area (get_or numbers 0 nan)) h z.useful_area asked before →
-        r ≡ hour_from z t h asked before numbers k
+    hour_from_lem : (area : List Float) → area ≡ areas_of z →
+        hour_with (prepared s valid two diag next dense interchanges column b' inner) z (control_by z.temp_setpnt_basis z.count area (get_or numbers 0 nan)) h
+        ≡ hour_from z t h numbers k
     unfolding hour_from
-    hour_from_lem area area_is asked before r e =
+    hour_from_lem area area_is =
         let control = control_by z.temp_setpnt_basis z.count area (get_or numbers 0 nan) in
-        e
-        ∙ ap (λ (p : Prepared). answer_in p z.volume control h z.useful_area asked before)
-        (here_prepared ∙ ap (λ (x : ZoneTerms). prepared_from x b k) terms_from)
+        ap (λ (p : Prepared). hour_with p z control h) (here_prepared ∙ ap (λ (x : ZoneTerms). prepared_from x b k) terms_from)
         ∙ rw (sides_from, area_is) refl
 
   module _ (x : KeptMatrix) (x_is : x.factors.chains.n ≡ m) (c : Coefficients) (dt' : Float) (c_is : c ≡ standard_coefficients) (dt_is : dt' ≡ dt)
@@ -132,24 +129,26 @@ module _ (z : Zone) (t : List Float) (h : Conditions) where
         ap (λ (y : RightSide). y.inner) base_is
         ∙ ap (λ (y : List Float). inner_shares (at_most24 x.factors.chains.n) x.factors.chains.diag x.factors.chains.prev y (replicate 24 zero64)) (sym reduced_here)
 
-    module _ (area : List Float) (area_is : area ≡ areas_of z) (asked : Asked) (before : List Float) (r : Result (Demand × List Float))
-        (e : r
-        ≡ answer_in
-        (prepared s x.factors.valid x.factors.chains.two_nodes x.factors.chains.diag x.factors.chains.next x.factors.lu.matrix x.factors.lu.interchanges x.column base.b base.inner)
-        z.volume (control_by z.temp_setpnt_basis z.count area x.sums.area_el_total) h z.useful_area asked before) where
+    module _ (area : List Float) (area_is : area ≡ areas_of z) where
+      abbrev here : Hour
+      here =
+          hour_with
+          (prepared s x.factors.valid x.factors.chains.two_nodes x.factors.chains.diag x.factors.chains.next x.factors.lu.matrix x.factors.lu.interchanges x.column base.b base.inner)
+          z (control_by z.temp_setpnt_basis z.count area x.sums.area_el_total) h
+
       hour_here : (kept_dt : Float)
-          → r
-          ≡ hour_from z t h asked before (numbers_with x.sums kept_dt)
+          → here
+          ≡ hour_from z t h (numbers_with x.sums kept_dt)
           (factors x.factors.valid x.factors.chains.two_nodes x.factors.chains.diag x.factors.chains.next x.factors.chains.prev x.factors.lu.matrix x.factors.lu.interchanges x.column)
       hour_here kept_dt =
           hour_from_lem x.factors.valid (numbers_with x.sums kept_dt) x.factors.chains.two_nodes x.factors.chains.diag x.factors.chains.next x.factors.chains.prev
           x.factors.lu.matrix x.factors.lu.interchanges x.column c dt' x.factors.chains.n c_is dt_is x_is s terms_here
-          b base.b base.inner sides_here reduced_here inner_here area area_is asked before r e
+          b base.b base.inner sides_here reduced_here inner_here area area_is
 
-      pub held_hour : r ≡ hour_held z t h asked before (held_in x)
+      pub held_hour : here ≡ hour_held z t h (held_in x)
       held_hour = by x.key
         where
-          by : (key : Option Key) → r ≡ hour_held z t h asked before (held_with_key x key)
+          by : (key : Option Key) → here ≡ hour_held z t h (held_with_key x key)
           by None = hour_here zero64
           by (Some key) = hour_here key.delta_t
 
@@ -206,17 +205,28 @@ module _ (z : Zone) (t : List Float) (h : Conditions) where
         ∙ ap (prepared_from (zone_terms_of standard_coefficients z h dt t) right) factors_hour
         ∙ sym system_prepared
 
-  module _ (asked : Asked) (before : List Float) where
-    from_solved : (x : Held) → FactorsOf z d o dt (factors_held x) (numbers_held x) → hour_held z t h asked before x ≡ hour_solved z t h asked before
-    unfolding hour_from
-    from_solved x f =
-        let control = control_by z.temp_setpnt_basis z.count (areas_of z) (get_or (numbers_held x) 0 nan) in
-        ap (λ (p : Prepared). answer_in p z.volume control h z.useful_area asked before) (prepared_hour (factors_held x) (numbers_held x) f)
-        ∙ answer_solved z t h (areas_of z) (get_or (numbers_held x) 0 nan) refl f.total asked before
+  abbrev own_hour : Hour
+  own_hour = hour_with (prepare (hour_system z t h)) z (control_temperature z) h
 
-    -- where the zone's are held, or nothing, before the hour, they do after it, and the hour is the one that the definitions have
-    pub kept_hour : (x x' : Held) → x' ≡ keep_factors z d o dt x → (r : Result (Demand × List Float)) → r ≡ hour_held z t h asked before x' → Kept z x
-        → Kept z x' × (r ≡ hour_solved z t h asked before)
-    kept_hour x x' x'_is r r_is k =
-        let p = factors_kept z d o dt (mul-fits binary64 h.delta_t_h (decimal 3600 0)) x k in
-        (rw x'_is p.0, r_is ∙ from_solved x' (rw x'_is p.1))
+  from_own : (x : Held) → FactorsOf z d o dt (factors_held x) (numbers_held x) → hour_held z t h x ≡ own_hour
+  unfolding hour_from
+  from_own x f =
+      let control = control_by z.temp_setpnt_basis z.count (areas_of z) (get_or (numbers_held x) 0 nan) in
+      ap (λ (p : Prepared). hour_with p z control h) (prepared_hour (factors_held x) (numbers_held x) f)
+      ∙ ap (λ (c : List Float → Float). hour_with (prepare (hour_system z t h)) z c h) (control_is z (areas_of z) (get_or (numbers_held x) 0 nan) refl f.total)
+
+  -- where the zone's are held, or nothing, before the hour, they do after it, and the hour is the one that the definitions have
+  module _ (x x' : Held) (x'_is : x' ≡ keep_factors z d o dt x) (p : Hour) (p_is : p ≡ hour_held z t h x') (k : Kept z x) where
+    kept_own : Kept z x' × (p ≡ own_hour)
+    kept_own =
+        let q = factors_kept z d o dt (mul-fits binary64 h.delta_t_h (decimal 3600 0)) x k in
+        (rw x'_is q.0, p_is ∙ from_own x' (rw x'_is q.1))
+
+    pub kept_demand : (meeting : Meeting) (before : List Float) (r : Result (Demand × List Float)) → r ≡ demand_met_of p meeting before
+        → Kept z x' × (r ≡ demand_solved z t h meeting before)
+    kept_demand meeting before r r_is =
+        (kept_own.0, r_is ∙ ap (λ (y : Hour). demand_met_of y meeting before) kept_own.1 ∙ met_solved z t h meeting before)
+
+    pub kept_update : (g : HeatCoolGains) (ach : Float) (r : Result (List Float)) → r ≡ update_of p g ach
+        → r ≡ temperatures_with standard_coefficients z t h g.gains_heat_cool g.f_hc_c ach
+    kept_update g ach r r_is = r_is ∙ ap (λ (y : Hour). update_of y g ach) kept_own.1 ∙ update_solved z t h g ach

@@ -3,15 +3,14 @@
 use mathlib.Core.Path.{◌≡◌, sym, ap, ◌∙◌}
 use mathlib.Core.List.{List}
 use Prim.Native.Nat.{ℕ, ◌+◌, ◌≤◌, ◌<◌}
-use lib.ListN.{length, get_or, drop, set, drop_of_length-le}
+use lib.ListN.{set}
 use lib.Ieee.{Float}
 use Rattle.solver.specs.declared.sums.Sum2.{Sum2}
 use Rattle.solver.specs.Repeat.{repeat}
-use Rattle.solver.specs.Sums.{sum2_zero, sum2_add, sum2_add_all, sum2_sum, sum2, terms}
+use Rattle.solver.specs.Sums.{sum2_add, sum2_add_all, sum2_sum, terms}
 use Rattle.zone.specs.Physics.Slots.{set_term}
 pub use Rattle.solver.proofs.Laws.Counting.{repeat_turn, repeat_end}
 use Rattle.solver.proofs.Laws.Counting.{repeat_next}
-use Rattle.solver.proofs.Laws.Parts.{drop_next}
 use Rattle.solver.proofs.Laws.Sums.{sum2_terms_next, sum2_terms_done}
 
 module _ {A : Type 0} where
@@ -27,17 +26,3 @@ module _ (term : ℕ → Float) (i n : ℕ) where
       → sum2_add_all s (terms i n term) ≡ sum2_add_all s₀ (terms 0 n term) → x ≡ sum2_sum (sum2_add_all z (terms 0 n term))
   sum2_end s s₀ z x h e p inv =
       e ∙ ap (λ (a : Sum2). sum2_sum a) (sym (sum2_terms_done s term i n h) ∙ inv ∙ ap (λ (a : Sum2). sum2_add_all a (terms 0 n term)) p)
-
--- the same over the numbers of a list
-module _ (xs : List Float) (i : ℕ) where
-  pub sum2_next : (s s' w : Sum2) (d : Float) → i < length xs → s' ≡ sum2_add s (get_or xs i d) → sum2_add_all s (drop i xs) ≡ w → sum2_add_all s' (drop (i + 1) xs) ≡ w
-  unfolding sum2_add_all
-  sum2_next s s' w d h e inv =
-      let turn : sum2_add_all s (drop i xs) ≡ sum2_add_all (sum2_add s (get_or xs i d)) (drop (i + 1) xs) = rw (drop_next xs i d h) in
-      rw e (sym turn ∙ inv)
-
-  pub sum2_last : (s z : Sum2) (x : Float) → length xs ≤ i → x ≡ sum2_sum s → z ≡ sum2_zero → sum2_add_all s (drop i xs) ≡ sum2_add_all z xs → x ≡ sum2 xs
-  unfolding sum2_add_all
-  sum2_last s z x h e p inv =
-      let done : sum2_add_all s (drop i xs) ≡ s = rw (drop_of_length-le xs h) in
-      e ∙ ap (λ (a : Sum2). sum2_sum a) (sym done ∙ inv ∙ ap (λ (a : Sum2). sum2_add_all a xs) p)

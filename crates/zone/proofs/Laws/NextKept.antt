@@ -9,7 +9,6 @@ use Rattle.zone.specs.declared.record.zone_record.Zone.{Zone}
 use Rattle.zone.specs.declared.format.conditions.Conditions.{Conditions}
 use Rattle.zone.specs.declared.format.limits.Limits.{Limits}
 use Rattle.zone.specs.declared.hour.hour.Meeting.TheVariants.{WithGains}
-use Rattle.zone.specs.declared.hour.hour.Asked.TheVariants as Asked
 use Rattle.zone.specs.declared.calls.state.State.{State}
 use Rattle.zone.specs.declared.calls.state.Demand.{Demand}
 use Rattle.zone.specs.Record.BuildingElement.{standard_coefficients}
@@ -18,7 +17,7 @@ use Rattle.zone.specs.Calls.Hour.{tested_hour_and_limits}
 use Rattle.zone.specs.Inner.Kept.{Held, Kept}
 use Rattle.zone.specs.Inner.NextHour.{next_hour, rule_of, solved_next, next_hour_reply, held_after, next_hour_from}
 use Rattle.zone.proofs.Laws.Hour.{next_solved}
-use Rattle.zone.proofs.Laws.KeptHour.{kept_hour}
+use Rattle.zone.proofs.Laws.KeptHour.{kept_demand}
 
 -- ---- where this zone's matrix is held, or none
 
@@ -31,7 +30,7 @@ module _ (zone : Zone) (version : ℕ) (l : Limits) (s : State) (bytes : List �
       → Kept zone (held_after zone s y x) × (next_hour_from zone version l s bytes (held_after zone s y x) ≡ next_hour standard_coefficients zone version l s bytes)
   unfolding next_hour_from
   next_by (ok h) e x k =
-      let p = kept_hour zone (slots_of zone s) h (Asked.Demand (WithGains (rule_of version l))) (replicate 121 zero64) x _ refl _ refl k in
+      let p = kept_demand zone (slots_of zone s) h x _ refl _ refl k (WithGains (rule_of version l)) (replicate 121 zero64) _ refl in
       (p.0, rw e (ap (solved_next zone) p.1) ∙ sym (next_solved zone (rule_of version l) s bytes h e (slots_of zone s) refl (replicate 121 zero64)))
   next_by (refused n i) e x k = (k, rw e (sym (next_not n i e)))
 

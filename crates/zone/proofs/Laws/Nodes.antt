@@ -54,10 +54,6 @@ module _ (two_nodes : List Bool) where
       let k = nodes_le e in
       omega arith
 
-  -- the code's place of an outer surface
-  pub slot_is : (e k : ℕ) → k ≡ nodes_at two_nodes e → 5 * e + 5 - k ≡ outer_slot two_nodes e
-  slot_is e k h = let l = slot_le e in omega arith
-
   slots_up : (e : ℕ) → outer_slot two_nodes e + nodes_at two_nodes e ≤ outer_slot two_nodes (suc e)
   slots_up e =
       let h = slot_le e in

@@ -1,7 +1,7 @@
 -- The demand of an hour that is prepared (specs/Inner/Demand.antt, Hour.antt) against the definitions: each part hands on the last column of the rate
 -- that it leaves, and that rate is valid.
 use Rattle.std.specs.Prelude.{None, Option, Some}
-use mathlib.Core.Path.{◌≡◌, refl, ap, fun_ext, ◌∙◌}
+use mathlib.Core.Path.{◌≡◌, refl, fun_ext}
 use mathlib.Core.Bool.{Bool, true, false, cond, not, ◌&&◌}
 use mathlib.Core.List.{List}
 use Prim.Native.Nat.{ℕ}
@@ -17,8 +17,7 @@ use Rattle.zone.specs.declared.calls.state.Demand.{Demand}
 use Rattle.zone.specs.declared.hour.windows.VentilationChoice.{VentilationChoice}
 use Rattle.zone.specs.declared.hour.load.HeatCoolLoad.{HeatCoolLoad}
 use Rattle.zone.specs.declared.hour.hour.Meeting.{Meeting}
-use Rattle.zone.specs.declared.hour.hour.Asked.{Asked}
-use Rattle.zone.specs.declared.hour.time_step.HeatCoolGains.{HeatCoolGains}
+use Rattle.zone.specs.declared.physics.balance.HeatCoolGains.{HeatCoolGains}
 use Rattle.zone.specs.Record.BuildingElement.{standard_coefficients}
 use Rattle.zone.specs.Physics.Slots.{air}
 use Rattle.zone.specs.Physics.System.{area_el_total}
@@ -39,7 +38,7 @@ use Rattle.zone.specs.Inner.Demand.{
   demand_from_free,
   demand_in,
 }
-use Rattle.zone.specs.Inner.Hour.{met_load, update_in, met_in, demand_met_in, answer_in, met_with, demand_solved, update_solved, hour_solved}
+use Rattle.zone.specs.Inner.Hour.{met_load, update_in, met_in, demand_met_in, met_with, demand_solved}
 use Rattle.zone.proofs.Laws.Assembled.{control_by_lem}
 use Rattle.zone.proofs.Laws.Prepared.{prepared_is, load_at, accepted_valid}
 use Rattle.zone.proofs.Laws.Demand.{towards_rate}
@@ -187,30 +186,22 @@ module _ (z : Zone) (t : List Float) (h : Conditions) where
   met_at d None before k = refl
   met_at d (Some g) before k = load_at z t h g.gains_heat_cool g.f_hc_c d.ach_cooling k
 
-  met_solved : (meeting : Meeting) (before : List Float) →
+  pub met_solved : (meeting : Meeting) (before : List Float) →
       demand_met_in p z.volume control h z.useful_area meeting before ≡ demand_solved z t h meeting before
   unfolding demand_met_in demand_solved
   met_solved meeting before =
       handed_same demand_rate (demand_in p z.volume control h z.useful_area) (space_heat_cool_demand standard_coefficients z t h) _ _ demand_at
       (λ d k. rw (met_at d (met_load h d meeting) before k) refl)
 
-  update_solved_lem : (g : HeatCoolGains) (ach : Float) → update_in p z.volume g ach ≡ update_solved z t h g ach
-  unfolding update_in update_solved
-  update_solved_lem g ach = handed_same (λ _. ach) _ _ _ _ (solved_at g.gains_heat_cool g.f_hc_c ach) (λ x k. refl)
+  pub update_solved : (g : HeatCoolGains) (ach : Float) → update_in p z.volume g ach ≡ temperatures_with standard_coefficients z t h g.gains_heat_cool g.f_hc_c ach
+  unfolding update_in
+  update_solved g ach = go (temperatures_with standard_coefficients z t h g.gains_heat_cool g.f_hc_c ach) (prepared_is z t h g.gains_heat_cool g.f_hc_c ach)
+    where
+      go : (y : Result (List Float)) → solved_in p z.volume g.gains_heat_cool g.f_hc_c ach ≡ bind y (λ x. ok (x, last ach)) → update_in p z.volume g ach ≡ y
+      go (ok x) e = rw e refl
+      go (refused n i) e = rw e refl
 
-  pub asked_solved : (asked : Asked) (before : List Float) →
-      answer_in p z.volume control h z.useful_area asked before ≡ hour_solved z t h asked before
-  asked_solved (Asked.Demand meeting) before = met_solved meeting before
-  asked_solved (Asked.Update g ach) before = update_solved_lem g ach
-
--- from the areas of its elements
-pub answer_solved : (z : Zone) (t : List Float) (h : Conditions) (area : List Float) (total : Float) →
-    area ≡ areas_of z →
-    total ≡ area_el_total (at_most24 z.count) z.building_elements →
-    (asked : Asked) (before : List Float) →
-    answer_in (prepare (hour_system z t h)) z.volume (control_by z.temp_setpnt_basis z.count area total) h z.useful_area asked before
-    ≡ hour_solved z t h asked before
-answer_solved z t h area total area_is total_is asked before =
-    let control : control_by z.temp_setpnt_basis z.count area total ≡ control_temperature z = rw (area_is, total_is) (fun_ext (control_by_lem z)) in
-    ap (λ (c : List Float → Float). answer_in (prepare (hour_system z t h)) z.volume c h z.useful_area asked before) control
-    ∙ asked_solved z t h asked before
+-- the temperature that the setpoints are held against, from the areas of its elements
+pub control_is : (z : Zone) (area : List Float) (total : Float) → area ≡ areas_of z → total ≡ area_el_total (at_most24 z.count) z.building_elements →
+    control_by z.temp_setpnt_basis z.count area total ≡ control_temperature z
+control_is z area total area_is total_is = rw (area_is, total_is) (fun_ext (control_by_lem z))

@@ -37,71 +37,26 @@ pub partial_le_is : (a b : ℕ) → partial_le (λ x y. Some (nat_cmp x y)) a b 
 partial_le_is a b = search (rules, tests)
 
 -- each constant of the code is the range of its definition
-pub area : (x : Float) → within AREA x ≡ area_range x
-unfolding of_bits decimal area_range
-area x = refl
-
-pub pitch : (x : Float) → within PITCH x ≡ pitch_range x
-unfolding of_bits decimal pitch_range
-pitch x = refl
-
-pub coefficient : (x : Float) → within COEFFICIENT x ≡ coefficient_range x
-unfolding of_bits decimal coefficient_range
-coefficient x = refl
-
-pub h_pli : (x : Float) → within H_PLI x ≡ h_pli_range x
-unfolding of_bits decimal h_pli_range
-h_pli x = refl
-
-pub k_pli : (x : Float) → within K_PLI x ≡ k_pli_range x
-unfolding of_bits decimal k_pli_range
-k_pli x = refl
-
-pub fraction : (x : Float) → within FRACTION x ≡ fraction_range x
-unfolding of_bits decimal fraction_range
-fraction x = refl
-
-pub sky : (x : Float) → within SKY x ≡ sky_range x
-unfolding of_bits decimal neg sky_range
-sky x = refl
-
-pub delta_r : (x : Float) → within DELTA_R x ≡ delta_r_range x
-unfolding of_bits decimal delta_r_range
-delta_r x = refl
-
-pub irradiance : (x : Float) → within IRRADIANCE x ≡ irradiance_range x
-unfolding of_bits decimal irradiance_range
-irradiance x = refl
-
-pub gains : (x : Float) → within GAINS x ≡ gains_range x
-unfolding of_bits decimal neg gains_range
-gains x = refl
-
-pub power_limit : (x : Float) → within POWER_LIMIT x ≡ power_limit_range x
-unfolding of_bits decimal power_limit_range
-power_limit x = refl
-
-pub rate : (x : Float) → within RATE x ≡ rate_range x
-unfolding of_bits decimal rate_range
-rate x = refl
-
-pub temperature : (x : Float) → within TEMPERATURE x ≡ temperature_range x
-unfolding of_bits decimal neg temperature_range
-temperature x = refl
-
-pub heating_setpoint : (x : Float) → within HEATING_SETPOINT x ≡ heating_setpoint_range x
-unfolding of_bits decimal neg heating_setpoint_range
-heating_setpoint x = refl
-
-pub setpoint : (x : Float) → within SETPOINT x ≡ setpoint_range x
-unfolding of_bits decimal neg setpoint_range
-setpoint x = refl
-
-pub hour_length : (x : Float) → within HOUR_LENGTH x ≡ hour_length_range x
-unfolding of_bits decimal hour_length_range
-hour_length x = refl
-
-pub ruleset ranges = (area, pitch, coefficient, h_pli, k_pli, fraction, sky, delta_r, irradiance, gains, power_limit, rate, temperature, heating_setpoint, setpoint, hour_length)
+pub ranges : record {
+  area : (x : Float) → within AREA x ≡ area_range x;
+  pitch : (x : Float) → within PITCH x ≡ pitch_range x;
+  coefficient : (x : Float) → within COEFFICIENT x ≡ coefficient_range x;
+  h_pli : (x : Float) → within H_PLI x ≡ h_pli_range x;
+  k_pli : (x : Float) → within K_PLI x ≡ k_pli_range x;
+  fraction : (x : Float) → within FRACTION x ≡ fraction_range x;
+  sky : (x : Float) → within SKY x ≡ sky_range x;
+  delta_r : (x : Float) → within DELTA_R x ≡ delta_r_range x;
+  irradiance : (x : Float) → within IRRADIANCE x ≡ irradiance_range x;
+  gains : (x : Float) → within GAINS x ≡ gains_range x;
+  power_limit : (x : Float) → within POWER_LIMIT x ≡ power_limit_range x;
+  rate : (x : Float) → within RATE x ≡ rate_range x;
+  temperature : (x : Float) → within TEMPERATURE x ≡ temperature_range x;
+  heating_setpoint : (x : Float) → within HEATING_SETPOINT x ≡ heating_setpoint_range x;
+  setpoint : (x : Float) → within SETPOINT x ≡ setpoint_range x;
+  hour_length : (x : Float) → within HOUR_LENGTH x ≡ hour_length_range x;
+}
+unfolding of_bits decimal neg area_range pitch_range coefficient_range h_pli_range k_pli_range fraction_range sky_range delta_r_range irradiance_range gains_range power_limit_range rate_range temperature_range heating_setpoint_range setpoint_range hour_length_range
+ranges = search rules
 
 pub small_power : (t : ℕ) → t < 8 → (1 * 2 ^ t) % 256 ≡ 2 ^ t
 small_power t h =

@@ -1,55 +1,36 @@
 -- A test of each of a list, one by one.
 use Prim.Native.Nat.{ℕ, zero, suc, ◌+◌, ◌<◌, ◌≤◌}
-use mathlib.Core.Path.{◌≡◌, refl, ◌∙◌}
-use mathlib.Core.Bool.{Bool, true, false, cond, not}
+use mathlib.Core.Path.{◌≡◌, refl, sym, ◌∙◌}
+use mathlib.Core.Bool.{Bool, true, false}
 use mathlib.Core.List.{List, [], ◌∷◌}
 use native.Mathlib.Omega.{arith}
-use lib.Dec.{ltb}
-use lib.ListN.{length, take, get_or}
-use Rattle.std.specs.List.{position_or_len}
-use Rattle.std.proofs.Common.{Option, Some, None}
-use Rattle.solver.specs.Result.{Result, ok, refused, bind, require_at}
+use lib.ListN.{length, take, drop, get_or, drop_of_length-le}
+use Rattle.solver.specs.Result.{Result, ok, refused, require_at}
 use Rattle.solver.specs.Refusals.{RefusesOnly, accepts}
 use Rattle.solver.proofs.Laws.Refusals.{test_refuses}
 use Rattle.solver.proofs.Laws.Result.{bind_ok, require_ok}
+use Rattle.solver.proofs.Laws.Parts.{drop_next}
 use Rattle.zone.specs.Check.ZoneTest.{all_required}
 
--- the answer from the place of the first that does not pass
-abbrev pub first_refused : (number : ℕ) → Option ℕ → Result (Unit {0})
-first_refused number None = ok tt
-first_refused number (Some i) = refused number (i + 1)
-
-module _ {A : Type 0} (test : A → Bool) (number : ℕ) where
-  required_from : (l : List A) (i : ℕ) → let p = position_or_len (λ a. not (test a)) l in
-      cond (ltb p (length l)) (refused number (p + i)) (ok tt) ≡ all_required test number l i
+-- a loop over a list whose items have to pass: the test of those that are left is the test of all
+module _ {A : Type 0} (test : A → Bool) (number : ℕ) (l : List A) (i : ℕ) (w : Result (Unit {0})) (inv : all_required test number (drop i l) (i + 1) ≡ w) where
+  pub required_turn : (d : A) → i < length l → test (get_or l i d) ≡ true → all_required test number (drop (i + 1) l) (i + 1 + 1) ≡ w
   unfolding all_required
-  required_from [] i = refl
-  required_from (a ∷ as') i = go (test a) refl (required_from as' (i + 1))
-    where
-      go : (b : Bool) → test a ≡ b
-          → (let q = position_or_len (λ x. not (test x)) as' in
-          cond (ltb q (length as')) (refused number (q + (i + 1))) (ok tt) ≡ all_required test number as' (i + 1))
-          → let p = position_or_len (λ x. not (test x)) (a ∷ as') in
-          cond (ltb p (length (a ∷ as'))) (refused number (p + i)) (ok tt) ≡ bind (require_at b number i) λ _. all_required test number as' (i + 1)
-      go true e rest =
-          let q = position_or_len (λ x. not (test x)) as' in
-          let n : 1 + q + i ≡ q + (i + 1) = omega arith in
-          let f : ltb (1 + q) (length (a ∷ as')) ≡ ltb q (length as') = grind arith in
-          rw (e, f, n) rest
-      go false e rest =
-          let f : ltb 0 (length (a ∷ as')) ≡ true = grind arith in
-          let n : 0 + i ≡ i = omega arith in
-          rw (e, f, n) refl
+  required_turn d h e =
+      let turn : all_required test number (drop i l) (i + 1) ≡ all_required test number (drop (i + 1) l) (i + 1 + 1) = rw (drop_next l i d h, e) refl in
+      sym turn ∙ inv
 
-  pub required_by : (l : List A) (r : Option ℕ) → let p = position_or_len (λ a. not (test a)) l in
-      r ≡ cond (ltb p (length l)) (Some p) None → first_refused number r ≡ all_required test number l 1
-  required_by l r h = let p = position_or_len (λ a. not (test a)) l in
-      rw h (by (ltb p (length l)) ∙ required_from l 1)
-    where
-      by : (b : Bool) → let p = position_or_len (λ a. not (test a)) l in
-          first_refused number (cond b (Some p) None) ≡ cond b (refused number (p + 1)) (ok tt)
-      by true = refl
-      by false = refl
+  pub required_stop : (d : A) → i < length l → test (get_or l i d) ≡ false → refused number (i + 1) ≡ w
+  unfolding all_required
+  required_stop d h e =
+      let stop : all_required test number (drop i l) (i + 1) ≡ refused number (i + 1) = rw (drop_next l i d h, e) refl in
+      sym stop ∙ inv
+
+  pub required_end : length l ≤ i → ok tt ≡ w
+  unfolding all_required
+  required_end h =
+      let none : all_required test number (drop i l) (i + 1) ≡ ok tt = rw (drop_of_length-le l h) refl in
+      sym none ∙ inv
 
 -- where none is refused, each of the list passes
 pub required_each : {A : Type 0} (test : A → Bool) (number : ℕ) (d : A) (n : ℕ) (l : List A) (i : ℕ) (u : Unit {0}) → all_required test number (take n l) i ≡ ok u

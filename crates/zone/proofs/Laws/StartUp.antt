@@ -29,9 +29,8 @@ use Rattle.zone.specs.Hour.Demand.{ach_target, control_temperature, free_tempera
 use Rattle.zone.specs.Calls.Hour.{delivered}
 use Rattle.zone.specs.Calls.StartUp.{start_up_conditions, all_close, pass, settle}
 use Rattle.zone.specs.declared.hour.hour.Meeting.TheVariants.{Alone}
-use Rattle.zone.specs.declared.hour.hour.Asked.TheVariants as Asked
 use Rattle.zone.specs.Answers.{answered_with}
-use Rattle.zone.specs.Inner.Hour.{demand_solved, hour_solved, ends, settled_state}
+use Rattle.zone.specs.Inner.Hour.{demand_solved, ends, settled_state}
 use Rattle.zone.proofs.Laws.Demand.{towards_rate}
 use Rattle.zone.specs.Record.Numbers as Number
 
@@ -73,18 +72,18 @@ unfolding start_up_conditions
 start_fraction z h e = ap (λ (y : Conditions). y.frac_convective_heat) e
 
 module _ (z : Zone) (t : List Float) (h : Conditions) (h_is : h ≡ start_up_conditions z) (before : List Float) where
-  pass_solved : pass standard_coefficients z t ≡ bind (hour_solved z t h (Asked.Demand Alone) before) λ u. ok u.1
+  pass_solved : pass standard_coefficients z t ≡ bind (demand_solved z t h Alone before) λ u. ok u.1
   unfolding pass demand_solved
   pass_solved = go (space_heat_cool_demand standard_coefficients z t h) refl
     where
       last : (d : Demand) → space_heat_cool_demand standard_coefficients z t h ≡ ok d → (y : Result (List Float))
           → temperatures_with standard_coefficients z t h (delivered h d) (decimal 4 1) zero64 ≡ y
           → temperatures_with standard_coefficients z t h (delivered h d) h.frac_convective_heat d.ach_cooling ≡ y
-          → pass standard_coefficients z t ≡ bind (hour_solved z t h (Asked.Demand Alone) before) λ u. ok u.1
+          → pass standard_coefficients z t ≡ bind (demand_solved z t h Alone before) λ u. ok u.1
       last d p (ok after) q r = rw (← h_is, p, q, r) refl
       last d p (refused n i) q r = rw (← h_is, p, q, r) refl
 
-      go : (x : Result Demand) → space_heat_cool_demand standard_coefficients z t h ≡ x → pass standard_coefficients z t ≡ bind (hour_solved z t h (Asked.Demand Alone) before) λ u. ok u.1
+      go : (x : Result Demand) → space_heat_cool_demand standard_coefficients z t h ≡ x → pass standard_coefficients z t ≡ bind (demand_solved z t h Alone before) λ u. ok u.1
       go (ok d) p =
           last d p _
           (ap (λ (f : Float). temperatures_with standard_coefficients z t h (delivered h d) f zero64) (sym (start_fraction z h h_is))
@@ -105,13 +104,13 @@ module _ (z : Zone) (limit : ℕ) (t₀ t : List Float) (passes : ℕ)
 
   module _ (more : passes < limit) (before after : List Float) where
     -- its last pass, and one that is not
-    pub settle_ends : (a : Rust.Result Demand Refusal) → answered_with a after ≡ hour_solved z t (start_up_conditions z) (Asked.Demand Alone) before
+    pub settle_ends : (a : Rust.Result Demand Refusal) → answered_with a after ≡ demand_solved z t (start_up_conditions z) Alone before
         → ends z t (answered_with a after) ≡ true → settled_state z (answered_with a t) ≡ settled
     unfolding settle
     settle_ends (Ok d) solved k = rw (left, one_left limit passes more, pass_solved z t _ refl before, ← solved, k) refl
     settle_ends (Err e) solved k = rw (left, one_left limit passes more, pass_solved z t _ refl before, ← solved) refl
 
-    pub settle_next : (a : Rust.Result Demand Refusal) → answered_with a after ≡ hour_solved z t (start_up_conditions z) (Asked.Demand Alone) before
+    pub settle_next : (a : Rust.Result Demand Refusal) → answered_with a after ≡ demand_solved z t (start_up_conditions z) Alone before
         → ends z t (answered_with a after) ≡ false → settle standard_coefficients z limit t₀ ≡ settle standard_coefficients z (limit - (passes + 1)) after
     unfolding settle
     settle_next (Ok d) solved k = left ∙ rw (one_left limit passes more, pass_solved z t _ refl before, ← solved, k) refl

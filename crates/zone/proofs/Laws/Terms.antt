@@ -1,7 +1,7 @@
 -- Loops and lists whose turns or entries are functions of a number.
-use mathlib.Core.Path.{◌≡◌, refl, ap, subst, ◌∙◌}
+use mathlib.Core.Path.{◌≡◌, refl, sym, ap, subst, ◌∙◌}
 use mathlib.Core.Logic.{⊎_elim}
-use mathlib.Core.List.{List, ◌∷◌}
+use mathlib.Core.List.{List, [], ◌∷◌}
 use Prim.Native.Nat.{ℕ, zero, suc, ◌+◌, ◌-◌, ◌≤◌, ◌<◌}
 use native.Mathlib.Nat.{eq-or-lt_of_le}
 use native.Mathlib.Numerals.{add-one}
@@ -43,6 +43,19 @@ module _ (f g : ℕ → Float) where
   -- terms that agree below n
   pub terms_same : (n : ℕ) → ((j : ℕ) → j < n → f j ≡ g j) → terms 0 n f ≡ terms 0 n g
   terms_same n h = terms_same_of (n - 0) 0 (λ j l. h j (omega arith))
+
+numbered_from : (f : ℕ → Float) (l : List Float) (i : ℕ) → ((j : ℕ) → j < length l → f (i + j) ≡ get_or l j nan) → terms_of (length l) i f ≡ l
+unfolding terms_of
+numbered_from f [] i h = refl
+numbered_from f (x ∷ xs) i h =
+    let here : i + 0 ≡ i = omega arith in
+    let first : f i ≡ x = ap f (sym here) ∙ h 0 (omega arith) in
+    let rest = numbered_from f xs (suc i) (λ j l. let next : suc i + j ≡ i + suc j = omega arith in ap f next ∙ h (suc j) (omega arith)) in
+    rw (first, rest) refl
+
+-- the numbers of a list, each by its place, are the list
+pub numbered : (l : List Float) → terms 0 (length l) (at l) ≡ l
+numbered l = let all : length l - 0 ≡ length l = omega arith in rw all (numbered_from (at l) l 0 (λ j h. let here : 0 + j ≡ j = omega arith in ap (at l) here))
 
 -- a loop that stores f j at place j
 abbrev pub store : {A : Type 0} → (ℕ → ℕ) → (ℕ → A) → ℕ → List A → List A

@@ -16,14 +16,13 @@ use Rattle.zone.specs.declared.calls.state.Demand.{Demand}
 use Rattle.zone.specs.declared.calls.state.Reason.{Reason}
 use Rattle.zone.specs.declared.calls.state.Load.{Load}
 use Rattle.zone.specs.declared.hour.hour.Meeting.TheVariants.{NotMet}
-use Rattle.zone.specs.declared.hour.hour.Asked.TheVariants as Asked
 use Rattle.zone.specs.declared.hour.windows.ZoneTemperatures.{ZoneTemperatures}
 use Rattle.zone.specs.Record.BuildingElement.{standard_coefficients}
 use Rattle.zone.specs.Hour.Demand.{control_temperature, free_temperatures, ach_to_reach}
 use Rattle.zone.specs.Calls.Why.{load_of, reason_for, why_of}
 use Rattle.zone.specs.Inner.Operative.{areas_of, control_by}
 use Rattle.zone.specs.Inner.Demand.{zone_temperatures, rate_to_reach}
-use Rattle.zone.specs.Inner.Hour.{free_gains, no_demand, update_solved, hour_solved}
+use Rattle.zone.specs.Inner.Hour.{demand_solved}
 use Rattle.zone.specs.Inner.Why.{free_at, found_reason, open_reason, choice_reason, reason_in}
 use Rattle.zone.proofs.Laws.Assembled.{control_by_lem}
 use Rattle.zone.proofs.Laws.Counts.{min_24}
@@ -35,24 +34,6 @@ use Rattle.zone.proofs.Laws.Hour.{demand_solved_lem}
 pub temperatures_of_lem : (z : Zone) (t : List Float) (n : ℕ) → n ≡ min z.count 24 → (area : List Float) → area ≡ areas_of z → (total : Float) → total ≡ sum2 (take n area)
     → (x : ZoneTemperatures) → x ≡ zone_temperatures (control_by z.temp_setpnt_basis z.count area total) t → x ≡ zone_temperatures (control_temperature z) t
 temperatures_of_lem z t n n_is area area_is total total_is x e = e ∙ rw (total_is, area_is, n_is, min_24 z.count, areas_total z, control_by_lem z t) refl
-
-module _ (z : Zone) (t : List Float) (h : Conditions) (ach : Float) (before : List Float) where
-  free_solved : free_temperatures standard_coefficients z t h ach ≡ bind (hour_solved z t h (Asked.Update (free_gains h) ach) before) λ u. ok u.1
-  unfolding update_solved
-  free_solved = go (free_temperatures standard_coefficients z t h ach)
-    where
-      go : (x : Result (List Float)) → x ≡ bind {A = Demand × List Float} (bind x λ u. ok (no_demand ach, u)) λ u. ok u.1
-      go (ok u) = refl
-      go (refused n i) = refl
-
-  pub free_refused : (n i : ℕ) → refused n i ≡ hour_solved z t h (Asked.Update (free_gains h) ach) before → refused n i ≡ free_at z t h ach
-  unfolding free_at
-  free_refused n i solved = rw (free_solved, ← solved) refl
-
-  pub free_accepted : (d : Demand) (after : List Float) → ok (d, after) ≡ hour_solved z t h (Asked.Update (free_gains h) ach) before
-      → ok (zone_temperatures (control_temperature z) after) ≡ free_at z t h ach
-  unfolding free_at
-  free_accepted d after solved = rw (free_solved, ← solved) refl
 
 -- ---- reason.rt
 
@@ -92,11 +73,11 @@ module _ (z : Zone) (t : List Float) (h : Conditions) where
 -- ---- why.rt
 
 module _ (z : Zone) (t : List Float) (h : Conditions) (before : List Float) where
-  pub why_not_asked : (n i : ℕ) → refused n i ≡ hour_solved z t h (Asked.Demand NotMet) before → refused n i ≡ why_of standard_coefficients z t h
+  pub why_not_asked : (n i : ℕ) → refused n i ≡ demand_solved z t h NotMet before → refused n i ≡ why_of standard_coefficients z t h
   unfolding why_of
   why_not_asked n i solved = rw (demand_solved_lem z t h before, ← solved) refl
 
-  module _ (d : Demand) (after : List Float) (solved : ok (d, after) ≡ hour_solved z t h (Asked.Demand NotMet) before) where
+  module _ (d : Demand) (after : List Float) (solved : ok (d, after) ≡ demand_solved z t h NotMet before) where
     pub why_no_reason : (n i : ℕ) → refused n i ≡ reason_in z t h h.ach_args → refused n i ≡ why_of standard_coefficients z t h
     unfolding why_of
     why_no_reason n i told = rw (demand_solved_lem z t h before, ← solved, ← reason_in_lem z t h h.ach_args, ← told) refl

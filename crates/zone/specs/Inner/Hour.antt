@@ -1,8 +1,8 @@
--- An hour's calculations, as the code has them: a given load, or the demand and the last calculation where it is met. answer_solved (proofs/Laws/PreparedDemand.antt)
--- ties `answer_in` to `hour_solved`, and Laws/Hour.antt and StartUp.antt tie that to the calls.
+-- An hour's calculations, as the code has them: a given load, or the demand and the last calculation where it is met. kept_demand and kept_update
+-- (proofs/Laws/KeptHour.antt) tie them to the definitions, and Laws/Hour.antt and StartUp.antt tie these to the calls.
 use Rattle.std.specs.Prelude.{None, Option, Some}
 use Rattle.std.specs.Prelude.{Bool, true, List, Float}
-use Rattle.solver.specs.F64.{◌+ᶠ◌, zero64}
+use Rattle.solver.specs.F64.{◌+ᶠ◌}
 use Rattle.solver.specs.Result.{Result, ok, refused, bind}
 use Rattle.solver.specs.Inner.Factored.{solved_res}
 use Rattle.zone.specs.declared.record.zone_record.Zone.{Zone}
@@ -10,14 +10,13 @@ use Rattle.zone.specs.declared.format.conditions.Conditions.{Conditions}
 use Rattle.zone.specs.declared.calls.state.Demand.{Demand}
 use Rattle.zone.specs.declared.hour.hour.Meeting.{Meeting}
 use Rattle.zone.specs.declared.hour.hour.Meeting.TheVariants.{NotMet, WithGains, Alone}
-use Rattle.zone.specs.declared.hour.hour.Asked.{Asked}
 use Rattle.zone.specs.declared.hour.rule.Rule.{Rule}
-use Rattle.zone.specs.declared.hour.time_step.HeatCoolGains.{HeatCoolGains}
+use Rattle.zone.specs.declared.physics.balance.HeatCoolGains.{HeatCoolGains}
 use Rattle.zone.specs.Record.BuildingElement.{standard_coefficients}
 use Rattle.zone.specs.Physics.Ventilation.{calc_vent_heat_transfer_coeff}
 use Rattle.zone.specs.declared.physics.balance.HeatBalance.{HeatBalance}
 use Rattle.zone.specs.Physics.HeatBalance.{heat_balance}
-use Rattle.zone.specs.Hour.Demand.{delta_t, gains_heat_cool, frac_conv_gains_heat_cool, temperatures_with, space_heat_cool_demand, ventilated, demand_record}
+use Rattle.zone.specs.Hour.Demand.{delta_t, gains_heat_cool, frac_conv_gains_heat_cool, temperatures_with, space_heat_cool_demand}
 use Rattle.zone.specs.declared.calls.state.State.{State}
 use Rattle.zone.specs.Calls.State.{state_of}
 use Rattle.zone.specs.Calls.Hour.{delivered, delivered_by, convective_share, HourResult}
@@ -41,16 +40,12 @@ met_load h d NotMet = None
 met_load h d (WithGains r) = Some (gains_by r h d)
 met_load h d Alone = Some (record { gains_heat_cool = delivered h d; f_hc_c = h.frac_convective_heat })
 
--- what stands beside an update, which asks for no demand
-unfoldable pub no_demand : (ach : Float) → Demand
-no_demand ach = demand_record zero64 (ventilated zero64 ach None)
-
 -- of an hour that is prepared
 module _ (p : Prepared) (volume : Float) where
-  unfoldable pub update_in : HeatCoolGains → (ach : Float) → Result (Demand × List Float)
+  unfoldable pub update_in : HeatCoolGains → (ach : Float) → Result (List Float)
   update_in g ach =
       bind (solved_in p volume g.gains_heat_cool g.f_hc_c ach) λ x.
-      ok (no_demand ach, x.0)
+      ok x.0
 
   -- the temperatures after the last calculation, or those before it where there is none
   abbrev pub met_in : Demand → (last : List Float) → Option HeatCoolGains → (before : List Float) → Result (List Float)
@@ -64,9 +59,15 @@ module _ (p : Prepared) (volume : Float) where
         bind (met_in x.0 x.1 (met_load h x.0 meeting) before) λ after.
         ok (x.0, after)
 
-    abbrev pub answer_in : Asked → (before : List Float) → Result (Demand × List Float)
-    answer_in (Asked.Demand meeting) before = demand_met_in meeting before
-    answer_in (Asked.Update g ach) before = update_in g ach
+-- an hour that is prepared: its systems, its zone, the temperature that the setpoints are held against, and what the hour says
+pub data Hour : Type 0 where
+  hour_with : (p : Prepared) (z : Zone) (control : List Float → Float) (h : Conditions) → Hour
+
+abbrev pub update_of : Hour → HeatCoolGains → (ach : Float) → Result (List Float)
+update_of (hour_with p z control h) g ach = update_in p z.volume g ach
+
+abbrev pub demand_met_of : Hour → Meeting → (before : List Float) → Result (Demand × List Float)
+demand_met_of (hour_with p z control h) meeting before = demand_met_in p z.volume control h z.useful_area meeting before
 
 module _ (z : Zone) (t : List Float) (h : Conditions) where
   abbrev pub met_with : Demand → Option HeatCoolGains → (before : List Float) → Result (List Float)
@@ -78,15 +79,6 @@ module _ (z : Zone) (t : List Float) (h : Conditions) where
       bind (space_heat_cool_demand standard_coefficients z t h) λ d.
       bind (met_with d (met_load h d meeting) before) λ after.
       ok (d, after)
-
-  unfoldable pub update_solved : HeatCoolGains → (ach : Float) → Result (Demand × List Float)
-  update_solved g ach =
-      bind (temperatures_with standard_coefficients z t h g.gains_heat_cool g.f_hc_c ach) λ after.
-      ok (no_demand ach, after)
-
-  abbrev pub hour_solved : Asked → (before : List Float) → Result (Demand × List Float)
-  hour_solved (Asked.Demand meeting) before = demand_solved meeting before
-  hour_solved (Asked.Update g ach) before = update_solved g ach
 
 -- a pass of start-up, from the temperatures t, is the last where it is refused or settles
 abbrev pub ends : Zone → (t : List Float) → Result (Demand × List Float) → Bool

@@ -10,15 +10,12 @@ use Rattle.solver.specs.FastSolver.{at_most24}
 use Rattle.solver.specs.Inner.Columns.{column_of}
 use Rattle.solver.specs.Inner.Reduced.{reduce_chains, inner_shares}
 use Rattle.solver.specs.Inner.Apart.{Columns, columns, factor_apart}
-use Rattle.solver.specs.Result.{Result}
 use Rattle.zone.specs.declared.record.building_element.Element.{Element}
 use Rattle.zone.specs.declared.record.building_element.Coefficients.{Coefficients}
 use Rattle.zone.specs.declared.record.building_element.ElementHour.{ElementHour}
 use Rattle.zone.specs.declared.record.building_element.HeatFlowDirection.{HeatFlowDirection}
 use Rattle.zone.specs.declared.record.building_element.HeatFlowDirection.TheVariants.{Horizontal}
 use Rattle.zone.specs.declared.format.conditions.Conditions.{Conditions}
-use Rattle.zone.specs.declared.hour.hour.Asked.{Asked}
-use Rattle.zone.specs.declared.calls.state.Demand.{Demand}
 use Rattle.zone.specs.declared.record.zone_record.Zone.{Zone}
 use Rattle.zone.specs.Record.BuildingElement.{is_direction, h_ci_of, standard_coefficients}
 use Rattle.zone.specs.Physics.Slots.{air, element, element_hour, with_terms}
@@ -28,7 +25,7 @@ use Rattle.zone.specs.Inner.Assembly.{convective_by, Chains, chains, set_rows, c
 use Rattle.zone.specs.Inner.Assembled.{ZoneTerms, h_ri_of, element_sides}
 use Rattle.zone.specs.Inner.Operative.{areas_of, control_by}
 use Rattle.zone.specs.Inner.Prepared.{Prepared, prepared}
-use Rattle.zone.specs.Inner.Hour.{answer_in}
+use Rattle.zone.specs.Inner.Hour.{Hour, hour_with}
 use Rattle.zone.specs.Hour.Demand.{delta_t}
 
 -- the directions of heat flow at the elements' inner surfaces, from the temperatures before the step
@@ -164,26 +161,25 @@ keep_factors z directions opens delta_t (held flags numbers key a column) =
     (held flags numbers key a column)
     (held_with (numbers_by z directions delta_t) (directions, opens) (factors_in z directions opens delta_t (emptied (get_or flags 0 false) a)))
 
--- an hour prepared, and what is asked of it, from a matrix that is held
+-- an hour prepared from a matrix that is held
 abbrev pub prepared_from : ZoneTerms → (b : List Float) → Factors → Prepared
 prepared_from s b (factors valid two_nodes diag next prev dense interchanges column) =
     let n = at_most24 s.n in
     let y = reduce_chains n two_nodes diag prev b in
     prepared s valid two_nodes diag next dense interchanges column y (inner_shares n diag prev y (replicate 24 zero64))
 
-unfoldable pub hour_from :
-    Zone → List Float → Conditions → Asked → (before numbers : List Float) → Factors → Result (Demand × List Float)
-hour_from z t h asked before numbers k =
+unfoldable pub hour_from : Zone → List Float → Conditions → (numbers : List Float) → Factors → Hour
+hour_from z t h numbers k =
     let n = at_most24 z.count in
-    answer_in
+    hour_with
     (prepared_from (terms_by standard_coefficients z h (delta_t h) t numbers)
     (element_sides n z.building_elements h.elements (delta_t h) t (replicate 121 zero64)) k)
-    z.volume (control_by z.temp_setpnt_basis z.count (areas_of z) (get_or numbers 0 nan)) h z.useful_area asked before
+    z (control_by z.temp_setpnt_basis z.count (areas_of z) (get_or numbers 0 nan)) h
 
-abbrev pub hour_held : Zone → List Float → Conditions → Asked → (before : List Float) → Held → Result (Demand × List Float)
-hour_held z t h asked before x = hour_from z t h asked before (numbers_held x) (factors_held x)
+abbrev pub hour_held : Zone → List Float → Conditions → Held → Hour
+hour_held z t h x = hour_from z t h (numbers_held x) (factors_held x)
 
--- ---- where it is the zone's: `hour_held` is then `hour_solved` (Laws/KeptHour.antt)
+-- ---- where it is the zone's: `hour_held` is then the hour's own system, prepared (Laws/KeptHour.antt)
 
 pub record FactorsOf (z : Zone) (directions : List HeatFlowDirection) (opens : List ℕ) (delta_t : Float) (k : Factors) (sums : List Float) : Type 0 where
   pub are : k ≡ factors_by z directions opens delta_t

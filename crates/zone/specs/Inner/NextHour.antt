@@ -7,13 +7,13 @@ use Rattle.zone.specs.declared.record.zone_record.Zone.{Zone}
 use Rattle.zone.specs.declared.format.conditions.Conditions.{Conditions}
 use Rattle.zone.specs.declared.format.limits.Limits.{Limits}
 use Rattle.zone.specs.declared.hour.hour.Meeting.TheVariants.{WithGains}
-use Rattle.zone.specs.declared.hour.hour.Asked.TheVariants as Asked
 use Rattle.zone.specs.declared.hour.rule.Rule.{Rule}
 use Rattle.zone.specs.declared.calls.state.State.{State}
 use Rattle.zone.specs.declared.calls.state.Demand.{Demand}
 use Rattle.zone.specs.Hour.Demand.{delta_t, gains_heat_cool, temperatures_with, space_heat_cool_demand}
 use Rattle.zone.specs.Calls.State.{slots_of, state_of}
 use Rattle.zone.specs.Inner.Kept.{Held, opens_of, keep_factors, directions_of, hour_held}
+use Rattle.zone.specs.Inner.Hour.{demand_met_of}
 use Rattle.zone.specs.Calls.Hour.{tested_hour_and_limits, delivered_by, convective_share}
 
 -- the hour step of a zone and a version that are tested already, and whose heat balance nobody asks for: the demand, and the state after the hour
@@ -50,4 +50,4 @@ rule_of version l = record { version = version; limits = l }
 unfoldable pub next_hour_from : Zone → (version : ℕ) → Limits → State → List ℕ → Held → Result (Demand × State)
 next_hour_from z version l s bytes k =
     bind (tested_hour_and_limits z version l s bytes) λ h.
-    solved_next z (hour_held z (slots_of z s) h (Asked.Demand (WithGains (rule_of version l))) (replicate 121 zero64) k)
+    solved_next z (demand_met_of (hour_held z (slots_of z s) h k) (WithGains (rule_of version l)) (replicate 121 zero64))

@@ -9,6 +9,7 @@ use Rattle.zone.specs.Inner.Assembled.{ZoneTerms}
 use Rattle.zone.specs.declared.format.conditions.Conditions.{Conditions}
 use Rattle.zone.specs.Inner.Operative.{control_by}
 use Rattle.zone.specs.Inner.Prepared.{Prepared, prepared}
+use Rattle.zone.specs.Inner.Hour.{Hour, hour_with}
 
 -- the zone's terms: of its n elements the sums, then what does not change in the hour
 abbrev pub terms_with : (n : ℕ) → ElementSums → (c_int_per_delta_t temp_int_air : Float) → Zone → Conditions → ZoneTerms
@@ -39,6 +40,9 @@ prepared_in p =
 -- the temperature that the setpoints are held against
 abbrev pub control_in : Control → List Float → Float
 control_in c = control_by c.basis c.count c.area c.area_el_total
+
+abbrev pub hour_in : PreparedHour → Hour
+hour_in p = hour_with (prepared_in p) p.zone.now (control_in p.control) p.hour.now
 
 -- what the definitions of an hour that is prepared say of this one
 module _ {A : Type 0} where

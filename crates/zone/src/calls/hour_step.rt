@@ -8,10 +8,9 @@ ghost use Rattle.zone.specs.Inner.Hour.{step_balance};
 
 use crate::calls::state::{Demand, Reply, State};
 use crate::check::arguments::{tested, tested_step};
-use crate::format::conditions::Conditions;
 use crate::format::limits::Limits;
-use crate::hour::hour::{Asked, Meeting};
-use crate::hour::hour_kept::hour_in;
+use crate::hour::hour::Meeting;
+use crate::hour::hour_start::HourStart;
 use crate::hour::rule::Rule;
 use crate::hour::simulation_time::delta_t_of;
 use crate::physics::balance::{HeatBalance, heat_balance};
@@ -19,30 +18,25 @@ use crate::record::building_element::standard_coefficients;
 use crate::record::refusal::Refusal;
 use crate::record::zone_record::Zone;
 
-// The heat balance of an hour step, from the demand and the temperatures after the hour.
-fn step_balance(
-    z: &Zone,
-    t: &[f64; 121],
-    h: &Conditions,
-    rule: Rule,
-    d: Demand,
-    after: &[f64; 121],
-) -> HeatBalance
-    ensures { result ≡ step_balance z.now t.now h.now rule d after.now }
-{
-    let c = standard_coefficients();
-    let g = rule.gains(h, d);
-    heat_balance(
-        c,
-        z,
-        t,
-        h,
-        delta_t_of(h),
-        g.gains_heat_cool,
-        g.f_hc_c,
-        d.ach_cooling,
-        after,
-    )
+impl HourStart<'_> {
+    // The heat balance of an hour step, from the demand and the temperatures after the hour.
+    fn step_balance(&self, rule: Rule, d: Demand, after: &[f64; 121]) -> HeatBalance
+        ensures { result ≡ step_balance self.now.zone.now self.now.temp_prev.now self.now.hour.now rule d after.now }
+    {
+        let c = standard_coefficients();
+        let h = self.hour;
+        let g = rule.gains(h, d);
+        heat_balance(
+            c,
+            self.zone,
+            self.temp_prev,
+            h,
+            delta_t_of(h),
+            g,
+            d.ach_cooling,
+            after,
+        )
+    }
 }
 
 impl State {
@@ -51,9 +45,13 @@ impl State {
         ensures { answered result ≡ demand standard_coefficients z.now self.now conditions.now }
     {
         let h = tested(z, self, conditions)?;
-        let asked = Asked::Demand(Meeting::NotMet);
+        let start = HourStart {
+            zone: z,
+            temp_prev: &self.slots(z),
+            hour: &h,
+        };
         let mut after = [0.0; 121];
-        hour_in(z, &self.slots(z), &h, asked, &mut after)
+        start.demand_alone(Meeting::NotMet, &mut after)
     }
 
     pub fn space_heat_cool_demand(self, z: &Zone, conditions: &[u8]) -> Reply<Demand>
@@ -76,11 +74,14 @@ impl State {
         ensures { hour_stepped result ≡ hour_step standard_coefficients z.now rule.version rule.limits self.now conditions.now }
     {
         let h = tested_step(z, rule, self, conditions)?;
-        let t = self.slots(z);
-        let asked = Asked::Demand(Meeting::WithGains(rule));
+        let start = HourStart {
+            zone: z,
+            temp_prev: &self.slots(z),
+            hour: &h,
+        };
         let mut temps = [0.0; 121];
-        let d = hour_in(z, &t, &h, asked, &mut temps)?;
-        let balance = step_balance(z, &t, &h, rule, d, &temps);
+        let d = start.demand_alone(Meeting::WithGains(rule), &mut temps)?;
+        let balance = start.step_balance(rule, d, &temps);
         Ok((State::of_slots(z, &temps), (d, balance)))
     }
 

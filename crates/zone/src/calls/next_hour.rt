@@ -10,7 +10,8 @@ ghost use Rattle.zone.specs.Record.BuildingElement.{standard_coefficients};
 use crate::calls::state::{Demand, Reply, State};
 use crate::check::arguments::tested_hour_and_limits;
 use crate::format::limits::Limits;
-use crate::hour::hour::{Asked, Meeting};
+use crate::hour::hour::Meeting;
+use crate::hour::hour_start::HourStart;
 use crate::hour::kept::KeptMatrix;
 use crate::hour::rule::Rule;
 use crate::record::refusal::Refusal;
@@ -33,9 +34,16 @@ impl State {
         ensures kept_state { OnErr result (after.new ≡ after.old) }
     {
         let h = tested_hour_and_limits(z, rule, self, conditions)?;
-        let asked = Asked::Demand(Meeting::WithGains(rule));
+        let start = HourStart {
+            zone: z,
+            temp_prev: &self.slots(z),
+            hour: &h,
+        };
         let mut temps = [0.0; 121];
-        let d = kept.hour(z, &self.slots(z), &h, asked, &mut temps)?;
+        kept.keep_hour(&start);
+        let d = kept
+            .prepared(&start)
+            .demand_met(Meeting::WithGains(rule), &mut temps)?;
         *after = State::of_slots(z, &temps);
         Ok(d)
     }

@@ -12,7 +12,8 @@ ghost use Rattle.zone.specs.Calls.StartUp.{start_state, settle, init_node_temps}
 use crate::calls::start_up_parts::{close, start_slots, start_up_conditions};
 use crate::calls::state::{Demand, State};
 use crate::check::zone_tests::zone_test;
-use crate::hour::hour::{Asked, Meeting};
+use crate::hour::hour::Meeting;
+use crate::hour::hour_start::HourStart;
 use crate::hour::kept::KeptMatrix;
 use crate::record::refusal::Refusal;
 use crate::record::zone_record::Zone;
@@ -47,7 +48,13 @@ fn settle(z: &Zone, kept: &mut KeptMatrix) -> Result<State, Refusal>
         if limit <= passes {
             break Err(Refusal::NotSettled);
         }
-        let demand = kept.hour(z, &t, &h, Asked::Demand(Meeting::Alone), &mut after);
+        let start = HourStart {
+            zone: z,
+            temp_prev: &t,
+            hour: &h,
+        };
+        kept.keep_hour(&start);
+        let demand = kept.prepared(&start).demand_met(Meeting::Alone, &mut after);
         if ends(z, demand, &t, &after) {
             break settled(z, demand, &t);
         }

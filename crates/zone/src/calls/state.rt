@@ -26,23 +26,23 @@ pub struct Demand {
     pub ach_to_trigger_heating: Option<f64>,
 }
 
-// Why an hour has its air change rate: the earliest that holds, in the paper's order.
+// Why an hour has its air change rate: the earliest that holds. Each has its place in the paper's list, which is the C interface's number.
 #[derive(Clone, Copy, Debug, PartialEq, Eq)]
 pub enum Reason {
-    NoChoice,
-    NotAboveVentilationSetpoint,
-    NotAboveSupply,
-    WindowsDoNotCool,
-    StillAboveCoolingSetpoint,
-    WindowsEnough,
+    NoChoice = 1,
+    NotAboveVentilationSetpoint = 2,
+    NotAboveSupply = 3,
+    WindowsDoNotCool = 4,
+    StillAboveCoolingSetpoint = 5,
+    WindowsEnough = 6,
 }
 
-// What the hour's demand asks for.
+// What the hour's demand asks for, with the C interface's numbers.
 #[derive(Clone, Copy, Debug, PartialEq, Eq)]
 pub enum Load {
-    Neither,
-    Heating,
-    Cooling,
+    Neither = 0,
+    Heating = 1,
+    Cooling = 2,
 }
 
 // The answer of a call, and the state: the new one, or the one that was given.

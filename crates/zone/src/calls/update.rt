@@ -10,11 +10,9 @@ use crate::calls::state::{Reply, State};
 use crate::check::arguments::tested;
 use crate::check::ranges::{FRACTION, GAINS, RATE};
 use crate::format::conditions::Conditions;
-use crate::hour::hour::Asked;
-use crate::hour::hour_kept::hour_in;
+use crate::hour::hour_start::HourStart;
 use crate::hour::simulation_time::delta_t_of;
-use crate::hour::time_step::HeatCoolGains;
-use crate::physics::balance::{HeatBalance, heat_balance};
+use crate::physics::balance::{HeatBalance, HeatCoolGains, heat_balance};
 use crate::record::building_element::standard_coefficients;
 use crate::record::refusal::Refusal;
 use crate::record::zone_record::Zone;
@@ -39,17 +37,20 @@ impl State {
         ensures { answered result ≡ step standard_coefficients z.now self.now h.now gains.gains_heat_cool gains.f_hc_c ach }
     {
         let before = self.slots(z);
-        let asked = Asked::Update(gains, ach);
+        let start = HourStart {
+            zone: z,
+            temp_prev: &before,
+            hour: h,
+        };
         let mut temps = [0.0; 121];
-        hour_in(z, &before, h, asked, &mut temps)?;
+        start.update_alone(gains, ach, &mut temps)?;
         let balance = heat_balance(
             standard_coefficients(),
             z,
             &before,
             h,
             delta_t_of(h),
-            gains.gains_heat_cool,
-            gains.f_hc_c,
+            gains,
             ach,
             &temps,
         );

@@ -6,10 +6,8 @@ ghost use Rattle.zone.specs.Calls.Why.{load_of, why_of, why};
 
 use crate::calls::state::{Demand, Load, Reason, State};
 use crate::check::arguments::tested;
-use crate::format::conditions::Conditions;
-use crate::hour::hour::{Asked, Meeting};
-use crate::hour::hour_kept::hour_in;
-use crate::hour::reason::reason_of;
+use crate::hour::hour::Meeting;
+use crate::hour::hour_start::HourStart;
 use crate::record::refusal::Refusal;
 use crate::record::zone_record::Zone;
 
@@ -27,16 +25,17 @@ fn load_asked(d: Demand) -> Load
     Load::Neither
 }
 
-// An hour that is tested: what the demand refuses is refused, before any reason.
-#[tactic(auto, using(crate::proofs::Laws::Why::why_not_asked, crate::proofs::Laws::Why::why_no_reason))]
-fn why_of(z: &Zone, t: &[f64; 121], h: &Conditions) -> Result<(Reason, Load), Refusal>
-    ensures { answered result ≡ why_of standard_coefficients z.now t.now h.now }
-{
-    let asked = Asked::Demand(Meeting::NotMet);
-    let mut after = [0.0; 121];
-    let d = hour_in(z, t, h, asked, &mut after)?;
-    let reason = reason_of(z, t, h)?;
-    Ok((reason, load_asked(d)))
+impl HourStart<'_> {
+    // An hour that is tested: what the demand refuses is refused, before any reason.
+    #[tactic(auto, using(crate::proofs::Laws::Why::why_not_asked, crate::proofs::Laws::Why::why_no_reason))]
+    fn why(&self) -> Result<(Reason, Load), Refusal>
+        ensures { answered result ≡ why_of standard_coefficients self.now.zone.now self.now.temp_prev.now self.now.hour.now }
+    {
+        let mut after = [0.0; 121];
+        let d = self.demand_alone(Meeting::NotMet, &mut after)?;
+        let reason = self.reason()?;
+        Ok((reason, load_asked(d)))
+    }
 }
 
 impl State {
@@ -46,6 +45,11 @@ impl State {
         ensures { answered result ≡ why standard_coefficients z.now self.now conditions.now }
     {
         let h = tested(z, self, conditions)?;
-        why_of(z, &self.slots(z), &h)
+        let start = HourStart {
+            zone: z,
+            temp_prev: &self.slots(z),
+            hour: &h,
+        };
+        start.why()
     }
 }

@@ -8,7 +8,7 @@ ghost use Rattle.zone.specs.Format.Conditions.{rate_code_valid, open_bits_valid,
 use crate::check::ranges::{
     FRACTION, GAINS, HEATING_SETPOINT, HOUR_LENGTH, RATE, SETPOINT, TEMPERATURE, open_within,
 };
-use crate::check::zone_tests::element_hour_in_range;
+use crate::check::zone_tests::{all_required, element_hour_in_range};
 use crate::format::bytes::read_u64_be;
 use crate::format::conditions::{AirChangesPerHourArgument, Conditions};
 use crate::format::layout::{
@@ -29,7 +29,7 @@ pub fn rate_code_valid(s: &[u8]) -> bool
     }
 }
 
-// No open bit past the treatments, of any of these elements.
+// No open bit past the treatments, of any of these elements, whose number and parts are bounded as in decode_conditions.rt.
 pub fn open_bits_valid(s: &[u8], elements: &[Element]) -> bool
     requires { (length elements.now ≤ 24) × (conditions_length (length elements.now) ≤ length s.now) }
     ensures { result ≡ open_bits_valid s.now (map (λ (e : Element). e.treatments) elements.now) first_element_hour }
@@ -76,7 +76,8 @@ fn ach_args_in_range(a: AirChangesPerHourArgument) -> bool
     }
 }
 
-// The first value out of range.
+// The first value out of range. The count is the zone's, for the papers' record of conditions has none; with `&c.elements[..n]` in its place a caller would
+// hand over the conditions and a part of them.
 #[tactic(auto, unfolding(crate::specs::Format::Conditions::conditions_test))]
 pub fn conditions_test(n: usize, c: &Conditions) -> Result<(), Refusal>
     requires { n ≤ 24 }
@@ -85,9 +86,9 @@ pub fn conditions_test(n: usize, c: &Conditions) -> Result<(), Refusal>
     if !(hour_and_gains_in_range(c) & setpoints_in_range(c) & ach_args_in_range(c.ach_args)) {
         return Err(Refusal::ConditionsValue(0));
     }
-    let mut hours = c.elements[..n].iter();
-    match hours.position(|h| !element_hour_in_range(h)) {
-        Some(i) => Err(Refusal::ConditionsValue(i + 1)),
-        None => Ok(()),
-    }
+    all_required(
+        &c.elements[..n],
+        element_hour_in_range,
+        Refusal::ConditionsValue,
+    )
 }

@@ -1,8 +1,11 @@
 // A zone given as a record, tested as its head would be: 4, then 5.
-ghost use Rattle.std.specs.Prelude.{◌≡◌, ◌≤◌};
-ghost use Rattle.zone.specs.Answers.{answered};
+ghost use denote.Ref.{Bor};
+ghost use Rattle.std.specs.Prelude.{◌≡◌, ◌≤◌, ℕ, Bool};
+ghost use Rattle.zone.specs.Answers.{answered, number_of, index_of};
+ghost use Rattle.zone.specs.declared.record.refusal.Refusal.{Refusal};
 ghost use Rattle.zone.specs.Inner.Check.{tail_in_range};
 ghost use Rattle.zone.specs.Check.ZoneTest.{
+  all_required,
   count_valid,
   element_hour_in_range,
   element_in_range,
@@ -83,7 +86,27 @@ fn front_in_range(z: &Zone) -> bool
         & SETPOINT.contains(z.temp_setpnt_cool_vent_init)
 }
 
-// The first value out of range.
+// Each of the items has to pass: the first that does not is refused by its place, from 1 on.
+pub fn all_required<T, F: Fn(&T) -> bool, R: Fn(usize) -> Refusal>(
+    items: &[T],
+    passes: F,
+    refusal: R,
+) -> Result<(), Refusal>
+    requires tests { (x : Bor T) → F.pre passes x }
+    requires refuses { (i : ℕ) → R.pre refusal i }
+    ensures { (test : T → Bool) (number : ℕ) → ((x : Bor T) (b : Bool) → F.post passes x b → b ≡ test x.now)
+        → ((i : ℕ) (r : Refusal) → R.post refusal i r → (number_of r ≡ number) × (index_of r ≡ i))
+        → answered result ≡ all_required test number items.now 1 }
+{
+    for (i, item) in items.iter().enumerate() {
+        if !passes(item) {
+            return Err(refusal(i + 1));
+        }
+    }
+    Ok(())
+}
+
+// The first value out of range. Made after `counts_test`, its one caller knows the bound of the count; a type for that would be made for this call alone.
 #[tactic(auto, unfolding(crate::specs::Check::ZoneTest::values_test))]
 fn values_test(z: &Zone) -> Result<(), Refusal>
     requires { z.now.count ≤ 24 }
@@ -92,11 +115,11 @@ fn values_test(z: &Zone) -> Result<(), Refusal>
     if !front_in_range(z) {
         return Err(Refusal::ZoneValue(0));
     }
-    let mut elements = z.building_elements[..z.count].iter();
-    match elements.position(|e| !element_in_range(e)) {
-        Some(i) => Err(Refusal::ZoneValue(i + 1)),
-        None => Ok(()),
-    }
+    all_required(
+        &z.building_elements[..z.count],
+        element_in_range,
+        Refusal::ZoneValue,
+    )
 }
 
 #[tactic(auto, using(crate::proofs::Laws::Ranges::partial_le_is))]
@@ -106,7 +129,7 @@ pub fn count_valid(n: usize) -> bool
     (1..=24).contains(&n)
 }
 
-// The count, and the first element with more treatments than its kind has.
+// The count, and the treatments of the elements.
 #[tactic(auto, unfolding(crate::specs::Check::ZoneTest::counts_test))]
 fn counts_test(z: &Zone) -> Result<(), Refusal>
     ensures { answered result ≡ counts_test z.now }
@@ -114,11 +137,11 @@ fn counts_test(z: &Zone) -> Result<(), Refusal>
     if !count_valid(z.count) {
         return Err(Refusal::Structure(0));
     }
-    let mut elements = z.building_elements[..z.count].iter();
-    match elements.position(|e| max_treatments(e.kind) < e.treatments) {
-        Some(i) => Err(Refusal::Structure(i + 1)),
-        None => Ok(()),
-    }
+    all_required(
+        &z.building_elements[..z.count],
+        |e| e.treatments <= max_treatments(e.kind),
+        Refusal::Structure,
+    )
 }
 
 // 4, then 5.

@@ -18,14 +18,13 @@ use crate::format::layout::{
 use crate::record::building_element::{Element, ElementHour, Kind, number_of_nodes};
 use crate::record::zone_record::{Zone, ZoneTemperatureControlBasis};
 
-// The floats from `at` on, into all places. By index: a proof knows nothing of the places that a loop over
-// an adapter of `iter_mut` has written, as `zip` or `enumerate`.
+// The floats from `at` on, into all places.
 pub fn floats_to(out: &mut [f64], s: &[u8], at: usize)
     requires { at + float_size * length out.old ≤ length s.now }
     ensures { out.new ≡ floats_at s.now at (length out.old) }
 {
-    for i in 0..out.len() {
-        out[i] = read_f64_be(s, at + FLOAT_SIZE * i);
+    for (i, slot) in out.iter_mut().enumerate() {
+        *slot = read_f64_be(s, at + FLOAT_SIZE * i);
     }
 }
 
@@ -129,7 +128,8 @@ fn size_at(s: &[u8], p: usize) -> usize
     element_size(kind, t)
 }
 
-// The `n` elements of a head whose structure is right.
+// The `n` elements of a head whose structure is right. That `n` is at most 24 is part of that structure: `count_valid`, which `read_zone` has from
+// `structure_of`. A struct of `s`, `end` and `n` would have to say all of this contract again as its ghost fields, for one caller.
 fn elements_to(s: &[u8], end: usize, n: usize, elements: &mut [Element; 24])
     requires { (n ≤ 24) × (end ≤ length s.now) × (elements_end s.now end n 0 first_element ≡ ok end) }
     ensures { elements.new ≡ elements_at s.now first_element n ++ replicate (24 - n) no_element }

@@ -11,7 +11,8 @@ use crate::format::decode::{element_hour_at, no_element_hour};
 use crate::format::layout::{ELEMENT_HOUR_SIZE, FIRST_ELEMENT_HOUR, FLOAT_SIZE, RATE_CODE};
 use crate::record::building_element::ElementHour;
 
-// The rates in the 17 bytes from `at` on.
+// The rates in the 17 bytes from `at` on: their code, 0 or 1, and two floats. Any other code is taken as 1, as in the definition: `rate_code_valid` refuses
+// it before these bytes are decoded.
 fn ach_args_at(s: &[u8], at: usize) -> AirChangesPerHourArgument
     requires { at + 17 ≤ length s.now }
     ensures { result ≡ ach_args_at s.now at }
@@ -25,14 +26,15 @@ fn ach_args_at(s: &[u8], at: usize) -> AirChangesPerHourArgument
     }
 }
 
-// The parts of the first `n` elements; by index, for the reason that stands at `floats_to`.
+// The parts of the first `n` elements. Its bounds are tested in one place, `read_conditions`; a struct of `s` and `n` with ghost bounds would be made there
+// alone, and the contracts here, which say what the definitions of `s` and `n` say, would name its two fields for the two arguments.
 fn element_hours_at(s: &[u8], n: usize) -> [ElementHour; 24]
     requires { (n ≤ 24) × (conditions_length n ≤ length s.now) }
     ensures { result ≡ element_hours_at s.now first_element_hour n ++ replicate (24 - n) no_element_hour }
 {
     let mut hours = [no_element_hour(); 24];
-    for i in 0..n {
-        hours[i] = element_hour_at(s, FIRST_ELEMENT_HOUR + ELEMENT_HOUR_SIZE * i);
+    for (i, hour) in hours[..n].iter_mut().enumerate() {
+        *hour = element_hour_at(s, FIRST_ELEMENT_HOUR + ELEMENT_HOUR_SIZE * i);
     }
     hours
 }

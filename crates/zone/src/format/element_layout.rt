@@ -5,8 +5,8 @@ ghost use Rattle.zone.specs.Format.ElementLayout.{kind_of, h_count, max_treatmen
 use crate::format::layout::{FIVE_NODES_SIZE, TRANSPARENT_SIZE};
 use crate::record::building_element::{Kind, is_two_nodes};
 
-// The kind of a number, 0 to 5. Of any other a PartyWall, as in the definition: the structure test refuses those before,
-// and with `TryFrom` the decoder would have to answer an error that cannot come.
+// The kind of a number, 0 to 5. Of any other a PartyWall, as in the definition: the structure test asks for the kind of any byte, and refuses one past 5 by
+// its number. With `TryFrom` the decoder, which reads what has passed that test, would have to answer an error that cannot come.
 #[tactic(auto, unfolding(crate::specs::Format::ElementLayout::kind_of))]
 pub fn kind_of(number: u8) -> Kind
     ensures { result ≡ kind_of number }

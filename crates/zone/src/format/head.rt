@@ -26,7 +26,8 @@ fn kind_valid(number: u8, treatments: usize) -> bool
     (number <= 5) & (treatments <= most)
 }
 
-// Where the elements end: their structure, from the first element to `end`.
+// Where the elements end: their structure, from the first element to `end`. The bytes and their end, as in the definition, whose kinds and sizes are read
+// in all bytes, as the zone's values are: with `&s[..end]` each would need a law that a byte of the part is that of the whole.
 fn elements_end(s: &[u8], end: usize, n: usize) -> Result<usize, Refusal>
     requires { (first_element ≤ end) × (end ≤ length s.now) }
     ensures { answered result ≡ elements_end s.now end n 0 first_element }

@@ -15,8 +15,8 @@ pub struct Limits {
 // Both floats.
 const LIMITS_SIZE: usize = 2 * FLOAT_SIZE;
 
-// The limits in the first bytes; 0 twice where there are too few: of an hour without limits, which nobody looks at. No Option: an hour's limits are
-// two numbers in the papers with every version, and each caller would have to put 0 twice for a None.
+// The limits in the first bytes; 0 twice where there are too few: of an hour without limits, which nobody looks at. No Option: the contract, which is
+// exported, gives two numbers for any bytes, and `next_hour_kept`, for which the book reads them, takes `Limits` with every version.
 #[tactic(auto, unfolding(crate::specs::Format::Limits::limits_in))]
 pub fn read_limits(bytes: &[u8]) -> Limits
     ensures { result ≡ limits_in bytes.now }
@@ -27,7 +27,8 @@ pub fn read_limits(bytes: &[u8]) -> Limits
             cooling: 0.0,
         };
     }
-    let heating = read_f64_be(bytes, 0);
-    let cooling = read_f64_be(bytes, FLOAT_SIZE);
-    Limits { heating, cooling }
+    Limits {
+        heating: read_f64_be(bytes, 0),
+        cooling: read_f64_be(bytes, FLOAT_SIZE),
+    }
 }

@@ -12,7 +12,7 @@ use crate::format::layout::{ELEMENT_HOUR_SIZE, FIRST_ELEMENT_HOUR};
 use crate::record::refusal::Refusal;
 use crate::record::zone_record::Zone;
 
-// The values, once size, code and open bits are right.
+// The values, once size, code and open bits are right. Both bounds are known where this is called, and asked for as in decode_conditions.rt.
 #[tactic(auto, unfolding(crate::specs::Inner::Format::tested_at))]
 fn tested_at(s: &[u8], n: usize) -> Result<Conditions, Refusal>
     requires { (n ≤ 24) × (conditions_length n ≤ length s.now) }

@@ -12,7 +12,7 @@ use crate::hour::windows::{
 };
 use crate::record::refusal::Refusal;
 
-impl PreparedHour<'_> {
+impl PreparedHour<'_, '_> {
     // With the rate that windows need: it is chosen and its last column left, or the cooling system is used at the target rate.
     #[tactic(auto, unfolding(crate::specs::Inner::Demand::cool_by_windows))]
     fn cool_by_windows(

@@ -11,8 +11,9 @@ use crate::hour::load::{
     HeatCoolLoad, demand_record, frac_upper, interp_heat_cool_demand, wanted_of,
 };
 use crate::hour::solves::gains_heat_cool_of;
-use crate::hour::time_step::{HeatCoolGains, PreparedHour};
+use crate::hour::time_step::PreparedHour;
 use crate::hour::windows::{VentilationChoice, ZoneTemperatures};
+use crate::physics::balance::HeatCoolGains;
 use crate::physics::ventilation::calc_vent_heat_transfer_coeff;
 use crate::record::refusal::Refusal;
 
@@ -25,7 +26,7 @@ fn ach_target(ach_args: AirChangesPerHourArgument) -> f64
     }
 }
 
-impl PreparedHour<'_> {
+impl PreparedHour<'_, '_> {
     #[tactic(auto, unfolding(crate::specs::Inner::Demand::loaded_demand))]
     fn loaded_demand(
         &self,

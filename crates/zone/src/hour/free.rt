@@ -1,14 +1,12 @@
-// The calculation without demand at one rate, of an hour alone.
+// An hour without demand at one rate.
 ghost use Rattle.std.specs.Prelude.{◌≡◌};
 ghost use Rattle.zone.specs.Answers.{answered};
 ghost use Rattle.zone.specs.Hour.Demand.{control_temperature};
 ghost use Rattle.zone.specs.Inner.Demand.{zone_temperatures};
 ghost use Rattle.zone.specs.Inner.Why.{free_at};
 
-use crate::format::conditions::Conditions;
 use crate::hour::control::Control;
-use crate::hour::hour::Asked;
-use crate::hour::hour_kept::hour_in;
+use crate::hour::hour_start::HourStart;
 use crate::hour::solves::free_gains_of;
 use crate::hour::windows::ZoneTemperatures;
 use crate::physics::matrix::area_total;
@@ -25,18 +23,14 @@ fn zone_temperatures_of(z: &Zone, t: &[f64; 121]) -> ZoneTemperatures
     Control::of(z, area, total).zone_temperatures(t)
 }
 
-// It is an update by the gains that are there before any demand.
-#[tactic(auto, using(crate::proofs::Laws::Why::free_refused, crate::proofs::Laws::Why::free_accepted))]
-pub fn free_at(
-    z: &Zone,
-    t: &[f64; 121],
-    h: &Conditions,
-    ach: f64,
-) -> Result<ZoneTemperatures, Refusal>
-    ensures { answered result ≡ free_at z.now t.now h.now ach }
-{
-    let asked = Asked::Update(free_gains_of(h), ach);
-    let mut after = [0.0; 121];
-    hour_in(z, t, h, asked, &mut after)?;
-    Ok(zone_temperatures_of(z, &after))
+impl HourStart<'_> {
+    // The temperatures without demand at a rate: an update by the gains that are there before any.
+    #[tactic(auto, unfolding(crate::specs::Inner::Why::free_at))]
+    pub fn free_at(&self, ach: f64) -> Result<ZoneTemperatures, Refusal>
+        ensures { answered result ≡ free_at self.now.zone.now self.now.temp_prev.now self.now.hour.now ach }
+    {
+        let mut after = [0.0; 121];
+        self.update_alone(free_gains_of(self.hour), ach, &mut after)?;
+        Ok(zone_temperatures_of(self.zone, &after))
+    }
 }

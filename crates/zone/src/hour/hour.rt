@@ -2,16 +2,17 @@
 ghost use Rattle.std.specs.Prelude.{◌≡◌, []};
 ghost use Rattle.zone.specs.Answers.{answered_with};
 ghost use Rattle.zone.specs.Inner.PreparedHour.{of_hour, prepared_in};
-ghost use Rattle.zone.specs.Inner.Hour.{met_load, no_demand, update_in, demand_met_in, answer_in};
+ghost use Rattle.zone.specs.Inner.Hour.{met_load, update_in, demand_met_in};
+ghost use Rattle.zone.specs.Inner.Prepared.{solved_with};
 
 use crate::calls::state::Demand;
 use crate::format::conditions::Conditions;
-use crate::hour::load::demand_record;
 use crate::hour::rule::{Rule, delivered_of};
-use crate::hour::time_step::{HeatCoolGains, PreparedHour};
-use crate::hour::windows::VentilationChoice;
+use crate::hour::time_step::PreparedHour;
+use crate::physics::balance::HeatCoolGains;
 use crate::physics::ventilation::calc_vent_heat_transfer_coeff;
 use crate::record::refusal::Refusal;
+use solver::SolveError;
 
 // Whether the demand is met, and how: with the total gains and their convective share, by the rule of an entry version, or alone with the
 // fraction of heating. No Option, as there are three cases.
@@ -20,13 +21,6 @@ pub enum Meeting {
     NotMet,
     WithGains(Rule),
     Alone,
-}
-
-// What an hour is asked for: its demand, or the temperatures with given gains at an air change rate.
-#[derive(Clone, Copy)]
-pub enum Asked {
-    Demand(Meeting),
-    Update(HeatCoolGains, f64),
 }
 
 // The load of the last calculation.
@@ -43,23 +37,10 @@ fn met_load(h: &Conditions, d: Demand, meeting: Meeting) -> Option<HeatCoolGains
     }
 }
 
-// An update asks for no demand.
-#[tactic(auto, unfolding(crate::specs::Inner::Hour::no_demand))]
-fn no_demand(ach: f64) -> Demand
-    ensures { result ≡ no_demand ach }
-{
-    let v = VentilationChoice {
-        temp_free: 0.0,
-        ach_cooling: ach,
-        ach_to_trigger_heating: None,
-    };
-    demand_record(0.0, v)
-}
-
-impl PreparedHour<'_> {
+impl PreparedHour<'_, '_> {
     // The demand, and the last calculation by the last column that the demand left. Where the demand is not met, `after` stays as it is.
     #[tactic(auto, unfolding(crate::specs::Inner::Hour::demand_met_in))]
-    fn demand_met(&self, meeting: Meeting, after: &mut [f64; 121]) -> Result<Demand, Refusal>
+    pub fn demand_met(&self, meeting: Meeting, after: &mut [f64; 121]) -> Result<Demand, Refusal>
         ensures { answered_with result after.new ≡ of_hour demand_met_in self.now self.now.zone.now.useful_area meeting after.old }
     {
         let mut last = [0.0; 25];
@@ -74,25 +55,15 @@ impl PreparedHour<'_> {
 
     // The temperatures with given gains.
     #[tactic(auto, unfolding(crate::specs::Inner::Hour::update_in))]
-    fn update(
+    pub fn update(
         &self,
         gains: HeatCoolGains,
         ach: f64,
         after: &mut [f64; 121],
-    ) -> Result<Demand, Refusal>
-        ensures { answered_with result after.new ≡ update_in (prepared_in self.now) self.now.zone.now.volume gains ach }
+    ) -> Result<(), SolveError>
+        ensures { solved_with result after.new ≡ update_in (prepared_in self.now) self.now.zone.now.volume gains ach }
     {
         let mut last = [0.0; 25];
-        self.calc_temperatures(gains, ach, &mut last, after)?;
-        Ok(no_demand(ach))
-    }
-
-    pub fn answer(&self, asked: Asked, after: &mut [f64; 121]) -> Result<Demand, Refusal>
-        ensures { answered_with result after.new ≡ of_hour answer_in self.now self.now.zone.now.useful_area asked after.old }
-    {
-        match asked {
-            Asked::Demand(meeting) => self.demand_met(meeting, after),
-            Asked::Update(gains, ach) => self.update(gains, ach, after),
-        }
+        self.calc_temperatures(gains, ach, &mut last, after)
     }
 }

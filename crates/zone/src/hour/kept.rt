@@ -75,10 +75,7 @@ impl KeptMatrix {
     fn holds(&self, z: &Zone, key: &Key) -> bool
         ensures { result ≡ holds self.now (at_most24 z.now.count) key.now.directions key.now.opens key.now.delta_t }
     {
-        match &self.key {
-            Some(kept) => kept.same(z, key),
-            None => false,
-        }
+        self.key.as_ref().is_some_and(|kept| kept.same(z, key))
     }
 
     // The arrays of a matrix that is held become zeros, in which another is assembled.

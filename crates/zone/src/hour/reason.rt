@@ -5,79 +5,73 @@ ghost use Rattle.zone.specs.Answers.{answered};
 ghost use Rattle.zone.specs.Inner.Why.{found_reason, open_reason, choice_reason, reason_in};
 
 use crate::calls::state::Reason;
-use crate::format::conditions::{AirChangesPerHourArgument, Conditions};
-use crate::hour::free::free_at;
+use crate::format::conditions::AirChangesPerHourArgument;
+use crate::hour::hour_start::HourStart;
 use crate::hour::windows::{ZoneTemperatures, above_cooling_setpoint, ach_to_reach};
 use crate::record::refusal::Refusal;
-use crate::record::zone_record::Zone;
 
-// With the rate found.
-#[tactic(auto, unfolding(crate::specs::Inner::Why::found_reason))]
-fn found_reason(z: &Zone, t: &[f64; 121], h: &Conditions, ach: f64) -> Result<Reason, Refusal>
-    ensures { answered result ≡ found_reason z.now t.now h.now ach }
-{
-    let extra = free_at(z, t, h, ach)?;
-    if above_cooling_setpoint(extra.temp_control, h.temp_setpnt_cool) {
-        return Ok(Reason::StillAboveCoolingSetpoint);
+impl HourStart<'_> {
+    // With the rate found.
+    #[tactic(auto, unfolding(crate::specs::Inner::Why::found_reason))]
+    fn found_reason(&self, ach: f64) -> Result<Reason, Refusal>
+        ensures { answered result ≡ found_reason self.now.zone.now self.now.temp_prev.now self.now.hour.now ach }
+    {
+        let extra = self.free_at(ach)?;
+        if above_cooling_setpoint(extra.temp_control, self.hour.temp_setpnt_cool) {
+            return Ok(Reason::StillAboveCoolingSetpoint);
+        }
+        Ok(Reason::WindowsEnough)
     }
-    Ok(Reason::WindowsEnough)
-}
 
-// With windows open.
-#[tactic(auto, unfolding(crate::specs::Inner::Why::open_reason, crate::specs::Inner::Demand::rate_to_reach))]
-fn open_reason(
-    z: &Zone,
-    t: &[f64; 121],
-    h: &Conditions,
-    target: f64,
-    windows: f64,
-    free: ZoneTemperatures,
-) -> Result<Reason, Refusal>
-    ensures { answered result ≡ open_reason z.now t.now h.now target windows free }
-{
-    let vent_max = free_at(z, t, h, windows)?;
-    if !(vent_max.temp_control < free.temp_control) {
-        return Ok(Reason::WindowsDoNotCool);
+    // With windows open.
+    #[tactic(auto, unfolding(crate::specs::Inner::Why::open_reason, crate::specs::Inner::Demand::rate_to_reach))]
+    fn open_reason(
+        &self,
+        target: f64,
+        windows: f64,
+        free: ZoneTemperatures,
+    ) -> Result<Reason, Refusal>
+        ensures { answered result ≡ open_reason self.now.zone.now self.now.temp_prev.now self.now.hour.now target windows free }
+    {
+        let h = self.hour;
+        let vent_max = self.free_at(windows)?;
+        if !(vent_max.temp_control < free.temp_control) {
+            return Ok(Reason::WindowsDoNotCool);
+        }
+        let ach = ach_to_reach(h, target, windows, free, vent_max, h.temp_setpnt_cool_vent);
+        self.found_reason(ach)
     }
-    let ach = ach_to_reach(h, target, windows, free, vent_max, h.temp_setpnt_cool_vent);
-    found_reason(z, t, h, ach)
-}
 
-// With the target rate.
-#[tactic(auto, unfolding(crate::specs::Inner::Why::choice_reason))]
-fn choice_reason(
-    z: &Zone,
-    t: &[f64; 121],
-    h: &Conditions,
-    target: f64,
-    windows: f64,
-) -> Result<Reason, Refusal>
-    ensures { answered result ≡ choice_reason z.now t.now h.now target windows }
-{
-    let free = free_at(z, t, h, target)?;
-    if !(h.temp_setpnt_cool_vent < free.temp_control) {
-        return Ok(Reason::NotAboveVentilationSetpoint);
+    // With the target rate.
+    #[tactic(auto, unfolding(crate::specs::Inner::Why::choice_reason))]
+    fn choice_reason(&self, target: f64, windows: f64) -> Result<Reason, Refusal>
+        ensures { answered result ≡ choice_reason self.now.zone.now self.now.temp_prev.now self.now.hour.now target windows }
+    {
+        let free = self.free_at(target)?;
+        if !(self.hour.temp_setpnt_cool_vent < free.temp_control) {
+            return Ok(Reason::NotAboveVentilationSetpoint);
+        }
+        if !(self.hour.avg_air_supply_temp < free.temp_int_air) {
+            return Ok(Reason::NotAboveSupply);
+        }
+        self.open_reason(target, windows, free)
     }
-    if !(h.avg_air_supply_temp < free.temp_int_air) {
-        return Ok(Reason::NotAboveSupply);
-    }
-    open_reason(z, t, h, target, windows, free)
-}
 
-// A fixed rate, or two that are equal, are no choice.
-#[tactic(auto, unfolding(crate::specs::Inner::Why::reason_in))]
-pub fn reason_of(z: &Zone, t: &[f64; 121], h: &Conditions) -> Result<Reason, Refusal>
-    ensures { answered result ≡ reason_in z.now t.now h.now h.now.ach_args }
-{
-    // Copied before the match: the papers name that form.
-    let ach_args = h.ach_args;
-    match ach_args {
-        AirChangesPerHourArgument::Cooling(_) => Ok(Reason::NoChoice),
-        AirChangesPerHourArgument::TargetAndWindowsOpen(target, windows) => {
-            if windows == target {
-                return Ok(Reason::NoChoice);
+    // A fixed rate, or two that are equal, are no choice.
+    #[tactic(auto, unfolding(crate::specs::Inner::Why::reason_in))]
+    pub fn reason(&self) -> Result<Reason, Refusal>
+        ensures { answered result ≡ reason_in self.now.zone.now self.now.temp_prev.now self.now.hour.now self.now.hour.now.ach_args }
+    {
+        // Copied before the match: the papers name that form.
+        let ach_args = self.hour.ach_args;
+        match ach_args {
+            AirChangesPerHourArgument::Cooling(_) => Ok(Reason::NoChoice),
+            AirChangesPerHourArgument::TargetAndWindowsOpen(target, windows) => {
+                if windows == target {
+                    return Ok(Reason::NoChoice);
+                }
+                self.choice_reason(target, windows)
             }
-            choice_reason(z, t, h, target, windows)
         }
     }
 }

@@ -9,7 +9,7 @@ use crate::check::versions::has_limits;
 use crate::format::conditions::Conditions;
 use crate::format::limits::Limits;
 use crate::hour::solves::gains_heat_cool_of;
-use crate::hour::time_step::HeatCoolGains;
+use crate::physics::balance::HeatCoolGains;
 use crate::record::units::WATTS_PER_KILOWATT;
 use solver::close_in_demand;
 
@@ -17,6 +17,7 @@ use solver::close_in_demand;
 const COOLING_FRACTION_VERSION: u64 = 2;
 
 // An entry version, with the greatest powers of the plant. Versions are numbers: the papers order them, and a call may name any.
+// The papers name the calls' parameters, a version and its limits; `hour_step` and `next_hour_kept` make a `Rule` of both at once.
 #[derive(Clone, Copy)]
 pub struct Rule {
     pub version: u64,

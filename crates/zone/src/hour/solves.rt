@@ -7,7 +7,8 @@ ghost use Rattle.zone.specs.Inner.Prepared.{solved_in, free_in, solved_with};
 ghost use Rattle.zone.specs.Inner.PreparedHour.{prepared_in};
 
 use crate::format::conditions::Conditions;
-use crate::hour::time_step::{HeatCoolGains, PreparedHour};
+use crate::hour::time_step::PreparedHour;
+use crate::physics::balance::HeatCoolGains;
 use crate::physics::ventilation::calc_vent_heat_transfer_coeff;
 use solver::{SolveError, close_in_demand};
 
@@ -41,7 +42,7 @@ pub fn free_gains_of(h: &Conditions) -> HeatCoolGains
     }
 }
 
-impl PreparedHour<'_> {
+impl PreparedHour<'_, '_> {
     // The temperatures with a load at one rate; the rate's last column is left for further loads.
     #[tactic(auto, unfolding(crate::specs::Inner::Prepared::solved_in))]
     pub fn calc_temperatures(

@@ -12,31 +12,25 @@ ghost use Rattle.zone.specs.Inner.PreparedHour.{terms_in, prepared_in};
 use crate::format::conditions::Conditions;
 use crate::hour::control::Control;
 use crate::hour::kept::KeptMatrix;
+use crate::physics::balance::HeatCoolGains;
 use crate::record::building_element::standard_coefficients;
 use crate::record::zone_record::Zone;
 use solver::{RightSide, SolveError};
 
-// Gains of heating or cooling in W, and their convective fraction.
-#[derive(Clone, Copy)]
-pub struct HeatCoolGains {
-    pub gains_heat_cool: f64,
-    pub f_hc_c: f64,
-}
-
 // An hour that is prepared for several rates and loads: its zone and what the hour says, the internal heat capacity over the timestep and the air before the
 // hour, the matrix with its columns factored, the right side without gains, reduced, and what the setpoints are held against.
 #[derive(Clone, Copy)]
-pub struct PreparedHour<'a> {
-    pub zone: &'a Zone,
-    pub hour: &'a Conditions,
+pub struct PreparedHour<'k, 'h> {
+    pub zone: &'h Zone,
+    pub hour: &'h Conditions,
     pub c_int_per_delta_t: f64,
     pub temp_int_air: f64,
-    pub kept: &'a KeptMatrix,
+    pub kept: &'k KeptMatrix,
     pub base: RightSide,
     pub control: Control,
 }
 
-impl PreparedHour<'_> {
+impl PreparedHour<'_, '_> {
     fn zone_diagonal(&self, h_ve: f64) -> f64
         ensures { result ≡ zone_diagonal_from (terms_in self.now) h_ve }
     {

@@ -74,6 +74,7 @@ fn assemble_chains(z: &Zone, key: &Key, surfaces: &Surfaces, chains: &mut Chains
 }
 
 // The right sides of all elements without the gains.
+// Single parameters: each turn takes the element's part of zone, hour and temperatures, and an `HourStart`, handed on to none, would only be taken apart.
 #[tactic(auto, using(crate::proofs::Laws::Loops::repeat_turn, crate::proofs::Laws::Loops::repeat_end, crate::proofs::Laws::Elements::elements_are), unfolding(crate::specs::Inner::Assembly::element_right_sides, crate::specs::Inner::Assembled::element_sides))]
 pub fn assemble_sides(z: &Zone, h: &Conditions, delta_t: f64, t: &[f64; 121], b: &mut [f64; 121])
     ensures { b.new ≡ element_sides (at_most24 z.now.count) z.now.building_elements h.now.elements delta_t t.now b.old }

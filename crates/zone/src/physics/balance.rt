@@ -1,4 +1,4 @@
-// The heat balance of a time step, in W. The functions take what their definitions take, one by one: these are for any coefficients and any length of step,
+// The heat balance of a time step, in W. Its functions are, as their definitions, for any coefficients and any length of step,
 // and a call gives them the standards' numbers and the hour's length.
 ghost use Rattle.std.specs.Prelude.{◌≡◌, []};
 ghost use Rattle.zone.specs.Physics.HeatBalance.{air_node, heat_balance};
@@ -11,6 +11,13 @@ use crate::physics::fabric::{FabricSums, fabric_sums};
 use crate::physics::ventilation::calc_vent_heat_transfer_coeff;
 use crate::record::building_element::Coefficients;
 use crate::record::zone_record::Zone;
+
+// Gains of heating or cooling in W, and their convective fraction.
+#[derive(Clone, Copy)]
+pub struct HeatCoolGains {
+    pub gains_heat_cool: f64,
+    pub f_hc_c: f64,
+}
 
 #[derive(Clone, Copy)]
 pub struct HeatBalanceAirNode {
@@ -67,16 +74,15 @@ fn air_node(
     tb_heat_trans_coeff: f64,
     hour: &Conditions,
     delta_t: f64,
-    gains_heat_cool: f64,
-    f_hc_c: f64,
+    gains: HeatCoolGains,
     temp_prev: f64,
     temp_internal: f64,
 ) -> HeatBalanceAirNode
-    ensures { result ≡ air_node c c_int h_ve tb_heat_trans_coeff hour.now delta_t gains_heat_cool f_hc_c temp_prev temp_internal }
+    ensures { result ≡ air_node c c_int h_ve tb_heat_trans_coeff hour.now delta_t gains.gains_heat_cool gains.f_hc_c temp_prev temp_internal }
 {
     let gains_solar = c.f_sol_c * hour.gains_solar;
     let gains_internal = c.f_int_c * hour.gains_internal;
-    let gains_system = f_hc_c * gains_heat_cool;
+    let gains_system = gains.f_hc_c * gains.gains_heat_cool;
     let energy_to_change_temp = -(c_int / delta_t) * (temp_internal - temp_prev);
     let loss_thermal_bridges = tb_heat_trans_coeff * (temp_internal - hour.temp_ext_air);
     let loss_infiltration_ventilation = h_ve * (temp_internal - hour.avg_air_supply_temp);
@@ -97,16 +103,15 @@ fn internal_boundary(
     c: Coefficients,
     s: ConvectiveSums,
     hour: &Conditions,
-    gains_heat_cool: f64,
-    f_hc_c: f64,
+    gains: HeatCoolGains,
 ) -> HeatBalanceInternalBoundary
-    ensures { result ≡ internal_boundary_from c s hour.now gains_heat_cool f_hc_c }
+    ensures { result ≡ internal_boundary_from c s hour.now gains.gains_heat_cool gains.f_hc_c }
 {
     HeatBalanceInternalBoundary {
         fabric_int_air_convective: s.total,
         fabric_int_sol: (1.0 - c.f_sol_c) * hour.gains_solar,
         fabric_int_int_gains: (1.0 - c.f_int_c) * hour.gains_internal,
-        fabric_int_heat_cool: (1.0 - f_hc_c) * gains_heat_cool,
+        fabric_int_heat_cool: (1.0 - gains.f_hc_c) * gains.gains_heat_cool,
         fabric_int_air_convective_horizontal: s.horizontal,
         fabric_int_air_convective_upwards: s.upwards,
         fabric_int_air_convective_downwards: s.downwards,
@@ -139,18 +144,19 @@ fn external_boundary(
     }
 }
 
+// The definition's parameters in its order. No part takes zone, `temp_prev` and `hour` together, so an `HourStart` would only be taken apart: `convective_sums`
+// takes no hour, `fabric_sums` no `temp_prev`, `air_node` one number of `temp_prev` and three of the zone.
 pub fn heat_balance(
     c: Coefficients,
     z: &Zone,
     temp_prev: &[f64; 121],
     hour: &Conditions,
     delta_t: f64,
-    gains_heat_cool: f64,
-    f_hc_c: f64,
+    gains: HeatCoolGains,
     ach: f64,
     vector_x: &[f64; 121],
 ) -> HeatBalance
-    ensures { result ≡ heat_balance c z.now temp_prev.now hour.now delta_t gains_heat_cool f_hc_c ach vector_x.now }
+    ensures { result ≡ heat_balance c z.now temp_prev.now hour.now delta_t gains.gains_heat_cool gains.f_hc_c ach vector_x.now }
 {
     let h_ve = calc_vent_heat_transfer_coeff(z.volume, ach);
     let c_int = c.k_m_int * z.useful_area;
@@ -161,8 +167,7 @@ pub fn heat_balance(
         z.tb_heat_trans_coeff,
         hour,
         delta_t,
-        gains_heat_cool,
-        f_hc_c,
+        gains,
         temp_prev[120],
         vector_x[120],
     );
@@ -170,7 +175,7 @@ pub fn heat_balance(
     let sums = fabric_sums(z, hour, vector_x);
     HeatBalance {
         air_node: air,
-        internal_boundary: internal_boundary(c, convective, hour, gains_heat_cool, f_hc_c),
-        external_boundary: external_boundary(sums, air, hour, gains_heat_cool),
+        internal_boundary: internal_boundary(c, convective, hour, gains),
+        external_boundary: external_boundary(sums, air, hour, gains.gains_heat_cool),
     }
 }

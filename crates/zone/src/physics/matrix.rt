@@ -10,21 +10,17 @@ ghost use Rattle.zone.specs.Inner.KeptMatrix.{chains_in};
 use crate::physics::equations::Rows;
 use crate::physics::slots::{set_entry, set_slots};
 use crate::physics::terms::{sum2_of, with_terms};
-use solver::{Chains, Sum2};
+use solver::Chains;
 
-// Over a slice, where `sum2_of` would go by index.
+// The total of all elements' areas.
 pub fn area_total(areas: &[f64]) -> f64
     ensures { result ≡ sum2 areas.now }
 {
-    let mut total = Sum2::zero();
-    for area in areas {
-        total = total.add(*area);
-    }
-    total.sum()
+    sum2_of(areas.len(), |e| areas[e])
 }
 
 // What the couplings and the sums need of the inner surfaces of n elements: h_ci by the direction of heat flow, and the share of the total area.
-// Arrays with their count, for there is no heap; each is filled by itself, as the total of the areas stands between the areas and the shares.
+// Arrays with their count, for there is no heap. The shares are filled last, as they need the total of the areas.
 #[derive(Clone, Copy)]
 pub struct Surfaces {
     pub n: usize,
@@ -36,6 +32,7 @@ pub struct Surfaces {
     ghost few: { n ≤ 24 },
 }
 
+// The bound of e is asked for as in slots.rt.
 #[tactic(auto, unfolding(crate::specs::Inner::Assembly::set_rows))]
 pub fn set_rows(e: usize, r: Rows, chains: &mut Chains)
     requires { e < 24 }
@@ -68,7 +65,8 @@ impl Surfaces {
         ensures { m.new ≡ repeat 0 self.now.n (couple (at self.now.share) (at self.now.h_ri i) i) m.old }
     {
         let h_ri = self.h_ri[i];
-        // By k, as the definition has it: the row's part of the matrix, zipped with the shares, would be longer to write and no plainer.
+        // By k: after a loop over the row's part of `m`, zipped with the shares, the proof knows nothing of that part (its goal has any list there), and
+        // `enumerate` leaves the shares their index.
         for k in 0..self.n {
             set_entry(m, i, k, 0.0 - self.share[k] * h_ri);
         }

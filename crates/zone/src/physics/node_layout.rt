@@ -13,7 +13,7 @@ fn copy_nodes(k: usize, from: usize, to: usize, a: &[f64; 121], b: &mut [f64; 12
     b[to..to + k].copy_from_slice(&a[from..from + k]);
 }
 
-#[tactic(auto, using(crate::proofs::Laws::Element::nodes_few), unfolding(crate::specs::Physics::NodeLayout::first_node))]
+#[tactic(auto, using(crate::proofs::Laws::Element::nodes_few, crate::proofs::Laws::Loops::repeat_turn, crate::proofs::Laws::Loops::repeat_end, crate::proofs::Laws::Zones::number_is), unfolding(crate::specs::Physics::NodeLayout::first_node, crate::specs::Physics::NodeLayout::to_slots))]
 pub fn to_slots(z: &Zone, temps: &[f64; 121]) -> [f64; 121]
     ensures { result ≡ to_slots z.now.count (zone_two_nodes z.now) temps.now }
 {
@@ -29,7 +29,7 @@ pub fn to_slots(z: &Zone, temps: &[f64; 121]) -> [f64; 121]
     slots
 }
 
-#[tactic(auto, using(crate::proofs::Laws::Element::nodes_few), unfolding(crate::specs::Physics::NodeLayout::first_node))]
+#[tactic(auto, using(crate::proofs::Laws::Element::nodes_few, crate::proofs::Laws::Loops::repeat_turn, crate::proofs::Laws::Loops::repeat_end, crate::proofs::Laws::Zones::number_is), unfolding(crate::specs::Physics::NodeLayout::first_node, crate::specs::Physics::NodeLayout::to_nodes))]
 pub fn to_nodes(z: &Zone, slots: &[f64; 121]) -> [f64; 121]
     ensures { result ≡ to_nodes z.now.count (zone_two_nodes z.now) slots.now }
 {

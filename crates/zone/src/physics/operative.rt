@@ -32,7 +32,7 @@ fn mean_of(x: f64, y: f64) -> f64
     (x + y) / 2.0
 }
 
-// From the elements' areas and their total.
+// From the elements' areas and their total. Of a slice of areas it would have to ask that they are at most 24, for the slots of `t`; so it takes any count.
 pub fn temp_operative_by_temp_vector(
     count: usize,
     area: &[f64; 24],
@@ -60,11 +60,9 @@ fn radiant_sum_of_nodes(z: &Zone, temps: &[f64; 121]) -> RadiantSum
         × (result.air ≡ first_node (zone_two_nodes z.now) (at_most24 z.now.count))
         × (result.air ≤ 120) }
 {
-    let n = z.element_count();
     let mut total = Sum2::zero();
     let mut node = 0;
-    for e in 0..n {
-        let el = &z.building_elements[e];
+    for el in &z.building_elements[..z.element_count()] {
         node += number_of_nodes(el.kind);
         total = total.add(el.area * temps[node - 1]);
     }

@@ -1,4 +1,5 @@
-// Arrays and sums whose terms are told by elements' numbers.
+// Arrays and sums whose terms are told by elements' numbers. Their number n is that of any caller, which knows that it is at most 24 (`Zone::element_count`,
+// a sum's `Surfaces`): one type for it would be made of each of these.
 ghost use Rattle.std.specs.Prelude.{◌≡◌, ℕ, ◌<◌, ◌≤◌, Float};
 ghost use Rattle.solver.specs.Sums.{sum2, terms};
 ghost use Rattle.zone.specs.Physics.Slots.{with_terms};

@@ -147,18 +147,16 @@ pub fn h_ci(
     }
 }
 
-// h_pli of a Transparent: the resistances of the closed treatments are added to its own. The bits are halved turn by turn, as in the
-// definition; `treatments_open >> j & 1` would be no plainer.
+// h_pli of a Transparent: the resistances of the closed treatments are added to its own. It is exported for any number of treatments, which it cuts itself;
+// with a slice each caller would have to.
 pub fn h_pli_transparent(h: f64, delta_r: &[f64; 4], treatments: usize, treatments_open: u8) -> f64
     ensures { result ≡ h_pli_transparent h delta_r.now treatments treatments_open }
 {
-    let mut bits = treatments_open;
     let mut r = 1.0 / h;
-    for delta in &delta_r[..treatments.min(4)] {
-        if bits % 2 == 0 {
+    for (j, delta) in delta_r[..treatments.min(4)].iter().enumerate() {
+        if treatments_open >> j & 1 == 0 {
             r = r + delta;
         }
-        bits = bits / 2;
     }
     1.0 / r
 }

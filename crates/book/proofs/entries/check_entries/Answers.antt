@@ -1,11 +1,7 @@
 use Rattle.std.proofs.Common.{ap, ◌∙◌, Err, ◌≡◌, rules}
 use native.Mathlib.Omega.{arith}
-use Rattle.zone.proofs.Promise.{tested_few}
 use Rattle.book.proofs.TakeUp.{entry_alone, entry_long, check_many, check_false, check_right}
 use Rattle.book.proofs.entries.check_entries.Goals as goal
-
-pub loop-entry-init-derived : goal.loop-entry-init-derived
-loop-entry-init-derived c = rw c.into_iter-entry-iterator.ensures.into_iter_gives (tested_few _ c.requires.0.0, tt)
 
 pub returns-then-book-ge-MOST_ENTRIES : goal.returns-then-book-ge-MOST_ENTRIES
 returns-then-book-ge-MOST_ENTRIES c =
@@ -15,7 +11,7 @@ returns-then-book-ge-MOST_ENTRIES c =
 pub check_entry-requires : goal.check_entry-requires
 check_entry-requires c =
     let l = c.loop-entry in
-    ((c.requires.0.0, l.invariant.kept), entry_alone _ l.entry-iterator l.invariant.zone l.book _ l.invariant.told c.in-Some.entry c.next.new.self (c.in-Some.ensures {u = tt}).steps)
+    entry_alone _ l.entry-iterator l.invariant.zone l.book _ l.invariant.told c.in-Some.entry c.next.new.self (c.in-Some.ensures {u = tt}).steps
 
 pub returns-in_err-checked : goal.returns-in_err-checked
 returns-in_err-checked c =
@@ -30,9 +26,8 @@ loop-entry-preserved c =
     let l = c.loop-entry in
     let next = (c.in-Some.ensures {u = tt}).steps in
     record {
-      zone = ap (λ x. x.now) next.3 ∙ l.invariant.zone;
+      zone = rw c.check_entry.ensures.zone (ap (λ x. x.zone.now) next.3 ∙ l.invariant.zone);
       used = omega (arith, l.invariant.used, entry_long _ l.entry-iterator l.invariant.zone l.book _ l.invariant.told c.in-Some.entry c.next.new.self next);
-      told = check_right _ l.entry-iterator l.invariant.zone l.book _ l.invariant.told c.in-Some.entry c.next.new.self next
-          c.if-book-ge-MOST_ENTRIES.false _ c.check_entry.ensures.checked _ c.in_ok-checked.was;
-      kept = c.check_entry.ensures.kept;
+      told = rw c.check_entry.ensures.zone (check_right _ l.entry-iterator l.invariant.zone l.book _ l.invariant.told c.in-Some.entry c.next.new.self next
+          c.if-book-ge-MOST_ENTRIES.false _ c.check_entry.ensures.checked _ c.in_ok-checked.was);
     }

@@ -1,6 +1,4 @@
 use Rattle.std.proofs.Common.{◌≡◌, ◌+◌, length, drop}
-use Rattle.zone.specs.Inner.Kept.{Kept}
-use Rattle.zone.specs.Inner.KeptMatrix.{held_in}
 use Rattle.book.specs.Model.Calls as Book
 use Rattle.book.specs.Year.{carried, no_entry_version, year_interface}
 use Rattle.book.specs.Answers.{given_of}
@@ -10,9 +8,8 @@ use Rattle.book.proofs.entries.check_entries.Given as goal
 abbrev pub invariant-loop-entry : goal.invariant-loop-entry
 invariant-loop-entry l =
     record {
-      zone : l.entry-iterator.zone.now ≡ l.z;
+      zone : l.entry-iterator.layout.zone.now ≡ l.checker.zone.now;
       used : l.book.used + length l.entry-iterator.rest.now ≡ length l.bytes;
-      told : Book.check_entries year_interface l.z 0 (carried l.fn.start no_entry_version) l.head_length (Book.whole_entries year_interface l.z (drop l.head_length l.bytes))
-          ≡ Book.check_entries year_interface l.z l.book.count (given_of l.book).state l.book.used (Book.whole_entries year_interface l.z l.entry-iterator.rest.now);
-      kept : Kept l.z (held_in l.kept);
+      told : Book.check_entries year_interface l.fn.checker.zone.now 0 (carried l.fn.start no_entry_version) l.head_length (Book.whole_entries year_interface l.fn.checker.zone.now (drop l.head_length l.bytes))
+          ≡ Book.check_entries year_interface l.checker.zone.now l.book.count (given_of l.book).state l.book.used (Book.whole_entries year_interface l.checker.zone.now l.entry-iterator.rest.now);
     }

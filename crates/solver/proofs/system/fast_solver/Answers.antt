@@ -16,7 +16,7 @@ pub returns : goal.returns
 returns c =
     let h : length c.args.a.now.dense ≡ 625 = search rules in
     let g : length c.args.temps.now ≡ 121 = search rules in
-    c.substitute_reduced.ensures
+    (rw (c.gather-v.ensures, c.count.ensures) at c.substitute_apart.ensures)
     ∙ sym
     (parts_solved c.args.a.now c.args.temps.now c.factor_columns.new.self _ c.factor_last.new.last c.factor_last.result
     h (search rules) c.factor_columns.ensures c.factor_last.ensures.column c.factor_last.ensures.divisors

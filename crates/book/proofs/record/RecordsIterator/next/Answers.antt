@@ -11,4 +11,4 @@ pub returns-clause-goes : goal.returns-clause-goes
 returns-clause-goes c =
     let b = record_bounds _ _ _ c.record_in.ensures _ c.in_ok-length.was in
     let left = ap length c.split_at.ensures.back ∙ length-drop c.in_ok-length.length c.args.self.now.rest.now in
-    record { on = λ _. (c.requires, tt, omega (arith, b.0, b.1, left)); keeps = c.requires; rests = λ _. tt }
+    record { on = λ _. (tt, tt, omega (arith, b.0, b.1, left)); keeps = tt; rests = λ _. tt }

@@ -1,8 +1,8 @@
 use Rattle.std.proofs.Common.{◌∙◌}
-use Rattle.zone.proofs.Laws.KeptHour.{kept_hour}
+use Rattle.zone.proofs.Laws.KeptHour.{kept_demand}
 use Rattle.zone.proofs.Laws.StartUp.{settle_at_limit, settle_ends, settle_next}
-use Rattle.zone.specs.Calls.StartUp.{start_up_conditions}
 use Rattle.zone.specs.Inner.KeptMatrix.{held_in}
+use Rattle.zone.specs.declared.hour.hour.Meeting.TheVariants.{Alone}
 use Rattle.zone.proofs.calls.start_up.settle.Goals as goal
 
 -- back at a pass
@@ -10,11 +10,10 @@ pub loop-passes-preserved : goal.loop-passes-preserved
 loop-passes-preserved c =
     let z = c.args.z.now in
     let v = c.loop-passes in
-    let e = rw c.start_up_conditions-h.ensures at c.hour-demand.ensures in
-    let f = kept_hour z v.t (start_up_conditions z) _ v.after (held_in v.kept) _ e.held _ e.answer v.invariant.kept in
+    let f = kept_demand z v.t _ (held_in v.kept) _ c.keep_hour.ensures.held _ c.prepared.ensures v.invariant.kept Alone v.after _ c.demand_met-demand.ensures in
     record {
       kept = f.0;
-      left = settle_next z _ _ v.t v.passes v.invariant.left c.if-limit-passes.false v.after _ c.hour-demand.result f.1 (rw c.ends.ensures at c.if-ends.false);
+      left = settle_next z _ _ v.t v.passes v.invariant.left c.if-limit-passes.false v.after _ c.demand_met-demand.result (rw c.start_up_conditions-h.ensures at f.1) (rw c.ends.ensures at c.if-ends.false);
     }
 
 -- at the limit
@@ -26,7 +25,6 @@ pub returns-then-ends : goal.returns-then-ends
 returns-then-ends c =
     let z = c.args.z.now in
     let v = c.loop-passes in
-    let e = rw c.start_up_conditions-h.ensures at c.hour-demand.ensures in
-    let f = kept_hour z v.t (start_up_conditions z) _ v.after (held_in v.kept) _ e.held _ e.answer v.invariant.kept in
+    let f = kept_demand z v.t _ (held_in v.kept) _ c.keep_hour.ensures.held _ c.prepared.ensures v.invariant.kept Alone v.after _ c.demand_met-demand.ensures in
     c.settled.ensures
-    ∙ settle_ends z _ _ v.t v.passes v.invariant.left c.if-limit-passes.false v.after _ c.hour-demand.result f.1 (rw c.ends.ensures at c.if-ends.true)
+    ∙ settle_ends z _ _ v.t v.passes v.invariant.left c.if-limit-passes.false v.after _ c.demand_met-demand.result (rw c.start_up_conditions-h.ensures at f.1) (rw c.ends.ensures at c.if-ends.true)

@@ -5,13 +5,14 @@ use Rattle.zone.proofs.Laws.Lists.{one_left, replaced_all, replaced_turn, replac
 use Rattle.zone.proofs.format.decode.floats_to.Goals as goal
 
 pub loop-i-init : goal.loop-i-init
-loop-i-init c = let e : c.args.at + 0 ≡ c.args.at = omega arith in
-    rw (e, sub-zero (length c.args.out.now)) (replaced_all c.args.out.now _ _ refl)
+loop-i-init c =
+    let first : c.args.at + 0 ≡ c.args.at = omega arith in
+    rw (sub-zero (length c.args.out.now), first) (replaced_all c.args.out.now _ _ refl)
 
 pub loop-i-preserved : goal.loop-i-preserved
-loop-i-preserved c = let a = c.args in let l = c.loop-i in
-    replaced_turn _ _ _ _ _ _ _ _ _ _ (omega (arith, l.auto.out, c.loop-i-test.true)) refl c.read_f64_be.ensures (one_left _ l.i c.loop-i-test.true) (floats_next a.s.now l.i _ c.loop-i-test.true a.at) l.invariant
+loop-i-preserved c = let l = c.loop-i in
+    replaced_turn _ _ _ _ _ _ _ _ _ _ (omega (arith, l.auto.out, c.loop-i-test.true)) refl c.read_f64_be.ensures (one_left _ l.i c.loop-i-test.true) (floats_next c.args.s.now l.i _ c.loop-i-test.true c.args.at) l.invariant
 
 pub returns : goal.returns
-returns c = let a = c.args in let l = c.loop-i in
-    replaced_end _ _ _ _ _ (omega arith) (floats_none a.s.now l.i _ c.loop-i-test.false _) l.invariant
+returns c = let l = c.loop-i in
+    replaced_end _ _ _ _ _ (omega arith) (floats_none c.args.s.now l.i _ c.loop-i-test.false _) l.invariant

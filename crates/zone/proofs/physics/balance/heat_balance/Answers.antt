@@ -16,12 +16,13 @@ returns c =
     let z = a.z.now in
     let hour = a.hour.now in
     let x = a.vector_x.now in
-    let g = a.gains_heat_cool in
+    let g = a.gains.gains_heat_cool in
+    let f = a.gains.f_hc_c in
     let node = c.air_node-air.result in
-    let air_is = c.air_node-air.ensures ∙ (λ i. air_node a.c (c_int a.c z) (c.calc_vent_heat_transfer_coeff-h_ve.ensures i) z.tb_heat_trans_coeff hour a.delta_t g a.f_hc_c (air a.temp_prev.now) (air x)) in
+    let air_is = c.air_node-air.ensures ∙ (λ i. air_node a.c (c_int a.c z) (c.calc_vent_heat_transfer_coeff-h_ve.ensures i) z.tb_heat_trans_coeff hour a.delta_t g f (air a.temp_prev.now) (air x)) in
     let internal = c.internal_boundary.ensures
-    ∙ (λ i. internal_boundary_from a.c (c.convective_sums-convective.ensures i) hour g a.f_hc_c)
-    ∙ internal_is a.c z a.temp_prev.now x hour g a.f_hc_c (at_most24 z.count) refl in
+    ∙ (λ i. internal_boundary_from a.c (c.convective_sums-convective.ensures i) hour g f)
+    ∙ internal_is a.c z a.temp_prev.now x hour g f (at_most24 z.count) refl in
     let external = c.external_boundary.ensures
     ∙ (λ i. external_boundary_from (c.fabric_sums-sums.ensures i) node hour g)
     ∙ external_is z hour x (at_most24 z.count) node g refl

@@ -4,4 +4,4 @@ use Rattle.zone.proofs.calls.state.State.hour_kept.Goals as goal
 
 pub returns-clause-hour : goal.returns-clause-hour
 unfolding next_hour_from
-returns-clause-hour c = rw (← c.in_ok-h.ensures, ← c.slots.ensures, ← c.in_ok-d.ensures.answer, c.of_slots.ensures) refl
+returns-clause-hour c = rw (← c.in_ok-h.ensures, ← c.slots.ensures, ← c.prepared.ensures, ← c.in_ok-d.ensures, c.of_slots.ensures) refl

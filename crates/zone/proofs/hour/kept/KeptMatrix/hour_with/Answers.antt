@@ -1,9 +1,0 @@
-use Rattle.zone.proofs.Laws.KeptHour.{held_hour}
-use Rattle.zone.proofs.hour.kept.KeptMatrix.hour_with.Goals as goal
-
--- back from the last call to the first: the areas, the reduction, the right sides, the hour's numbers
-pub returns : goal.returns
-returns c =
-    let a = c.args in
-    held_hour a.z.now a.t.now a.h.now a.self.now c.requires _ _ c.standard_coefficients-c.ensures c.delta_t_of-delta_t.ensures
-    _ c.assemble_sides.ensures _ c.reduce_base.ensures _ c.areas_of.ensures a.asked a.after.now _ (rw c.of-control.ensures at c.answer.ensures)
