@@ -73,6 +73,14 @@ static void hours_within(void) { accepted(hem_hours_within(book, book_len, -1000
 
 static void nearest_hour(void) { accepted(hem_nearest_hour(book, book_len, 21.0, &found)); }
 
+/* A line of a weather file, which is the same for every house. */
+static void weather(void) {
+    static const char file[] =
+        "\n\n\n\n\n\n\n\n1999,1,1,1,60,?9,-3.52345678901,5,93,101300,0,0,290,33,120.123456789,60\r\n";
+    double values[HEM_WEATHER];
+    accepted(hem_weather((const uint8_t *)file, sizeof file - 1, 1, values));
+}
+
 struct call {
     const char *name;
     void (*make)(void);
@@ -112,7 +120,8 @@ int main(int words, char **word) {
                            {"hem_take_up", take_up, 0},
                            {"hem_first_above", first_above, 0},
                            {"hem_hours_within", hours_within, 0},
-                           {"hem_nearest_hour", nearest_hour, 0}};
+                           {"hem_nearest_hour", nearest_hour, 0},
+                           {"hem_weather", weather, 0}};
     if (words != 2) return 2;
     y = read_year();
     book_len = y.head_len + HOURS * HEM_ENTRY(y.elements, 5 * y.elements + 1);

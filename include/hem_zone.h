@@ -4,7 +4,7 @@
  * Bytes. A zone is given as the bytes of its head, an hour as the bytes of its conditions, a year as
  * the bytes of a book: a head followed by one entry for each hour. Sizes, places, names and units stand
  * below; docs/FORMATS.md has the same as tables, with the ranges. Integers are big-endian, a float is its
- * big-endian 64-bit pattern.
+ * big-endian 64-bit pattern. Weather is given as the bytes of an EnergyPlus weather file, which is text.
  *
  * Answers. Each function returns 0 when the call is accepted. Otherwise it returns
  * number + 256 * index (HEM_NUMBER and HEM_INDEX take them apart), and then NOTHING has been written:
@@ -42,8 +42,8 @@ extern "C" {
 #endif
 
 /* The version of this interface: 10000 * major + 100 * minor + patch, and as text. */
-#define HEM_ZONE_VERSION 600
-#define HEM_ZONE_VERSION_TEXT "0.6.0"
+#define HEM_ZONE_VERSION 700
+#define HEM_ZONE_VERSION_TEXT "0.7.0"
 /* The version byte of heads. */
 #define HEM_FORMAT 1
 /* The newest version of entries; hours have 1 to this one. It says how the power that heating or cooling
@@ -57,8 +57,8 @@ extern "C" {
 #define HEM_LIMITS_ENTRY_VERSION 3
 #define HEM_LIMIT_MOST 1e7
 
-/* The stack, in bytes, that suffices for every call (43 KB were measured, by the questions;
-   bench/stack). */
+/* The stack, in bytes, that suffices for every call (40 KB were measured, by a take-up and
+   the questions; bench/stack). */
 #define HEM_STACK 49152
 
 /* ---- sizes of arrays ---- */
@@ -73,6 +73,8 @@ extern "C" {
 #define HEM_OUT 5
 /* The values of a heat balance: air node 7, internal boundary 4 + 3, external boundary 14. */
 #define HEM_BALANCE 28
+/* The values of a line of a weather file. */
+#define HEM_WEATHER 3
 
 /* ---- sizes in bytes ---- */
 
@@ -95,7 +97,7 @@ extern "C" {
 
 /* ---- answers ---- */
 
-/* The number of a refusal, 1 to 20, and its index: for 4, 5 and 9 the element from 1 (0 if none), for 18
+/* The number of a refusal, 1 to 23, and its index: for 4, 5 and 9 the element from 1 (0 if none), for 18
    at a take-up or a question the entry from 0, at an append the count held, at an hour step 0; otherwise
    0. */
 #define HEM_NUMBER(answer) ((answer) & 255u)
@@ -127,8 +129,12 @@ enum hem_number {
     HEM_FALSE_ENTRY = 18,               /* an entry is false: it is not what the hour step gives; or a version that no
                                            hour has, or that is below the last entry's */
     HEM_LIMIT_VALUE = 19,               /* a limit of version 3 is out of range: 0 to 1e7 W */
-    HEM_QUESTION_VALUE = 20             /* a value of a question is not finite or beyond +-1e6, or the lower end of a
+    HEM_QUESTION_VALUE = 20,            /* a value of a question is not finite or beyond +-1e6, or the lower end of a
                                            band is above its upper */
+    HEM_WEATHER_ABSENT = 21,            /* the line of a weather file is absent, or one of its first 16 fields */
+    HEM_WEATHER_INVALID = 22,           /* a value of a weather file is not a decimal, has more than 12 digits or is
+                                           out of range */
+    HEM_WEATHER_MISSING = 23            /* a value of a weather file is missing */
 };
 
 /* ---- places in a head, from its first byte; floats have 8 bytes ---- */
@@ -227,7 +233,7 @@ enum hem_entry_at {
 #define HEM_ENTRY_AT_HEATING_LIMIT(n) (5 + HEM_CONDITIONS(n))  /* greatest heating, W */
 #define HEM_ENTRY_AT_COOLING_LIMIT(n) (13 + HEM_CONDITIONS(n)) /* greatest cooling, W, at least 0 */
 
-/* ---- places in `out` and `balance` ---- */
+/* ---- places in `out`, `balance` and `weather` ---- */
 
 enum hem_out {
     HEM_OUT_HEATING = 0,     /* kWh, at least 0 */
@@ -276,6 +282,12 @@ enum hem_balance {
     HEM_EXT_GROUND_FABRIC_EXT = 25,
     HEM_EXT_ZTC_FABRIC_EXT = 26,
     HEM_EXT_ZTU_FABRIC_EXT = 27
+};
+
+enum hem_weather_at {
+    HEM_WEATHER_AT_DRY_BULB = 0,          /* field 7: dry bulb temperature, deg C */
+    HEM_WEATHER_AT_DIRECT_NORMAL = 1,     /* field 15: direct normal radiation, Wh/m2 of the hour: its mean in W/m2 */
+    HEM_WEATHER_AT_DIFFUSE_HORIZONTAL = 2 /* field 16: diffuse horizontal radiation, likewise */
 };
 
 /* ---- what hem_why answers ---- */
@@ -399,6 +411,18 @@ uint32_t hem_hours_within(const uint8_t *bytes, size_t bytes_len, double lower, 
 /* The hour whose temperature is nearest to `value`: the magnitude of their difference, rounded once, is the
    least; of equal ones the earlier hour. Writes the hour, or HEM_NONE where the book holds none. */
 uint32_t hem_nearest_hour(const uint8_t *bytes, size_t bytes_len, double value, uint64_t *hour);
+
+/* The weather of one line of an EnergyPlus weather file, counted from 1 after the eight header lines, which are
+   not looked at. `file` is the file's bytes: lines that end with LF or CR LF, the last also at the end of the
+   file, and in a line fields between commas. A decimal is a minus or none, digits, and perhaps a point with
+   digits after it; it becomes the nearest double, ties to even, and a minus stays on a zero. Writes `weather`.
+   Refused with 21 where the line, as line 0, or one of its first 16 fields is absent; then the fields are tested
+   one by one in the order of the file: 22 for one that is not a decimal (as one with a blank, a plus or an
+   exponent) or has more than 12 digits, leading zeros included; 23 for a missing value, a temperature of 99.9 or
+   a radiation of 9999; 22 for a temperature outside +-100 or a radiation outside 0 to 2,000.
+   A call reads the file from its start to the line. For every line of a year, hand over a file of eight LF and
+   the one line, with its LF if it has one, and ask for line 1: the answer is the same. */
+uint32_t hem_weather(const uint8_t *file, size_t file_len, uint64_t line, double weather[HEM_WEATHER]);
 
 #ifdef __cplusplus
 }

@@ -1,7 +1,8 @@
 //! Times of the engine through its C interface: houses of 1, 8 and 24 five-node elements and a year of
-//! 8,760 hours, at a fixed rate and with windows.
+//! 8,760 hours, at a fixed rate and with windows; and a weather file of such a year.
 mod engine;
 mod houses;
+mod weather;
 
 use engine::{Engine, Held, Temps};
 use hem_zone::ffi::NONE;
@@ -69,16 +70,22 @@ fn times(repetitions: usize) {
             say(format!("{what} {elements} {rate} {:.0}", time(engine, repetitions)));
         });
     }
+    weather::times(repetitions);
 }
 
 /// Nanoseconds for an hour, the best of some repetitions of a whole year.
-fn best(repetitions: usize, mut year: impl FnMut()) -> f64 {
-    let once = |year: &mut dyn FnMut()| {
+fn best(repetitions: usize, year: impl FnMut()) -> f64 {
+    best_of(repetitions, HOURS, year)
+}
+
+/// Nanoseconds for one of so many calls, the best of some repetitions of all of them.
+fn best_of(repetitions: usize, calls: usize, mut all: impl FnMut()) -> f64 {
+    let once = |all: &mut dyn FnMut()| {
         let start = Instant::now();
-        year();
-        start.elapsed().as_nanos() as f64 / HOURS as f64
+        all();
+        start.elapsed().as_nanos() as f64 / calls as f64
     };
-    (0..repetitions).map(|_| once(&mut year)).fold(f64::INFINITY, f64::min)
+    (0..repetitions).map(|_| once(&mut all)).fold(f64::INFINITY, f64::min)
 }
 
 fn head(engine: &Engine, repetitions: usize) -> f64 {

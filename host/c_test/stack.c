@@ -6,10 +6,13 @@
 #include <stdlib.h>
 #include <string.h>
 
+/* A weather file of one line. */
+static const char epw[] = "\n\n\n\n\n\n\n\n1999,1,1,1,60,?9,-3.52345678901,5,93,101300,0,0,290,33,120.123456789,60\r\n";
+
 typedef struct {
     uint8_t *head, *hour, *open_hour, *book;
     size_t head_len, hour_len, book_len;
-    double temps[HEM_TEMPS], out[HEM_OUT], balance[HEM_BALANCE];
+    double temps[HEM_TEMPS], out[HEM_OUT], balance[HEM_BALANCE], weather[HEM_WEATHER];
     uint64_t nodes, count, used, last, found, reason, load;
     uint32_t answers;
 } Calls;
@@ -31,6 +34,7 @@ static void *every_call(void *given) {
     c->answers |= hem_first_above(c->book, c->book_len, 20, &c->found);
     c->answers |= hem_hours_within(c->book, c->book_len, 18, 26, &c->found);
     c->answers |= hem_nearest_hour(c->book, c->book_len, 20, &c->found);
+    c->answers |= hem_weather((const uint8_t *)epw, sizeof epw - 1, 1, c->weather);
     return NULL;
 }
 

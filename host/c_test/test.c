@@ -297,6 +297,7 @@ int main(int argc, char **argv) {
     test_stack();
     test_convection();
     test_why();
+    test_weather();
     if (argc > 1) write_year(argv[1], p, warm);
     test_index(p);
     free(p);

@@ -36,5 +36,7 @@ void test_stack(void);
 void test_convection(void);
 /* Why an hour has its rate and its load. */
 void test_why(void);
+/* The weather of a line of a file. */
+void test_weather(void);
 
 #endif

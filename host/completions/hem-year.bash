@@ -12,7 +12,7 @@ _hem_year() {
     local earlier=''
     ((COMP_CWORD > 2)) && earlier=${COMP_WORDS[COMP_CWORD - 2]}
     [[ $earlier == '=' ]] && earlier=${COMP_WORDS[COMP_CWORD - 3]}
-    local commands='sample house hours check run report warm why show cut help'
+    local commands='sample house hours check run report warm why weather show cut help'
     for ((i = 1; i < COMP_CWORD; i++)); do
         if [[ ${COMP_WORDS[i]} != -* && " $commands " == *" ${COMP_WORDS[i]} "* ]]; then
             command=${COMP_WORDS[i]}
@@ -27,20 +27,29 @@ _hem_year() {
         check | run) options+=' --entry-version --heating-limit --cooling-limit' ;;
         report) options+=' --csv --svg --balance --nodes --head --name --force' ;;
         warm) options+=' --above --within --nearest' ;;
+        weather) options+=' --line --csv --dry-bulb --direct --diffuse --head --force' ;;
         show) options+=' --hour --hours --head' ;;
         cut) options+=' --head --force' ;;
         '' | help) options+=' --version' ;;
     esac
 
     COMPREPLY=()
-    if [[ $before == --hour || $before == --name || $before == --heating-limit || $before == --cooling-limit ]]; then
+    if [[ $before == --hour || $before == --line || $before == --name || $before == --heating-limit || $before == --cooling-limit ]]; then
         return
     elif [[ $before == --above || $before == --nearest || $before == --within || $earlier == --within ]]; then
         return
-    elif [[ $word == --hour=* || $word == --name=* || $word == --entry-version=* || $word == --*-limit=* ]]; then
+    elif [[ $word == --hour=* || $word == --line=* || $word == --name=* || $word == --entry-version=* || $word == --*-limit=* ]]; then
         return # where = ends no word, there is nothing to offer
     elif [[ $word == --above=* || $word == --nearest=* || $word == --within=* ]]; then
         return
+    elif [[ $word == --dry-bulb=* || $word == --direct=* || $word == --diffuse=* ]]; then
+        return
+    elif [[ $before == --dry-bulb ]]; then
+        mapfile -t COMPREPLY < <(compgen -W 'temp_ext_air avg_air_supply_temp temp_ext' -- "$word")
+    elif [[ $before == --direct ]]; then
+        mapfile -t COMPREPLY < <(compgen -W 'i_sol_dir' -- "$word")
+    elif [[ $before == --diffuse ]]; then
+        mapfile -t COMPREPLY < <(compgen -W 'i_sol_dif' -- "$word")
     elif [[ $before == --entry-version ]]; then
         mapfile -t COMPREPLY < <(compgen -W '1 2 3' -- "$word")
     elif [[ $word == -* && $before != --csv && $before != --svg && $before != --head ]]; then

@@ -8,6 +8,7 @@ use crate::ranges::{plain, FRACTION, GAINS, OPEN, POWER_LIMIT, QUESTION, RATE};
 use crate::refusal::Reason;
 use crate::values::{conditions_values, head_values, treatments_text, Value};
 use crate::versions::{entry_versions_to, is_known, NEWEST_ENTRY_VERSION};
+use crate::weather_fault::{self, AskedLine};
 
 /// What a call was given, as far as its refusal may speak of it.
 #[derive(Clone, Copy, Default)]
@@ -25,6 +26,8 @@ pub(crate) struct Given<'a> {
     pub(crate) limits: Option<Limits>,
     /// The values of a question by name: one, or the lower and the upper end of a band.
     pub(crate) asked: &'a [(&'static str, f64)],
+    /// The line of a weather file.
+    pub(crate) weather: Option<AskedLine<'a>>,
 }
 
 /// An entry version that a call names or an entry has, and that of the entry before it, if there is one.
@@ -55,6 +58,9 @@ pub(crate) fn sentence(reason: Reason, index: u32, given: &Given) -> String {
         Reason::NotSettled => passes(given.head),
         Reason::LimitValue => limits(given),
         Reason::QuestionValue => question(given),
+        Reason::WeatherAbsent | Reason::WeatherInvalid | Reason::WeatherMissing => {
+            given.weather.and_then(|asked| weather_fault::fault(reason, asked))
+        }
         Reason::FalseEntry => return named_version(given).unwrap_or_else(|| reason.to_string()),
         _ => None,
     };

@@ -1,7 +1,7 @@
 //! The C interface as it stands in `include/hem_zone.h`, where each function is described.
 //!
 //! Every pointer must be aligned and valid for the length beside it (121 for `temps`, 5 for `out`, 28
-//! for `balance`), what it leads to must be initialised, and what a call writes may overlap nothing else
+//! for `balance`, 3 for `weather`), what it leads to must be initialised, and what a call writes may overlap nothing else
 //! that it is given. The calling thread rounds to nearest with denormal numbers, and has 48 KB of stack.
 
 /// Length of every array of node temperatures (`HEM_TEMPS`).
@@ -10,6 +10,8 @@ pub const TEMPS: usize = 121;
 pub const OUT: usize = 5;
 /// Length of the array of a heat balance (`HEM_BALANCE`).
 pub const BALANCE: usize = 28;
+/// Length of the array of a line of weather (`HEM_WEATHER`).
+pub const WEATHER: usize = 3;
 /// The most entries that a book holds (`HEM_ENTRIES`).
 pub const ENTRIES: usize = 8784;
 /// The newest version of entries (`HEM_NEWEST_ENTRY_VERSION`).
@@ -129,4 +131,6 @@ unsafe extern "C" {
     ) -> u32;
 
     pub fn hem_nearest_hour(bytes: *const u8, bytes_len: usize, value: f64, hour: *mut u64) -> u32;
+
+    pub fn hem_weather(file: *const u8, file_len: usize, line: u64, weather: *mut f64) -> u32;
 }

@@ -14,6 +14,7 @@
 //!   and surfaces ([`ENTRY_VERSION_1`], [`ENTRY_VERSION_2`]) and may have the [`Limits`] of a plant
 //!   ([`ENTRY_VERSION_3`]).
 //! - [`first_above`], [`hours_within`] and [`nearest_hour`] say when it got warm.
+//! - [`weather`] and [`weather_lines`] read temperature and radiation from an EnergyPlus weather file.
 //! - `text` (feature `text`) reads and writes heads as TOML and hours as CSV.
 //! - [`Refusal`] says why a call was turned away: its [`Reason`], number and index, and one sentence.
 //!
@@ -53,6 +54,8 @@ pub mod samples;
 pub mod text;
 mod values;
 mod versions;
+mod weather;
+mod weather_fault;
 mod why;
 mod zone;
 
@@ -72,5 +75,6 @@ pub use versions::{
     entry_versions_to, Rule, ENTRY_VERSION_1, ENTRY_VERSION_2, ENTRY_VERSION_3,
     NEWEST_ENTRY_VERSION,
 };
+pub use weather::{weather, weather_lines, Weather, WeatherLines};
 pub use why::{Load, RateReason, Why};
 pub use zone::{Demand, State, Zone};

@@ -77,6 +77,13 @@ reasons! {
     /// its upper.
     QuestionValue = 20,
         "a temperature asked about is beyond ±1,000,000 °C, or a band's lower end is above its upper";
+    /// The line of a weather file that was asked for is absent, or one of its first sixteen fields.
+    WeatherAbsent = 21, "the weather file has no such line, or the line fewer than sixteen fields";
+    /// A value of a weather file is not a decimal, has more than 12 digits or is out of range.
+    WeatherInvalid = 22,
+        "a value of the weather file is not a decimal of at most 12 digits, or is out of range";
+    /// A value of a weather file is missing: a temperature of 99.9, a radiation of 9999.
+    WeatherMissing = 23, "a value of the weather file is missing";
     /// A number that this crate does not know.
     Unknown = 255, "the engine refused the call";
 }
@@ -108,7 +115,7 @@ impl Refusal {
         Reason::of_number(self.number)
     }
 
-    /// The engine's number, 1 to 20; 0 where the engine was not called ([`Reason::FloatEnvironment`]).
+    /// The engine's number, 1 to 23; 0 where the engine was not called ([`Reason::FloatEnvironment`]).
     pub fn number(&self) -> u32 {
         self.number
     }
@@ -149,10 +156,10 @@ mod tests {
 
     #[test]
     fn each_number_has_its_own_reason() {
-        for number in 0..=20 {
+        for number in 0..=23 {
             assert_eq!(Reason::of_number(number) as u32, number);
             assert_eq!(Refusal::new(number, |_, _| String::new()).reason() as u32, number);
         }
-        assert_eq!(Reason::of_number(21), Reason::Unknown);
+        assert_eq!(Reason::of_number(24), Reason::Unknown);
     }
 }

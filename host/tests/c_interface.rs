@@ -1,5 +1,5 @@
 //! The functions of include/hem_zone.h, called as C calls them: once accepted, once refused. Its questions
-//! about a book are asked in c_questions.rs, why an hour has its rate in c_why.rs.
+//! about a book are asked in c_questions.rs, why an hour has its rate in c_why.rs, the weather in c_weather.rs.
 #[path = "common/lent.rs"]
 mod lent;
 

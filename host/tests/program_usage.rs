@@ -7,8 +7,8 @@ use std::fs;
 use std::path::Path;
 use std::process::Command;
 
-const COMMANDS: [&str; 10] =
-    ["sample", "house", "hours", "check", "run", "report", "warm", "why", "show", "cut"];
+const COMMANDS: [&str; 11] =
+    ["sample", "house", "hours", "check", "run", "report", "warm", "why", "weather", "show", "cut"];
 
 fn folder(name: &str) -> Folder {
     let folder = Folder::with_house_p(name, 3);
@@ -163,10 +163,14 @@ fn the_options_of_a_help_are_taken_and_no_others() {
         "above",
         "cooling-limit",
         "csv",
+        "diffuse",
+        "direct",
+        "dry-bulb",
         "entry-version",
         "head",
         "heating-limit",
         "hour",
+        "line",
         "name",
         "nearest",
         "svg",
@@ -200,9 +204,11 @@ fn the_manual_page_has_every_command_and_option() {
     for command in COMMANDS {
         assert!(page.contains(&format!("\n.It Cm {command} Ar ")), "{command}");
         let help = folder.call(&["help", command]).done();
-        let after =
-            page.split(&format!("\n.Cm {command}\n")).nth(1).unwrap_or_else(|| panic!("{command}"));
-        let synopsis = after.split("\n.Nm").next().unwrap();
+        // A command may have several forms.
+        let (forms, name) = (page.split("\n.Sh D").next().unwrap(), format!("\n.Cm {command}\n"));
+        let forms = forms.split(&name).skip(1).map(|after| after.split("\n.Nm").next().unwrap());
+        let synopsis: String = forms.collect();
+        assert!(!synopsis.is_empty(), "{command}");
         for option in options(&help) {
             assert!(page.contains(&format!("\n.It Fl -{option}")), "--{option}");
             assert!(synopsis.contains(&format!("Fl -{option}")), "{command} --{option}");
@@ -234,7 +240,7 @@ fn the_completion_offers_commands_options_and_files() {
     all.sort();
     assert_eq!(completed(&folder, &[""]), all);
     assert_eq!(completed(&folder, &["help", "c"]), ["check", "cut"]);
-    assert_eq!(completed(&folder, &["w"]), ["warm", "why"]);
+    assert_eq!(completed(&folder, &["w"]), ["warm", "weather", "why"]);
     assert_eq!(completed(&folder, &["-"]), ["--help", "--version"]);
     for command in COMMANDS {
         let help = folder.call(&["help", command]).done();
@@ -270,6 +276,16 @@ fn the_completion_offers_commands_options_and_files() {
         assert!(completed(&folder, &["warm", option, ""]).is_empty());
         assert!(completed(&folder, &["warm", option, "=", ""]).is_empty());
         assert!(completed(&folder, &["warm", &format!("{option}=")]).is_empty());
+    }
+    for (option, names) in [
+        ("--dry-bulb", &["avg_air_supply_temp", "temp_ext", "temp_ext_air"][..]),
+        ("--direct", &["i_sol_dir"]),
+        ("--diffuse", &["i_sol_dif"]),
+        ("--line", &[]),
+    ] {
+        assert_eq!(completed(&folder, &["weather", "p.epw", option, ""]), names);
+        assert_eq!(completed(&folder, &["weather", "p.epw", option, "=", ""]), names);
+        assert!(completed(&folder, &["weather", "p.epw", &format!("{option}=")]).is_empty());
     }
     // A file comes behind one number, of --within behind two.
     assert_eq!(completed(&folder, &["warm", "--above", "20", "p.b"]), ["p.book"]);

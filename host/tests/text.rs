@@ -143,7 +143,7 @@ fn the_sample_is_text() {
 fn an_interrupted_sample_is_completed() {
     let folder = Folder::new("text_half");
     folder.call(&["sample", "."]).done();
-    let names = ["terrace.csv", "terrace.head", "terrace.toml", "terrace.year"];
+    let names = ["terrace.csv", "terrace.epw", "terrace.head", "terrace.toml", "terrace.year"];
     assert_eq!(folder.names(), names);
     let whole = names.map(|name| folder.read(name));
     for name in names {
@@ -154,7 +154,7 @@ fn an_interrupted_sample_is_completed() {
     folder.remove("terrace.head");
     folder.write("terrace.year", b"mine");
     folder.call(&["sample", "."]).failed(2, "exists already and is not overwritten");
-    assert_eq!(folder.names(), ["terrace.csv", "terrace.toml", "terrace.year"]);
+    assert_eq!(folder.names(), ["terrace.csv", "terrace.epw", "terrace.toml", "terrace.year"]);
     assert_eq!(folder.read("terrace.year"), b"mine");
 }
 

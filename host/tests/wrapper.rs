@@ -2,7 +2,8 @@
 //! length, and no call in a floating-point environment that would give other values.
 use hem_zone::samples::{hour_p, house_p};
 use hem_zone::{
-    first_above, hours_within, nearest_hour, Book, Reason, Refusal, State, Zone, ENTRY_VERSION_2,
+    first_above, hours_within, nearest_hour, weather, weather_lines, Book, Reason, Refusal, State,
+    Zone, ENTRY_VERSION_2,
 };
 use std::arch::asm;
 
@@ -67,6 +68,7 @@ fn a_state_of_any_length_can_be_held_and_is_refused() {
 /// Every call of the wrapper that calls the engine, and whether it refused.
 fn every_call(zone: &Zone, book: &Book) -> Vec<Option<Refusal>> {
     let hour = hour_p(21.0, 24.0);
+    let epw = [&b"\n".repeat(8), &b",,,,,,20,,,,,,,,0,0"[..]].concat();
     vec![
         Zone::from_head(&house_p()).err(),
         zone.start_up().err(),
@@ -81,6 +83,8 @@ fn every_call(zone: &Zone, book: &Book) -> Vec<Option<Refusal>> {
         first_above(book.bytes(), 20.0).err(),
         hours_within(book.bytes(), 20.0, 21.0).err(),
         nearest_hour(book.bytes(), 20.0).err(),
+        weather(&epw, 1).err(),
+        weather_lines(&epw).next().unwrap().err(),
     ]
 }
 
@@ -126,7 +130,7 @@ fn another_floating_point_environment_is_refused_by_every_call() {
             assert_eq!(refusal.to_string(), refusal.sentence());
         }
     }
-    assert_eq!(with_control(0, || every_call(&zone, &book)), vec![None; 13]);
+    assert_eq!(with_control(0, || every_call(&zone, &book)), vec![None; 15]);
 }
 
 #[test]

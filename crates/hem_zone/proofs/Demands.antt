@@ -24,6 +24,8 @@ use Rattle.tools.proofs.Refusals.{question_refusals}
 use Rattle.hem_zone.specs.Demands.{Demands}
 use Rattle.hem_zone.proofs.Claims.{claims}
 use Rattle.hem_zone.proofs.ToldApart.{told_apart}
+use Rattle.weather.proofs.Claims.{weather_claims}
+use Rattle.weather.proofs.Refusals.{weather_refusals}
 use Rattle.hem_zone.proofs.Ties.{Ties, ties}
 use Rattle.hem_zone.proofs.BookTypes.{handed_on}
 use Rattle.hem_zone.proofs.Contracts.{begin_meets, append_meets, take_up_is, take_up_meets}
@@ -84,4 +86,6 @@ demands =
       books_of_p = books_of_p;
       questions = question_claims;
       question_refusals = question_refusals;
+      weather = weather_claims;
+      weather_refusals = weather_refusals;
     }

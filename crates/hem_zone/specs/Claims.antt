@@ -20,6 +20,9 @@ use Rattle.hem_zone.specs.Why.{why_out, hem_why_outcome}
 use Rattle.tools.specs.Questions.{first_above_in, hours_within_in, nearest_hour_in}
 use Rattle.tools.specs.Refusals.{QuestionRefusal}
 use Rattle.hem_zone.specs.Questions.{hour_or_none, hem_first_above_outcome, hem_hours_within_outcome, hem_nearest_hour_outcome}
+use Rattle.weather.specs.Weather.{weather_of}
+use Rattle.weather.specs.Refusals.{WeatherRefusal}
+use Rattle.hem_zone.specs.Weather.{weather_out, hem_weather_outcome}
 use Rattle.hem_zone.specs.Book.{CBookState, book_state_of, c_book_state_of, book_out, hem_begin_outcome, hem_append_outcome, hem_take_up_outcome}
 
 -- the head is read first, 1 to 5; then what the call is refused with
@@ -30,7 +33,7 @@ pub data AfterHead (P : (number index : ℕ) → Type 0) : (number index : ℕ) 
 -- a number of the papers, and an index for which the 32 bits of an answer have room beside it
 pub record InAnswer (number index : ℕ) : Type 0 where
   pub from_1 : 1 ≤ number
-  pub to_20 : number ≤ 20
+  pub to_23 : number ≤ 23
   pub room : index < 16777216
 
 -- Replies are told apart: no refusal is returned as acceptance is, and two that are returned as one number are one refusal
@@ -102,3 +105,5 @@ pub record Claims : Type 0 where
       (bytes : List ℕ) (lower upper : Float) (hours : ℕ) → Answered QuestionRefusal (λ n. n) hours (hours_within_in bytes lower upper) (hem_hours_within_outcome bytes lower upper hours)
   pub hem_nearest_hour :
       (bytes : List ℕ) (value : Float) (hour : ℕ) → Answered QuestionRefusal hour_or_none hour (nearest_hour_in bytes value) (hem_nearest_hour_outcome bytes value hour)
+  pub hem_weather :
+      (file : List ℕ) (line : ℕ) (weather : List Float) → Answered WeatherRefusal weather_out weather (weather_of file line) (hem_weather_outcome file line weather)

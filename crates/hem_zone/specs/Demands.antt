@@ -1,5 +1,5 @@
--- The three demands for the engine as a whole: for the thirteen functions that C calls. A call returns and leaves what its function's definition says
--- (specs/Zone.antt, specs/Book.antt): that is the contract's, which the check proves, as it proves that the call ends, and `Ties` (proofs/Ties.antt) says it of each contract. So the
+-- The three demands for the engine as a whole: for the fourteen functions that C calls. A call returns and leaves what its function's definition says
+-- (specs/Zone.antt, specs/Book.antt and those beside them): that is the contract's, which the check proves, as it proves that the call ends, and `Ties` (proofs/Ties.antt) says it of each contract. So the
 -- demands are stated of the definitions. Each line is a type that is proved elsewhere.
 use Rattle.std.specs.Prelude.{◌≡◌, Bool, true, List, ◌++◌, take, ℕ, Float}
 use Rattle.zone.specs.declared.format.limits.Limits.{Limits}
@@ -31,6 +31,8 @@ use Rattle.book.specs.PlantLimits.{PlantClaims, LimitsApart}
 use Rattle.book.specs.Year.{Carried, hour_item, year_interface}
 use Rattle.tools.specs.Claims.{QuestionClaims}
 use Rattle.tools.specs.Refusals.{QuestionRefusals}
+use Rattle.weather.specs.Claims.{WeatherClaims}
+use Rattle.weather.specs.Refusals.{WeatherRefusals}
 use Rattle.hem_zone.specs.Arrays.{limits_of}
 use Rattle.hem_zone.specs.Claims.{Claims, ToldApart}
 use Rattle.hem_zone.specs.Why.{WhyNumbers}
@@ -129,3 +131,6 @@ pub record Demands (Ties : Type 0) : Type 1 where
   -- the questions over an accepted book, and what they are refused with
   pub questions : QuestionClaims
   pub question_refusals : QuestionRefusals
+  -- the weather of a line: a file that is written as the paper says is read so, and what it is refused with
+  pub weather : WeatherClaims
+  pub weather_refusals : WeatherRefusals

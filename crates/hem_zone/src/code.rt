@@ -10,7 +10,7 @@ use zone::Refusal;
 
 // number + 256 * index, in 32 bits.
 #[tactic(auto, using(crate::proofs::Laws::Code::low_bits))]
-fn refusal_code(number: u32, index: usize) -> u32
+pub fn refusal_code(number: u32, index: usize) -> u32
     ensures { result ≡ refusal_code number index }
 {
     let low = index % 16777216;

@@ -11,6 +11,6 @@ number_of Absent = absent
 number_of Invalid = invalid
 number_of Missing = missing
 
-abbrev pub answer_of : {A : Type 0} → Answer A WeatherError → Result A
-answer_of (Ok value) = ok value
-answer_of (Err error) = refused (number_of error) 0
+abbrev pub answered : {A : Type 0} → Answer A WeatherError → Result A
+answered (Ok value) = ok value
+answered (Err error) = refused (number_of error) 0

@@ -1,6 +1,6 @@
 // What a field holds: decimal, missing, range.
 ghost use Rattle.std.specs.Prelude.{◌≡◌};
-ghost use Rattle.weather.specs.Answers.{answer_of};
+ghost use Rattle.weather.specs.Answers.{answered};
 ghost use Rattle.weather.specs.Inner.Quantities.{means_missing, range_of, reading};
 
 use crate::decimal::read_decimal;
@@ -34,7 +34,7 @@ impl Quantity {
 
     #[tactic(auto, using(crate::proofs::Laws::Fields::readings))]
     pub fn read(self, field: &[u8]) -> Result<f64, WeatherError>
-        ensures { answer_of result ≡ reading self field.now }
+        ensures { answered result ≡ reading self field.now }
     {
         let fraction = read_decimal(field).ok_or(WeatherError::Invalid)?;
         if self.is_missing(fraction) {

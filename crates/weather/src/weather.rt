@@ -1,6 +1,6 @@
 // The three numbers of a chosen line.
 ghost use Rattle.std.specs.Prelude.{◌≡◌};
-ghost use Rattle.weather.specs.Answers.{answer_of};
+ghost use Rattle.weather.specs.Answers.{answered};
 ghost use Rattle.weather.specs.Weather.{weather_in, weather_of};
 
 use crate::lines::{find_field, find_line};
@@ -11,7 +11,7 @@ use crate::replies::{Weather, WeatherError};
 // The fields are tested in file order, once all three are there.
 #[tactic(auto, unfolding(crate::specs::Weather::weather_in, crate::specs::Weather::weather_from))]
 fn weather_in(line: &[u8]) -> Result<Weather, WeatherError>
-    ensures { answer_of result ≡ weather_in line.now }
+    ensures { answered result ≡ weather_in line.now }
 {
     let seventh = find_field(line, DRY_BULB_FIELD).ok_or(WeatherError::Absent)?;
     let fifteenth = find_field(line, DIRECT_NORMAL_FIELD).ok_or(WeatherError::Absent)?;
@@ -26,7 +26,7 @@ fn weather_in(line: &[u8]) -> Result<Weather, WeatherError>
 // The weather of a line of a file, counted from 1 behind the eight headers.
 #[tactic(auto, unfolding(crate::specs::Weather::weather_of))]
 pub fn read_weather(file: &[u8], line: u64) -> Result<Weather, WeatherError>
-    ensures { answer_of result ≡ weather_of file.now line }
+    ensures { answered result ≡ weather_of file.now line }
 {
     let chosen = find_line(file, line).ok_or(WeatherError::Absent)?;
     weather_in(chosen)

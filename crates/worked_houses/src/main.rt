@@ -8,7 +8,7 @@
 // books, versions that no hour has, and the room in version 3: hours with limits, limits out of range, entries and books.
 // At the end of each house books of it are asked when it got warm: the first hour above a value, the hours within a band and the
 // hour nearest to a value. Then come rooms of six surfaces: what their air gives to the surfaces, by direction of heat flow.
-// Last a room with windows that can open: why an hour has its air change rate and its load.
+// Then a room with windows that can open: why an hour has its air change rate and its load. Last the weather of a file's line, and a house in it.
 #![tactic(auto)]
 
 mod answers;
@@ -20,6 +20,7 @@ mod limits;
 mod refusal;
 mod replies;
 mod table;
+mod weather_lines;
 mod why;
 mod zone_read;
 
@@ -28,6 +29,7 @@ use convection::rows as surface_rows;
 use house_p::{
     book_rows, limited as limited_hours, questions as hours_asked, rows, surface_convection,
 };
+use weather_lines::{fields, house, lines};
 use why::{bases, close, coarse, found, lost_load, order, reasons, refusals, temperatures};
 
 fn print_house_p(rt: &impl Print) -> anyhow::Result<()> {
@@ -77,9 +79,17 @@ fn print_why(rt: &impl Print) -> anyhow::Result<()> {
     refusals::print_refusals(rt)
 }
 
+fn print_weather(rt: &impl Print) -> anyhow::Result<()> {
+    table::heading(rt, "\nThe weather of a file's line, and a house in it")?;
+    fields::print_fields(rt)?;
+    lines::print_lines(rt)?;
+    house::print_house(rt)
+}
+
 fn main(rt: HostRuntime) -> anyhow::Result<()> {
     print_house_p(&rt)?;
     print_chilled_ceiling(&rt)?;
     print_convection(&rt)?;
-    print_why(&rt)
+    print_why(&rt)?;
+    print_weather(&rt)
 }

@@ -3,6 +3,7 @@ use book::BookError;
 use std::error::Error;
 use std::fmt::{self, Display};
 use tools::QuestionError;
+use weather::WeatherError;
 
 // The refusals that the rows meet. Their numbers are written here as the documents give them: the rows lay them beside the engine's.
 #[derive(Clone, Copy, Debug, PartialEq, Eq)]
@@ -24,9 +25,12 @@ pub enum Cause {
     FalseEntry = 18,
     LimitValue = 19,
     QuestionValue = 20,
+    WeatherAbsent = 21,
+    WeatherInvalid = 22,
+    WeatherMissing = 23,
 }
 
-// A refusal of the zone, the book or a question, with the index of the element or the hour that it is about, 0 where it is about none. By
+// A refusal of the zone, the book, a question or a line of weather, with the index of the element or the hour that it is about, 0 where it is about none. By
 // number: were what is expected an error of the engine, its `number()` would be laid beside itself, and a wrong number would be `ok`.
 #[derive(Clone, Copy, Debug, PartialEq, Eq)]
 pub struct Refusal {
@@ -55,8 +59,8 @@ impl Display for Refusal {
 
 impl Error for Refusal {}
 
-// Three, as of replay's `Failure`: `?` converts in one step. A shared type could not print in the rows' columns, and a type of the
-// program around it would need the three again.
+// One for each error, as of replay's `Failure`: `?` converts in one step. A shared type could not print in the rows' columns, and a type of the
+// program around it would need them again.
 impl From<zone::Refusal> for Refusal {
     fn from(refusal: zone::Refusal) -> Refusal {
         Refusal::from(BookError::from(refusal))
@@ -74,6 +78,15 @@ impl From<QuestionError> for Refusal {
         Refusal {
             number: refusal.number(),
             index: refusal.index(),
+        }
+    }
+}
+
+impl From<WeatherError> for Refusal {
+    fn from(refusal: WeatherError) -> Refusal {
+        Refusal {
+            number: refusal.number(),
+            index: 0,
         }
     }
 }

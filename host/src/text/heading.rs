@@ -1,5 +1,6 @@
 //! The heading line of a table of hours.
 use super::faults::Faults;
+use super::hour_numbers::HourNumbers;
 use super::plan::Plan;
 use super::what::{hint, Key, What};
 use csv::ByteRecord;
@@ -16,7 +17,7 @@ pub(crate) enum Column {
     Empty,
 }
 
-pub(crate) const NUMBER: &str = "hour";
+pub(crate) const NUMBER: &str = HourNumbers::HEADING;
 const TIME: &str = "time";
 
 /// A column with its heading.

@@ -2,8 +2,9 @@
 use super::assemble::{Assembly, Field};
 use super::csv_lines::CsvLines;
 use super::faults::Faults;
-use super::heading::{read_heading, Column, Headed, NUMBER};
-use super::number::{self, may_be_none, out_of_range, NONE};
+use super::heading::{read_heading, Column, Headed};
+use super::hour_numbers::HourNumbers;
+use super::number::{self, may_be_none, out_of_range, shown, NONE};
 use super::open::Open;
 use super::plan::{Constant, Plan};
 use super::what::{Key, What};
@@ -36,7 +37,8 @@ pub fn read_hours(
     }
     let assembly = Assembly::new(&place, &columns, &plan, faults);
     let known = faults.count() == before;
-    let mut table = Rows { file, columns: &columns, faults, line: 0, number: None };
+    let numbers = HourNumbers::default();
+    let mut table = Rows { file, columns: &columns, faults, line: 0, numbers };
     let mut hours = vec![];
     let mut count = 0;
     while let Some((line, record)) = lines.next() {
@@ -69,8 +71,8 @@ struct Rows<'a> {
     columns: &'a [Headed],
     faults: &'a mut Faults,
     line: usize,
-    /// The number of the hour before, where there is a column for it.
-    number: Option<u64>,
+    /// Those of the hours, where there is a column for them.
+    numbers: HourNumbers,
 }
 
 impl Rows<'_> {
@@ -104,27 +106,14 @@ impl Rows<'_> {
                 None
             }
             Column::Number => {
-                self.count(text);
+                let fault = self.numbers.fault(text);
+                fault.into_iter().for_each(|fault| self.tell(fault));
                 None
             }
             Column::Value(Key { what: What::Rate(_), .. }) if text.is_empty() => None,
             Column::Value(Key { what: What::Open, .. }) => self.open(text, headed),
             Column::Value(Key { what, .. }) => self.value(text, headed, what),
         }
-    }
-
-    /// The number of an hour goes up by one, so that a line that was left out is found.
-    fn count(&mut self, text: &str) {
-        let number: Option<u64> = text.parse().ok();
-        let expected = self.number.map(|before| before + 1);
-        match (number, expected) {
-            (None, _) => self.tell(format!("{NUMBER} is {}, not a whole number", shown(text))),
-            (Some(number), Some(expected)) if number != expected => {
-                self.tell(format!("{NUMBER} is {number}, where {expected} is next"));
-            }
-            _ => {}
-        }
-        self.number = number.or(expected).filter(|number| *number < u64::MAX);
     }
 
     fn open(&mut self, text: &str, headed: &Headed) -> Field {
@@ -179,16 +168,5 @@ impl Rows<'_> {
                 ));
             }
         }
-    }
-}
-
-/// A field as it is shown where it is not understood.
-fn shown(text: &str) -> String {
-    match text {
-        "" => "empty".into(),
-        _ if text.chars().count() > 40 => {
-            format!("{:?}...", text.chars().take(40).collect::<String>())
-        }
-        _ => format!("{text:?}"),
     }
 }

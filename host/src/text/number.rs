@@ -25,8 +25,9 @@ pub(crate) fn written(value: f64) -> String {
     format!("{value:?}")
 }
 
-/// As `written`, a whole number without its `.0`.
-pub(crate) fn short(value: f64) -> String {
+/// The shortest decimal that reads back to the same bits, as the tables of hours have it: a whole number without a
+/// point, very great and small ones with an exponent; `inf` and `NaN` where it is no number.
+pub fn short(value: f64) -> String {
     let text = written(value);
     match text.strip_suffix(".0") {
         Some(whole) => whole.to_string(),
@@ -39,6 +40,17 @@ pub(crate) fn cell(of: &Named, value: f64) -> String {
     match value == NO_CONTROL && may_be_none(of.name) {
         true => NONE.into(),
         false => short(value),
+    }
+}
+
+/// A field as it is shown where it is not understood.
+pub(crate) fn shown(text: &str) -> String {
+    match text {
+        "" => "empty".into(),
+        _ if text.chars().count() > 40 => {
+            format!("{:?}...", text.chars().take(40).collect::<String>())
+        }
+        _ => format!("{text:?}"),
     }
 }
 

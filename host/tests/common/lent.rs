@@ -227,6 +227,18 @@ pub fn nearest_hour(bytes: &[u8], value: f64) -> (u32, u64) {
     (answer, hour)
 }
 
+/// The weather of a line of a file: what is answered, and what stands in its array after it. The places before and
+/// behind the array stay as they are.
+#[track_caller]
+pub fn weather(file: &[u8], line: u64) -> (u32, [f64; WEATHER]) {
+    let mut places = [MARK; WEATHER + 2];
+    let array = places[1..].as_mut_ptr();
+    let answer = unsafe { hem_weather(file.as_ptr(), file.len(), line, array) };
+    let [before, values @ .., behind] = places;
+    assert_eq!([before, behind], [MARK; 2], "more was written than the array");
+    (answer, values)
+}
+
 pub fn take_up(bytes: &[u8], lent: &mut Lent) -> u32 {
     unsafe {
         hem_take_up(

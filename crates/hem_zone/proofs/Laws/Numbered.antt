@@ -1,4 +1,4 @@
--- Every refusal of the papers has a number from 1 to 20 and an index of at most 8,783: family by family.
+-- Every refusal of the papers has a number from 1 to 23 and an index of at most 8,783: family by family.
 use Prim.Native.Nat.{ℕ, ◌≤◌}
 use borrow.Author.Rules.{rules}
 use Rattle.zone.specs.Promise.{SolveRefusal, solve_divisor, solve_temperature}
@@ -6,12 +6,13 @@ use Rattle.zone.specs.Claims.HeadRefusals as Head
 use Rattle.zone.specs.Claims.Refusals as Zone
 use Rattle.book.specs.Refusals as Book
 use Rattle.tools.specs.Refusals.{QuestionRefusal, question_take_up, question_invalid}
+use Rattle.weather.specs.Refusals.{WeatherRefusal, weather_absent, weather_invalid, weather_missing}
 use Rattle.hem_zone.specs.Claims.{AfterHead, of_head, of_call}
 
 -- a refusal of the papers
 pub record Numbered (number index : ℕ) : Type 0 where
   pub from_1 : 1 ≤ number
-  pub to_20 : number ≤ 20
+  pub to_23 : number ≤ 23
   pub few : index ≤ 8783
 
 solve_numbered : (n i : ℕ) → SolveRefusal n i → Numbered n i
@@ -90,6 +91,11 @@ take_up_numbered n i (Book.take_up_false_entry entry h) = search rules
 pub question_numbered : (n i : ℕ) → QuestionRefusal n i → Numbered n i
 question_numbered n i (question_take_up p) = take_up_numbered n i p
 question_numbered n i question_invalid = search rules
+
+pub weather_numbered : (n i : ℕ) → WeatherRefusal n i → Numbered n i
+weather_numbered n i weather_absent = search rules
+weather_numbered n i weather_invalid = search rules
+weather_numbered n i weather_missing = search rules
 
 pub after_head_numbered : {P : ℕ → ℕ → Type 0} → ((n i : ℕ) → P n i → Numbered n i) → (n i : ℕ) → AfterHead P n i → Numbered n i
 after_head_numbered numbered n i (of_head p) = head_numbered n i p

@@ -1,4 +1,4 @@
--- The ways out of the functions of free.rt, reason.rt and why.rt; and their parts are the definition's.
+-- The temperatures of free.rt, the tests of reason.rt as the definition has them, and the ways out of why.rt.
 use Prim.Native.Nat.{ℕ, min}
 use mathlib.Core.Path.{◌≡◌, refl, ◌∙◌}
 use mathlib.Core.Bool.{Bool, true, false, cond, not, ◌&&◌}

@@ -15,9 +15,9 @@ impl Fingerprints {
         let mut conditions = Sha256::new();
         book.entries().for_each(|entry| conditions.update(entry.conditions_bytes()));
         Self {
-            head: digits(&Sha256::digest(book.zone().head())),
+            head: of(book.zone().head()),
             conditions: digits(&conditions.finalize()),
-            book: digits(&Sha256::digest(book.bytes())),
+            book: of(book.bytes()),
         }
     }
 
@@ -25,6 +25,11 @@ impl Fingerprints {
     pub fn named(&self) -> [(&'static str, &str); 3] {
         [("head", &self.head), ("conditions", &self.conditions), ("book", &self.book)]
     }
+}
+
+/// SHA-256 of a file's bytes, in hexadecimal digits.
+pub fn of(bytes: &[u8]) -> String {
+    digits(&Sha256::digest(bytes))
 }
 
 fn digits(hash: &[u8]) -> String {
@@ -38,6 +43,6 @@ mod tests {
     #[test]
     fn the_fingerprint_of_nothing() {
         let empty = "e3b0c44298fc1c149afbf4c8996fb92427ae41e4649b934ca495991b7852b855";
-        assert_eq!(digits(&Sha256::digest(b"")), empty);
+        assert_eq!(of(b""), empty);
     }
 }

@@ -105,16 +105,8 @@ impl Year {
             );
             return Err(Failure::file(path, text));
         }
-        match year.len() {
-            0 => Err(Failure::file(path, "is empty: there is no hour to calculate")),
-            held if held > MOST_ENTRIES => Err(Failure::Refused(format!(
-                "{}: has {}, but a book holds at most {} (refusal 17)",
-                path.display(),
-                hours(held),
-                grouped(MOST_ENTRIES)
-            ))),
-            _ => Ok(year),
-        }
+        must_fit_a_book(path, year.len())?;
+        Ok(year)
     }
 
     /// Number of hours.
@@ -125,6 +117,20 @@ impl Year {
     /// The conditions of an hour, from 0.
     pub fn hour(&self, place: usize) -> &[u8] {
         &self.bytes[place * self.size..(place + 1) * self.size]
+    }
+}
+
+/// At least one hour, and no more than a book holds.
+pub fn must_fit_a_book(path: &Path, held: usize) -> Result<(), Failure> {
+    match held {
+        0 => Err(Failure::file(path, "is empty: there is no hour to calculate")),
+        1..=MOST_ENTRIES => Ok(()),
+        _ => Err(Failure::Refused(format!(
+            "{}: has {}, but a book holds at most {} (refusal 17)",
+            path.display(),
+            hours(held),
+            grouped(MOST_ENTRIES)
+        ))),
     }
 }
 
@@ -139,16 +145,26 @@ pub fn hours_of_text(
     let Some(hours) = read_hours(&file, text, house.map(|house| &house.plan), &mut faults) else {
         return Err(Failure::faults(path, &faults));
     };
+    let hours: Vec<Vec<u8>> = hours.iter().map(Conditions::to_bytes).collect();
+    if let Some(house) = house {
+        judge(path, &house.zone, hours.iter().map(Vec::as_slice))?;
+    }
+    Ok(hours)
+}
+
+/// The engine judges the conditions of each hour.
+pub fn judge<'a>(
+    path: &Path,
+    zone: &Zone,
+    hours: impl Iterator<Item = &'a [u8]>,
+) -> Result<(), Failure> {
     let mut start = 0.0;
-    let judged = hours.iter().enumerate().map(|(place, hour)| {
-        let bytes = hour.to_bytes();
-        if let Some(house) = house {
+    for (place, hour) in hours.enumerate() {
+        let hour = Conditions::from_bytes(zone, hour).map_err(|refusal| {
             let name = hour_name(place, start);
-            Conditions::from_bytes(&house.zone, &bytes)
-                .map_err(|r| Failure::Refused(format!("{file}: {name}: {r}")))?;
-        }
+            Failure::Refused(format!("{}: {name}: {refusal}", path.display()))
+        })?;
         start += hour.delta_t_h;
-        Ok(bytes)
-    });
-    judged.collect()
+    }
+    Ok(())
 }

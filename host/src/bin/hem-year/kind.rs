@@ -4,6 +4,8 @@ use std::fmt;
 
 /// The first bytes of every table that a report writes.
 pub const TABLE_MARK: &str = "# hem-year table of hours";
+/// The first bytes of every table of a weather file.
+pub const WEATHER_TABLE_MARK: &str = "# hem-year table of weather";
 /// The first bytes of every drawing that a report writes.
 pub const DRAWING_MARK: &str = r#"<svg xmlns="http://www.w3.org/2000/svg" id="hem-year-drawing""#;
 
@@ -11,12 +13,17 @@ pub const DRAWING_MARK: &str = r#"<svg xmlns="http://www.w3.org/2000/svg" id="he
 pub enum Kind {
     /// The hours of a book as a table.
     Table,
+    /// The lines of a weather file as a table.
+    WeatherTable,
     /// The year as a drawing.
     Drawing,
     /// The bytes of a head and no more.
     Head,
     /// The conditions of hours, one after the other.
     Year,
+    /// A table of hours. It has nothing to tell it from one that was written by hand, so that only an
+    /// empty file is replaced.
+    Hours,
     /// A book that begins with this head.
     Book(Vec<u8>),
 }
@@ -34,9 +41,11 @@ impl Kind {
     pub fn accepts(&self, bytes: &[u8]) -> bool {
         match self {
             Kind::Table => bytes.starts_with(TABLE_MARK.as_bytes()),
+            Kind::WeatherTable => bytes.starts_with(WEATHER_TABLE_MARK.as_bytes()),
             Kind::Drawing => bytes.starts_with(DRAWING_MARK.as_bytes()),
             Kind::Head => is_head(bytes),
             Kind::Year => (1..=24).any(|elements| is_hour(bytes, elements)),
+            Kind::Hours => bytes.is_empty(),
             Kind::Book(head) => bytes.starts_with(head),
         }
     }
@@ -46,9 +55,11 @@ impl fmt::Display for Kind {
     fn fmt(&self, f: &mut fmt::Formatter) -> fmt::Result {
         f.write_str(match self {
             Kind::Table => "a table of hem-year",
+            Kind::WeatherTable => "a table of weather of hem-year",
             Kind::Drawing => "a drawing of hem-year",
             Kind::Head => "a head",
             Kind::Year => "a file of conditions",
+            Kind::Hours => "empty",
             Kind::Book(_) => "a book of the same head",
         })
     }

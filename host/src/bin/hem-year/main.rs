@@ -9,6 +9,7 @@ mod commands;
 mod convection;
 mod convection_panel;
 mod convection_text;
+mod csv_fields;
 mod cut;
 mod damage;
 mod days;
@@ -17,6 +18,8 @@ mod failure;
 mod figures;
 mod files;
 mod fingerprint;
+mod given;
+mod help;
 mod highest;
 mod hours;
 mod house;
@@ -35,6 +38,8 @@ mod report;
 mod rule;
 mod run;
 mod sample;
+mod sample_epw;
+mod sample_weather;
 mod show;
 mod stop;
 mod store;
@@ -47,6 +52,12 @@ mod version;
 mod warm;
 mod warmth;
 mod weather;
+mod weather_columns;
+mod weather_into;
+mod weather_into_table;
+mod weather_into_year;
+mod weather_overview;
+mod weather_table;
 mod why;
 mod why_hour;
 mod why_load;
@@ -55,8 +66,9 @@ mod why_text;
 mod why_told;
 mod words;
 
-use args::{Asked, Words};
+use args::Asked;
 use failure::Failure;
+use given::Words;
 use std::io::Write;
 use std::process::ExitCode;
 
@@ -111,6 +123,7 @@ fn command(words: &Words) -> Result<(), Failure> {
         }),
         "report" => report(words),
         "warm" => warm(words),
+        "weather" => weather::weather(words),
         "why" => why::why(words.path(0), words.number_if_given(1)?),
         other => Err(Failure::usage(format!("{other:?} is not a command"))),
     }

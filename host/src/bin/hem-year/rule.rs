@@ -1,7 +1,7 @@
 //! The rule that a command line names for the hours that are calculated: an entry version, or the limits of
 //! a plant.
-use crate::args::Words;
 use crate::failure::Failure;
+use crate::given::Words;
 use crate::words::watts;
 use hem_zone::{
     entry_versions_to, samples, Limits, Reason, Refusal, Rule, State, Zone, ENTRY_VERSION_3,

@@ -2,6 +2,7 @@
 use crate::failure::Failure;
 use crate::files;
 use crate::output;
+use crate::sample_epw::epw;
 use crate::terrace::{conditions, house, names};
 use hem_zone::text::{compact, write_house, Plan};
 use hem_zone::Conditions;
@@ -10,8 +11,9 @@ use std::path::Path;
 
 const HOURS: usize = 8760;
 
-/// The files of the sample: the house and its hours as text, and the bytes that the text makes.
-fn sample_files() -> [(&'static str, Vec<u8>); 4] {
+/// The files of the sample: the house and its hours as text, the bytes that the text makes, and the weather
+/// of the hours.
+fn sample_files() -> [(&'static str, Vec<u8>); 5] {
     let hours: Vec<Conditions> = (0..HOURS).map(conditions).collect();
     let plan = Plan::with_names(&house(), names()).with_house_name("Terrace house");
     let (plan, csv) = compact(&hours, &plan);
@@ -20,6 +22,7 @@ fn sample_files() -> [(&'static str, Vec<u8>); 4] {
         ("terrace.csv", csv.into_bytes()),
         ("terrace.head", house().to_bytes()),
         ("terrace.year", hours.iter().flat_map(Conditions::to_bytes).collect()),
+        ("terrace.epw", epw(HOURS).into_bytes()),
     ]
 }
 
@@ -42,11 +45,13 @@ pub fn sample(dir: &Path) -> Result<(), Failure> {
     let place = |name: &str| dir.join(name).display().to_string();
     files::print(&format!(
         "{} has a house of {} elements, {} the conditions of {HOURS} hours\n\
-         {} and {} are the same in bytes\n",
+         {} and {} are the same in bytes\n\
+         {} is the weather of these hours\n",
         place("terrace.toml"),
         names().len(),
         place("terrace.csv"),
         place("terrace.head"),
         place("terrace.year"),
+        place("terrace.epw"),
     ))
 }

@@ -96,15 +96,7 @@ fn show_year(
 ) -> Result<String, Failure> {
     let plan = match house {
         Some(house) => house.plan,
-        None => match elements_of_year(bytes)[..] {
-            [one] => Plan::of_elements(one),
-            [] => return Err(Failure::file(file, "is neither a head, nor a book, nor conditions")),
-            _ => {
-                let text =
-                    "may be conditions of several numbers of elements; --head has to say which";
-                return Err(Failure::file(file, text));
-            }
-        },
+        None => plan_of_year(file, bytes, "is neither a head, nor a book, nor conditions")?,
     };
     let mut hours =
         hours_of_form(bytes, plan.names().len()).map_err(|text| Failure::file(file, text))?;
@@ -117,6 +109,18 @@ fn show_year(
         }
     };
     Ok(write_hours(&hours, &plan, first))
+}
+
+/// The elements that conditions are of, by their form. What cannot be conditions is told as this.
+pub fn plan_of_year(file: &Path, bytes: &[u8], none: &str) -> Result<Plan, Failure> {
+    match elements_of_year(bytes)[..] {
+        [one] => Ok(Plan::of_elements(one)),
+        [] => Err(Failure::file(file, none)),
+        _ => {
+            let text = "may be conditions of several numbers of elements; --head has to say which";
+            Err(Failure::file(file, text))
+        }
+    }
 }
 
 /// The place of an hour, from 0.

@@ -1,5 +1,5 @@
 //! The sample: a small terrace house and what its hours bring.
-use crate::weather::Weather;
+use crate::sample_weather::Weather;
 use hem_zone::{
     AirChangesPerHour, Basis, BuildingElement, Conditions, ElementHour, Head, Kind, Layers, Pane,
 };

@@ -1,102 +1,123 @@
-//! Weather and sun of the sample year, by a fixed formula: the seasons, spells of some days, the hours
-//! of the day. No measured data; values are rounded as a weather file has them, so that they are the
-//! same on every machine.
-use std::f64::consts::TAU;
+//! `hem-year weather`: what a weather file (EPW) says, and its weather put into hours.
+use crate::failure::Failure;
+use crate::files;
+use crate::given::Words;
+use crate::inputs;
+use crate::kind::Kind;
+use crate::output::{self, Output};
+use crate::weather_columns::{self, Quantity};
+use crate::weather_into::{self, Put};
+use crate::weather_overview::Overview;
+use crate::weather_table;
+use hem_zone::{weather_lines, Refusal};
+use std::path::Path;
 
-const LATITUDE: f64 = 51.5;
+/// Lines of a weather file before the first hour.
+const HEADERS: usize = 8;
 
-/// Degrees to radians.
-fn rad(degrees: f64) -> f64 {
-    degrees / 360.0 * TAU
-}
-
-/// A wave of a number of days, from −1 to 1.
-fn wave(day: f64, period: f64, phase: f64) -> f64 {
-    (TAU * (day / period + phase)).sin()
-}
-
-/// −1 in mid January, 1 in mid July.
-fn season(day: f64) -> f64 {
-    -(TAU * (day - 17.0) / 365.0).cos()
-}
-
-/// How clear the sky is on a day, 0.05 to 1.
-fn clearness(day: f64) -> f64 {
-    let spells = 0.30 * wave(day, 6.1, 0.1) + 0.22 * wave(day, 13.7, 0.4);
-    (0.46 + 0.08 * season(day) + spells).clamp(0.05, 1.0)
-}
-
-/// One hour of weather.
-pub struct Weather {
-    /// Hours since the year began.
-    hour: f64,
-    day: f64,
-}
-
-/// Direct and diffuse irradiance on a surface, W/m².
-#[derive(Clone, Copy)]
-pub struct Irradiance {
-    pub direct: f64,
-    pub diffuse: f64,
-}
-
-impl Weather {
-    pub fn at(hour: usize) -> Self {
-        Self { hour: hour as f64, day: (hour / 24) as f64 }
-    }
-
-    fn of_day(&self) -> f64 {
-        self.hour % 24.0
-    }
-
-    /// External air temperature, °C, to a tenth.
-    pub fn temp_ext(&self) -> f64 {
-        let days = self.hour / 24.0;
-        let spells = 2.6 * wave(days, 9.3, 0.2) + 1.9 * wave(days, 23.7, 0.6);
-        let hot = 4.5 * season(days).max(0.0).powi(2) * wave(days, 17.0, 0.35).max(0.0);
-        let swing = 2.0 + 3.4 * clearness(self.day) * (1.0 + 0.4 * season(days));
-        let daily = swing * (TAU * (self.of_day() - 15.0) / 24.0).cos();
-        ((10.8 + 6.6 * season(days) + spells + hot + daily) * 10.0).round() / 10.0
-    }
-
-    /// Temperature under the floor: the seasons, late and small.
-    pub fn temp_ground(&self) -> f64 {
-        ((10.5 + 2.5 * season(self.hour / 24.0 - 60.0)) * 10.0).round() / 10.0
-    }
-
-    /// The sine of the sun's height, and the sun as a vector: south, west, up.
-    fn sun(&self) -> [f64; 3] {
-        let declination = rad(-23.44) * (TAU * (self.day + 10.0) / 365.0).cos();
-        let turn = rad(15.0 * (self.of_day() + 0.5 - 12.0));
-        let (sin_d, cos_d) = declination.sin_cos();
-        let (sin_l, cos_l) = rad(LATITUDE).sin_cos();
-        [
-            sin_l * cos_d * turn.cos() - cos_l * sin_d,
-            cos_d * turn.sin(),
-            cos_l * cos_d * turn.cos() + sin_l * sin_d,
-        ]
-    }
-
-    pub fn is_day(&self) -> bool {
-        self.sun()[2] > 0.0
-    }
-
-    /// Irradiance on a surface of this pitch (0 faces up) and azimuth (0 south, 90 west), to a watt.
-    pub fn irradiance(&self, pitch: f64, azimuth: f64) -> Irradiance {
-        let [south, west, up] = self.sun();
-        if up <= 0.0 {
-            return Irradiance { direct: 0.0, diffuse: 0.0 };
+/// The numbers of one line, an overview of all lines, or the weather put into hours.
+pub fn weather(words: &Words) -> Result<(), Failure> {
+    words.excludes("line", "csv")?;
+    let epw = words.path(0);
+    match (words.path_if_given(1), words.path_if_given(2)) {
+        (Some(_), None) => Err(words.wrong("OUT is missing")),
+        (Some(hours), Some(out)) => {
+            must_not_have(words, &["line", "csv"], "is of no use with HOURS and OUT")?;
+            let (columns, house) = (weather_columns::named(words)?, words.file("head"));
+            let force = words.has("force");
+            weather_into::put(words, &Put { epw, hours, out, columns, house, force })
         }
-        let clear = clearness(self.day);
-        let normal = 950.0 * clear.powi(2) * (-0.14 / up.max(0.02)).exp();
-        let sky = 1000.0 * up * (0.10 + 0.22 * clear * (1.0 - clear) + 0.05 * (1.0 - clear));
-        let (sin_p, cos_p) = rad(pitch).sin_cos();
-        let (sin_a, cos_a) = rad(azimuth).sin_cos();
-        let facing = sin_p * (cos_a * south + sin_a * west) + cos_p * up;
-        let ground = 0.2 * (normal * up + sky) * (1.0 - cos_p) / 2.0;
-        Irradiance {
-            direct: (normal * facing.max(0.0)).round(),
-            diffuse: (sky * (1.0 + cos_p) / 2.0 + ground).round(),
+        (None, _) => {
+            let only = ["dry-bulb", "direct", "diffuse", "head"];
+            must_not_have(words, &only, "is of use only with HOURS and OUT")?;
+            match words.number_of("line", u64::MAX)? {
+                Some(number) => line(epw, number),
+                None => overview(epw, words.file("csv"), words.has("force")),
+            }
         }
     }
+}
+
+fn must_not_have(words: &Words, options: &[&str], why: &str) -> Result<(), Failure> {
+    match options.iter().find(|option| words.is_given(option)) {
+        Some(option) => Err(words.wrong(format_args!("--{option} {why}"))),
+        None => Ok(()),
+    }
+}
+
+/// Where a line stands: the file, and the line of the file as an editor counts.
+pub fn place(path: &Path, line: u64) -> String {
+    format!("{}:{}", path.display(), u128::from(line) + HEADERS as u128)
+}
+
+/// What is said where the last header line has the weather of an hour. The engine does not look at headers, so
+/// that of a file without all of them the first hours are lost, and all others come too early. Other headers may
+/// look like an hour, as that of ground temperatures does.
+pub fn header_told(path: &Path, file: &[u8]) -> String {
+    let last = file.split_inclusive(|byte| *byte == b'\n').nth(HEADERS - 1).unwrap_or_default();
+    let as_line_1 = [&b"\n".repeat(HEADERS), last].concat();
+    match hem_zone::weather(&as_line_1, 1) {
+        Ok(_) => format!(
+            "{}: its eighth line, a header, has the weather of an hour: are headers missing?\n",
+            path.display()
+        ),
+        Err(_) => String::new(),
+    }
+}
+
+/// Lines that the engine refuses. A file with two bytes for each letter is told as such, and one whose lines end
+/// in another way.
+pub fn refused(path: &Path, file: &[u8], sentence: String) -> Failure {
+    let returns_alone = file.contains(&b'\r') && !file.contains(&b'\n');
+    match inputs::must_not_be_utf16(path, file) {
+        Err(failure) => failure,
+        Ok(()) if returns_alone => {
+            let needed = "its lines end with CR alone, and LF or CR LF is needed";
+            Failure::Refused(format!("{sentence}; {needed}"))
+        }
+        Ok(()) => Failure::Refused(sentence),
+    }
+}
+
+/// The numbers of a line, each in full.
+fn line(path: &Path, number: u64) -> Result<(), Failure> {
+    let file = files::read(path)?;
+    let place = place(path, number);
+    let found = hem_zone::weather(&file, number)
+        .map_err(|refusal| refused(path, &file, format!("{place}: {refusal}")))?;
+    let mut text = format!("{place}: line {number} after the headers\n");
+    for quantity in Quantity::ALL {
+        text += &format!("{:20}{} {}\n", quantity.title(), quantity.of(&found), quantity.unit());
+    }
+    files::print(&text)
+}
+
+/// What all lines say, and a table of them where one is asked for.
+fn overview(path: &Path, csv: Option<&Path>, force: bool) -> Result<(), Failure> {
+    let csv = csv.map(|to| match files::same_file(path, to) {
+        true => Err(Failure::file(to, "is the weather file, which a table does not replace")),
+        false => Output::check(to, &Kind::WeatherTable, force),
+    });
+    let csv = csv.transpose()?;
+    let file = files::read(path)?;
+    let mut overview = Overview::default();
+    let mut table = csv.is_some().then(|| weather_table::beginning(path, &file));
+    for answer in weather_lines(&file) {
+        let number = overview.add(path, &answer);
+        if let Some(table) = &mut table {
+            weather_table::add(table, number, &answer);
+        }
+    }
+    if let Some(sentence) = overview.nothing_read(path, || first(&file)) {
+        return Err(refused(path, &file, sentence));
+    }
+    if let (Some(csv), Some(table)) = (csv, &table) {
+        output::put_all(vec![(csv, table.as_bytes())])?;
+    }
+    files::print(&(overview.text(path) + &header_told(path, &file)))
+}
+
+/// What the engine says of line 1.
+fn first(file: &[u8]) -> Option<Refusal> {
+    hem_zone::weather(file, 1).err()
 }

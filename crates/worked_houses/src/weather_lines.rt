@@ -1,0 +1,6 @@
+// Weather of a file's line (document 02 (f)), row by row: fields, lines of files, and a house in the weather of a line.
+pub mod fields;
+pub mod file;
+pub mod house;
+pub mod lines;
+pub mod read;
