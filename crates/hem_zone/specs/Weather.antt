@@ -1,6 +1,6 @@
 -- The weather of a line (weather specs/Weather.antt). The definition gives the returned number, then what stands in `weather` after the call.
 use Rattle.std.specs.Prelude.{ℕ, List, [], ◌∷◌, Float}
-use Rattle.weather.specs.declared.replies.Weather.{Weather}
+use Rattle.weather.specs.declared.weather.Weather.{Weather}
 use Rattle.weather.specs.Weather.{weather_of}
 use Rattle.hem_zone.specs.Code.{answered}
 

@@ -12,7 +12,7 @@ use lib.Ieee.{Float, binary64, of_bits, round}
 use Rattle.zone.specs.Promise.{ok, refused, bind, require}
 use Rattle.zone.proofs.Promise.{bind_ok, require_ok, ok_inj}
 use Rattle.zone.specs.Check.Ranges.{temperature_range, irradiance_range}
-use Rattle.weather.specs.declared.replies.Weather.{Weather}
+use Rattle.weather.specs.declared.weather.Weather.{Weather}
 use Rattle.weather.specs.Numbers.{line_feed, carriage_return, comma, header_lines, dry_bulb_field, direct_normal_field, diffuse_horizontal_field, most_digits, absent, invalid, missing}
 use Rattle.weather.specs.Split.{split, without}
 use Rattle.weather.specs.Lines.{without_return, line_of, field_of}

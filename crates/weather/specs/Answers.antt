@@ -2,8 +2,8 @@
 use Rattle.std.specs.Prelude.{ℕ, Ok, Err}
 use Rattle.std.specs.Prelude.{Result as Answer}
 use Rattle.zone.specs.Promise.{Result, ok, refused}
-use Rattle.weather.specs.declared.replies.WeatherError.{WeatherError}
-use Rattle.weather.specs.declared.replies.WeatherError.TheVariants.{Absent, Invalid, Missing}
+use Rattle.weather.specs.declared.weather_error.WeatherError.{WeatherError}
+use Rattle.weather.specs.declared.weather_error.WeatherError.TheVariants.{Absent, Invalid, Missing}
 use Rattle.weather.specs.Numbers.{absent, invalid, missing}
 
 abbrev pub number_of : WeatherError → ℕ

@@ -4,7 +4,7 @@ use Rattle.std.specs.Float.{binary64}
 use Rattle.std.specs.Float.Ieee.{of_bits}
 use Rattle.zone.specs.Promise.{ok, refused}
 use Rattle.zone.specs.Check.Ranges.{temperature_range, irradiance_range}
-use Rattle.weather.specs.declared.replies.Weather.{Weather}
+use Rattle.weather.specs.declared.weather.Weather.{Weather}
 use Rattle.weather.specs.Numbers.{line_feed, carriage_return, comma, minus_sign, point}
 use Rattle.weather.specs.Split.{without}
 use Rattle.weather.specs.Lines.{without_return}

@@ -2,7 +2,7 @@
 use Rattle.std.specs.Prelude.{ℕ, Bool, not, List, length, leb, Float, Option, Some, None}
 use Rattle.zone.specs.Promise.{Result, ok, refused, bind, require}
 use Rattle.zone.specs.Check.Ranges.{temperature_range, irradiance_range}
-use Rattle.weather.specs.declared.replies.Weather.{Weather}
+use Rattle.weather.specs.declared.weather.Weather.{Weather}
 use Rattle.weather.specs.Numbers.{dry_bulb_field, direct_normal_field, diffuse_horizontal_field, most_digits, absent, invalid, missing}
 use Rattle.weather.specs.Lines.{line_of, field_of}
 use Rattle.weather.specs.Decimal.{Decimal, decimal_of, value, is}

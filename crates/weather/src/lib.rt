@@ -6,8 +6,8 @@ mod fraction;
 mod lines;
 mod numbers;
 mod quantity;
-mod replies;
 mod weather;
+mod weather_error;
 
-pub use replies::{Weather, WeatherError};
-pub use weather::read_weather;
+pub use weather::{Weather, read_weather};
+pub use weather_error::WeatherError;

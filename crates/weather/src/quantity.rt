@@ -5,7 +5,7 @@ ghost use Rattle.weather.specs.Inner.Quantities.{means_missing, range_of, readin
 
 use crate::decimal::read_decimal;
 use crate::fraction::Fraction;
-use crate::replies::WeatherError;
+use crate::weather_error::WeatherError;
 
 #[derive(Clone, Copy)]
 pub enum Quantity {

@@ -6,7 +6,15 @@ ghost use Rattle.weather.specs.Weather.{weather_in, weather_of};
 use crate::lines::{find_field, find_line};
 use crate::numbers::{DIFFUSE_HORIZONTAL_FIELD, DIRECT_NORMAL_FIELD, DRY_BULB_FIELD};
 use crate::quantity::Quantity;
-use crate::replies::{Weather, WeatherError};
+use crate::weather_error::WeatherError;
+
+// Dry bulb temperature in °C, direct normal and diffuse horizontal radiation in Wh/m².
+#[derive(Clone, Copy)]
+pub struct Weather {
+    pub dry_bulb: f64,
+    pub direct_normal: f64,
+    pub diffuse_horizontal: f64,
+}
 
 // The fields are tested in file order, once all three are there.
 #[tactic(auto, unfolding(crate::specs::Weather::weather_in, crate::specs::Weather::weather_from))]

@@ -1,14 +1,6 @@
-// What a weather file says of an hour, and why it is refused.
+// Why a line of weather is refused.
 ghost use Rattle.std.specs.Prelude.{◌≡◌};
 ghost use Rattle.weather.specs.Answers.{number_of};
-
-// Dry bulb temperature in °C, direct normal and diffuse horizontal radiation in Wh/m².
-#[derive(Clone, Copy)]
-pub struct Weather {
-    pub dry_bulb: f64,
-    pub direct_normal: f64,
-    pub diffuse_horizontal: f64,
-}
 
 // Each has its number of document 02.
 #[derive(Clone, Copy, Debug, PartialEq, Eq)]
