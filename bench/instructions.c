@@ -1,5 +1,5 @@
 /* Hour steps of a house of 24 five-node elements in one winter hour, for counting instructions:
- *     instructions STEPS WINDOWS      (WINDOWS 0: a fixed rate, 1: target and windows open)
+ *     instructions STEPS WINDOWS      (WINDOWS 0: one rate, 1: target and another rate with windows open)
  * The house is that of bench/src/houses.rs; each step has entry version 1 and starts from the temperatures that the one
  * before left. */
 #include <stdio.h>
@@ -64,9 +64,9 @@ static void make_conditions(int windows) {
     const double values[12] = {1, 2, 300, 100, 0.7, 0.9, 20, 25, 22, 2, 0, 0};
     at = conditions;
     put_floats(values, 12);
-    put_byte(windows ? 1 : 0);
+    put_byte(1);
     put_float(0.5);
-    put_float(windows ? 4.0 : 0.0);
+    put_float(windows ? 4.0 : 0.5);
     for (int i = 0; i < ELEMENTS; i++) put_part(2, 50);
 }
 

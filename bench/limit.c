@@ -2,7 +2,7 @@
  * the engine's order, and once only. It shows how much of the engine's time the result does not need.
  *     limit RATE REPETITIONS < what `bench/run bytes ELEMENTS RATE` writes
  * The year is first run by both, and every temperature, demand, rate and heat balance must have the same bits. Then
- *     limit 24 fixed 4951
+ *     limit 24 one-rate 4951
  * is printed: nanoseconds for an hour step, the least of the repetitions. As in the engine, each step reads and tests
  * the bytes of head and hour. Hours have entry version 1. All elements have five nodes, as in the houses of
  * src/houses.rs; a Transparent is refused. Compiled with -ffp-contract=off: a fused multiplication would round once
@@ -135,7 +135,7 @@ static uint32_t calculate(struct hour *h, struct temps *after, double *out, doub
     uint32_t number = prepare(h);
     if (number == 0) number = free_temperatures(h, c->ach_target, &r, &free);
     out[HEM_OUT_TRIGGER] = out[HEM_OUT_TRIGGER_RATE] = 0.0;
-    if (number == 0 && c->windows && c->ach_windows_open != c->ach_target) number = cool_by_windows(h, &r, &free, out);
+    if (number == 0 && c->ach_windows_open != c->ach_target) number = cool_by_windows(h, &r, &free, out);
     if (number == 0) number = demand(h, &r, free.temp_control, &kwh);
     if (number != 0) return number;
     out[HEM_OUT_HEATING] = 0.0 < kwh ? kwh : 0.0;

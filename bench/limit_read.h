@@ -22,7 +22,6 @@ struct zone {
 };
 
 struct conditions {
-    int windows; /* there is a rate with windows open */
     double ach_target, ach_windows_open;
     struct {
         double delta_t_h, temp_ext_air, gains_internal, gains_solar, frac_convective_heat, frac_convective_cool;
@@ -119,10 +118,9 @@ static uint32_t read_head(const uint8_t *head, size_t len, struct zone *z) {
 static uint32_t read_conditions(const uint8_t *bytes, size_t len, size_t n, struct conditions *c) {
     if (len != HEM_CONDITIONS(n)) return HEM_CONDITIONS_SIZE;
     const uint8_t *rates = bytes + HEM_CONDITIONS_AT_RATES;
-    c->windows = bytes[HEM_CONDITIONS_AT_RATE_CODE];
     c->ach_target = read_f64(rates);
     c->ach_windows_open = read_f64(rates + 8);
-    int coded = c->windows == 0 ? read_u64_be(rates + 8) == 0 : c->windows == 1;
+    int coded = bytes[HEM_CONDITIONS_AT_RATE_CODE] == 1;
     int valid = read_floats(bytes, 12, conditions_ranges, 1, &c->front);
     valid &= within(0, c->ach_target, 1000) & within(0, c->ach_windows_open, 1000);
     for (size_t e = 0; e < n; e++) {

@@ -57,11 +57,13 @@ static void begin(void) {
     accepted(hem_begin(y.head, y.head_len, book, book_len, temps, &nodes, &count, &used, &last_version));
 }
 
-static void append(void) {
+static void append_by(uint64_t version) {
     for (size_t i = 0; i < HOURS; i++)
         accepted(hem_append(y.head, y.head_len, book, book_len, temps, &nodes, &count, &used, &last_version,
-                            hour_of(&y, i), y.hour_len, VERSION, UNUSED_LIMIT, UNUSED_LIMIT));
+                            hour_of(&y, i), y.hour_len, version, UNUSED_LIMIT, UNUSED_LIMIT));
 }
+
+static void append(void) { append_by(VERSION); }
 
 static void take_up(void) { accepted(hem_take_up(book, book_len, temps, &nodes, &count, &used, &last_version)); }
 
@@ -72,6 +74,23 @@ static void first_above(void) { accepted(hem_first_above(book, book_len, 1000.0,
 static void hours_within(void) { accepted(hem_hours_within(book, book_len, -1000.0, 1000.0, &found)); }
 
 static void nearest_hour(void) { accepted(hem_nearest_hour(book, book_len, 21.0, &found)); }
+
+/* The converter takes no entries of version 1. Hours with one rate get the fixed rate, code 0, as they were stored before
+ * it was retired; hours with windows are converted as they are. */
+static uint8_t *converted;
+
+static void book_to_convert(void) {
+    begin();
+    append_by(2);
+    for (uint8_t *at = book + y.head_len; at < book + book_len; at += HEM_ENTRY(y.elements, 5 * y.elements + 1)) {
+        uint8_t *rates = at + HEM_ENTRY_AT_CONDITIONS + HEM_CONDITIONS_AT_RATES;
+        if (memcmp(rates, rates + 8, 8) != 0) continue;
+        at[HEM_ENTRY_AT_CONDITIONS + HEM_CONDITIONS_AT_RATE_CODE] = 0;
+        memset(rates + 8, 0, 8);
+    }
+}
+
+static void convert(void) { accepted(hem_convert(book, book_len, converted, book_len, &count, &used)); }
 
 /* A line of a weather file, which is the same for every house. */
 static void weather(void) {
@@ -107,6 +126,11 @@ static void measure_apart(struct call *call) {
     pthread_attr_destroy(&attributes);
 }
 
+static void show(struct call *call, const char *rate) {
+    measure_apart(call);
+    printf("stack %s %zu %s %zu\n", call->name, y.elements, rate, call->taken);
+}
+
 int main(int words, char **word) {
     struct call calls[] = {{"hem_head", head, 0},
                            {"hem_start_up", start_up, 0},
@@ -122,15 +146,17 @@ int main(int words, char **word) {
                            {"hem_hours_within", hours_within, 0},
                            {"hem_nearest_hour", nearest_hour, 0},
                            {"hem_weather", weather, 0}};
+    struct call last = {"hem_convert", convert, 0};
     if (words != 2) return 2;
     y = read_year();
     book_len = y.head_len + HOURS * HEM_ENTRY(y.elements, 5 * y.elements + 1);
     book = calloc(book_len, 1);
-    if (book == NULL) abort();
-    for (size_t i = 0; i < sizeof calls / sizeof *calls; i++) {
-        measure_apart(&calls[i]);
-        printf("stack %s %zu %s %zu\n", calls[i].name, y.elements, word[1], calls[i].taken);
-    }
+    converted = calloc(book_len, 1);
+    if (book == NULL || converted == NULL) abort();
+    for (size_t i = 0; i < sizeof calls / sizeof *calls; i++) show(&calls[i], word[1]);
+    book_to_convert();
+    show(&last, word[1]);
     free(book);
+    free(converted);
     return count == HOURS ? 0 : 1;
 }

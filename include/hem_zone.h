@@ -42,8 +42,8 @@ extern "C" {
 #endif
 
 /* The version of this interface: 10000 * major + 100 * minor + patch, and as text. */
-#define HEM_ZONE_VERSION 700
-#define HEM_ZONE_VERSION_TEXT "0.7.0"
+#define HEM_ZONE_VERSION 800
+#define HEM_ZONE_VERSION_TEXT "0.8.0"
 /* The version byte of heads. */
 #define HEM_FORMAT 1
 /* The newest version of entries; hours have 1 to this one. It says how the power that heating or cooling
@@ -58,7 +58,7 @@ extern "C" {
 #define HEM_LIMIT_MOST 1e7
 
 /* The stack, in bytes, that suffices for every call (40 KB were measured, by a take-up and
-   the questions; bench/stack). */
+   the calls that begin with one; bench/stack). */
 #define HEM_STACK 49152
 
 /* ---- sizes of arrays ---- */
@@ -97,9 +97,9 @@ extern "C" {
 
 /* ---- answers ---- */
 
-/* The number of a refusal, 1 to 23, and its index: for 4, 5 and 9 the element from 1 (0 if none), for 18
-   at a take-up or a question the entry from 0, at an append the count held, at an hour step 0; otherwise
-   0. */
+/* The number of a refusal, 1 to 24, and its index: for 4, 5 and 9 the element from 1 (0 if none), for 18
+   at a take-up, a question or a conversion the entry from 0, at an append the count held, at an hour step
+   0; otherwise 0. */
 #define HEM_NUMBER(answer) ((answer) & 255u)
 #define HEM_INDEX(answer) ((answer) >> 8)
 /* What is written in place of an hour where there is none. */
@@ -115,7 +115,8 @@ enum hem_number {
     HEM_STATE_INVALID = 6,              /* the state has a wrong node count, or a temperature that is not finite or
                                            beyond +-1e6 */
     HEM_CONDITIONS_SIZE = 7,            /* the conditions have a wrong size */
-    HEM_CONDITIONS_CODE = 8,            /* the rate code, the second rate of code 0 or an open bit is bad */
+    HEM_CONDITIONS_CODE = 8,            /* the rate code, which is bad as 0 too but to hem_why and in a book's entry;
+                                           there the second rate of code 0; or an open bit */
     HEM_CONDITIONS_VALUE = 9,           /* a value of the conditions, or an update's own gains, fraction or rate, is
                                            out of range */
     HEM_COOLING_BELOW_HEATING = 10,     /* the cooling setpoint is below the heating setpoint */
@@ -124,7 +125,7 @@ enum hem_number {
     HEM_TEMPERATURE = 13,               /* a node temperature is not finite or beyond +-1e6 */
     HEM_NO_EFFECT = 14,                 /* heating or cooling would not change the temperature */
     HEM_NOT_SETTLED = 15,               /* start-up did not settle within the head's limit of passes */
-    HEM_BUFFER_SHORT = 16,              /* the buffer is too short */
+    HEM_BUFFER_SHORT = 16,              /* the buffer, or the output of a conversion, is too short */
     HEM_BOOK_FULL = 17,                 /* the book would hold more than 8,784 entries */
     HEM_FALSE_ENTRY = 18,               /* an entry is false: it is not what the hour step gives; or a version that no
                                            hour has, or that is below the last entry's */
@@ -134,7 +135,8 @@ enum hem_number {
     HEM_WEATHER_ABSENT = 21,            /* the line of a weather file is absent, or one of its first 16 fields */
     HEM_WEATHER_INVALID = 22,           /* a value of a weather file is not a decimal, has more than 12 digits or is
                                            out of range */
-    HEM_WEATHER_MISSING = 23            /* a value of a weather file is missing */
+    HEM_WEATHER_MISSING = 23,           /* a value of a weather file is missing */
+    HEM_VERSION_1_ENTRY = 24            /* a book that is to be converted has an entry of version 1 */
 };
 
 /* ---- places in a head, from its first byte; floats have 8 bytes ---- */
@@ -200,9 +202,9 @@ enum hem_conditions_at {
     HEM_CONDITIONS_AT_GAINS_HEAT_COOL_CONVECTIVE = 80, /* convective gains from heating or cooling that is on in any
                                                           case, W */
     HEM_CONDITIONS_AT_GAINS_HEAT_COOL_RADIATIVE = 88,  /* its radiative gains, W */
-    HEM_CONDITIONS_AT_RATE_CODE = 96,                  /* 1 byte: 0 one fixed rate, 1 target and windows open */
-    HEM_CONDITIONS_AT_RATES = 97,                      /* the fixed rate and 8 zero bytes, or target and windows-open
-                                                          rate; air changes per hour */
+    HEM_CONDITIONS_AT_RATE_CODE = 96,                  /* 1 byte: 1. In older entries also 0, one fixed rate: retired */
+    HEM_CONDITIONS_AT_RATES = 97,                      /* target and windows-open rate, equal where there is no choice;
+                                                          of code 0 the rate and 8 zero bytes; air changes per hour */
     HEM_CONDITIONS_AT_ELEMENTS = 113                   /* each element's part, in the order of the head */
 };
 
@@ -298,7 +300,7 @@ enum hem_weather_at {
    whatever the basis. The rate found is the one that is to bring the zone to its ventilation setpoint. It is
    the chosen rate where windows are enough; at every other reason the target or fixed rate is. */
 enum hem_reason {
-    HEM_WHY_NO_CHOICE = 1,                      /* there is no choice of rates: code 0, or both are equal */
+    HEM_WHY_NO_CHOICE = 1,                      /* there is no choice of rates: both are equal, or code 0 */
     HEM_WHY_NOT_ABOVE_VENTILATION_SETPOINT = 2, /* the free temperature is not above the ventilation setpoint */
     HEM_WHY_NOT_ABOVE_SUPPLY = 3,               /* the free air is not above the supplied air */
     HEM_WHY_WINDOWS_DO_NOT_COOL = 4,            /* windows open would not lower the free temperature, as where the
@@ -320,6 +322,13 @@ enum hem_load {
 
 /* ---- functions ---- */
 
+/* The fixed rate, code 0, is retired: hem_demand, hem_update, hem_hour_step and hem_append refuse conditions with
+   it, with 8 in its place. Code 1 with target and windows open both that rate is the same hour: there is no
+   choice of rates and no trigger rate, and every value has the same bits. hem_why still answers for code 0, and
+   an entry with it is still taken up, of every version, where it is what the hour step would give without this
+   refusal; an hour that a cut has lost is not appended again with it. hem_convert writes the hours of a whole
+   book anew. */
+
 /* Tests a head. Bytes after the head's own length are not looked at. Refused with 1 to 5. */
 uint32_t hem_head(const uint8_t *head, size_t head_len);
 
@@ -328,19 +337,20 @@ uint32_t hem_head(const uint8_t *head, size_t head_len);
 uint32_t hem_start_up(const uint8_t *head, size_t head_len, double temps[HEM_TEMPS], uint64_t *nodes);
 
 /* The demand of one hour from the node temperatures before it. Writes `out`; the temperatures stay.
-   Refused with 1 to 14. */
+   Refused with 1 to 14, code 0 with 8. */
 uint32_t hem_demand(const uint8_t *head, size_t head_len, const double temps[HEM_TEMPS], uint64_t nodes,
                     const uint8_t *cond, size_t cond_len, double out[HEM_OUT]);
 
 /* Why that hour's demand has its rate, and its load: writes one of enum hem_reason to `*reason` and one of
    enum hem_load to `*load`; the temperatures stay. It is given what hem_demand is given, and refuses what
-   that refuses with the same answer: 1 to 14. */
+   that refuses with the same answer: 1 to 14. Only code 0, whose second rate is 8 zero bytes, is taken: its
+   answer is that of code 1 with the rate twice. */
 uint32_t hem_why(const uint8_t *head, size_t head_len, const double temps[HEM_TEMPS], uint64_t nodes,
                  const uint8_t *cond, size_t cond_len, uint64_t *reason, uint64_t *load);
 
 /* The temperatures after one hour in which heating or cooling gives `gains` watts, of which `fraction`
    goes to the air, at `rate` air changes per hour. Replaces `temps`, writes `balance`.
-   Refused with 1 to 9, 12 and 13. */
+   Refused with 1 to 9, 12 and 13; code 0 with 8, although no rate of the conditions counts. */
 uint32_t hem_update(const uint8_t *head, size_t head_len, double temps[HEM_TEMPS], uint64_t nodes,
                     const uint8_t *cond, size_t cond_len, double gains, double fraction, double rate,
                     double balance[HEM_BALANCE]);
@@ -350,8 +360,8 @@ uint32_t hem_update(const uint8_t *head, size_t head_len, double temps[HEM_TEMPS
    `cooling_limit` are the greatest powers of the plant in watts, 0 to 1e7 each; before version 3 they are
    not looked at, and may be any doubles. Replaces `temps`, writes `out`, which no limit cuts, and
    `balance`.
-   Refused with 1 to 5, 18 for a version that no hour has, then 6 to 9, 19 for a limit out of range, 10
-   to 14. */
+   Refused with 1 to 5, 18 for a version that no hour has, then 6 to 9, code 0 with 8, 19 for a limit out of
+   range, 10 to 14. */
 uint32_t hem_hour_step(const uint8_t *head, size_t head_len, double temps[HEM_TEMPS], uint64_t nodes,
                        const uint8_t *cond, size_t cond_len, uint64_t version, double heating_limit,
                        double cooling_limit, double out[HEM_OUT], double balance[HEM_BALANCE]);
@@ -375,8 +385,8 @@ uint32_t hem_begin(const uint8_t *head, size_t head_len, uint8_t *buf, size_t bu
    book left, and are moved on; `head` is the book's own head (it may not be a part of `buf`). The limits
    are as in hem_hour_step; in version 3 they stand in the entry. A book's versions may rise, never fall.
    Refused with 1 to 5, 17 if 8,784 entries are held, 18 for a version that no hour has or one below
-   `*last_version`, then 6 to 9, 19, 10 to 14, and last 16 if `buf` cannot hold the entry, which is longer
-   in version 3. */
+   `*last_version`, then 6 to 9, code 0 with 8, 19, 10 to 14, and last 16 if `buf` cannot hold the entry,
+   which is longer in version 3. */
 uint32_t hem_append(const uint8_t *head, size_t head_len, uint8_t *buf, size_t buf_len,
                     double temps[HEM_TEMPS], uint64_t *nodes, uint64_t *count, uint64_t *used,
                     uint64_t *last_version, const uint8_t *cond, size_t cond_len, uint64_t version,
@@ -384,12 +394,13 @@ uint32_t hem_append(const uint8_t *head, size_t head_len, uint8_t *buf, size_t b
 
 /* Takes up the bytes of a book: each whole entry is calculated again, by the rule of its own version, and
    must be the same bytes. (A changed condition, limit or version that has no effect in its hour gives
-   another true book.) Writes the temperatures after the last whole entry (start-up's if there is none) and their
-   number, the number of entries, the number of bytes that they and the head take, and the version of the
-   last entry. Behind them a rest of fewer than 5 bytes, or one shorter than its version byte calls for, is
-   an entry that was not written to its end; a rest of 5 bytes or more with a version byte that no hour has
-   counts as an entry, a false one. Refused with 1 to 5, 11 to 15, 17 at the 8,785th entry and 18 at the
-   first false one, such as one whose version is below that of the entry before it. */
+   another true book.) Entries with code 0 are taken up too. Writes the temperatures after the last whole
+   entry (start-up's if there is none) and their number, the number of entries, the number of bytes that
+   they and the head take, and the version of the last entry. Behind them a rest of fewer than 5 bytes, or
+   one shorter than its version byte calls for, is an entry that was not written to its end; a rest of 5
+   bytes or more with a version byte that no hour has counts as an entry, a false one. Refused with 1 to 5,
+   11 to 15, 17 at the 8,785th entry and 18 at the first false one, such as one whose version is below that
+   of the entry before it. */
 uint32_t hem_take_up(const uint8_t *bytes, size_t bytes_len, double temps[HEM_TEMPS], uint64_t *nodes,
                      uint64_t *count, uint64_t *used, uint64_t *last_version);
 
@@ -411,6 +422,17 @@ uint32_t hem_hours_within(const uint8_t *bytes, size_t bytes_len, double lower, 
 /* The hour whose temperature is nearest to `value`: the magnitude of their difference, rounded once, is the
    least; of equal ones the earlier hour. Writes the hour, or HEM_NONE where the book holds none. */
 uint32_t hem_nearest_hour(const uint8_t *bytes, size_t bytes_len, double value, uint64_t *hour);
+
+/* Writes a book anew without code 0: takes up its bytes as hem_take_up does and writes to the first bytes of `out`
+   the head and every entry with the same bits, but in those with code 0 the code 1, and the rate's own bits as
+   second rate too. Demands, temperatures and chosen rates are the same bits, for this is what hem_append gives for
+   the new conditions. Writes the number of entries and the number of bytes that they and the head take, which are
+   those of the book. A book without entries is converted too; converting again changes nothing. Bytes of `out`
+   behind them stay, and what is left behind the last whole entry is not converted.
+   Refused with what hem_take_up refuses; then with 24 if an entry is of version 1, whatever its code; then with 16
+   if `out` cannot hold the bytes. `bytes_len` bytes are enough. */
+uint32_t hem_convert(const uint8_t *bytes, size_t bytes_len, uint8_t *out, size_t out_len, uint64_t *count,
+                     uint64_t *used);
 
 /* The weather of one line of an EnergyPlus weather file, counted from 1 after the eight header lines, which are
    not looked at. `file` is the file's bytes: lines that end with LF or CR LF, the last also at the end of the

@@ -2,9 +2,13 @@
 use crate::houses;
 use hem_zone::ffi::*;
 
-/// Entries have version 1, whose hours are those of the original. It looks at no limits.
+/// An hour step's is version 1, whose hours are those of the original. It looks at no limits.
 const VERSION: u64 = hem_zone::ENTRY_VERSION_1;
 const UNUSED_LIMIT: f64 = 0.0;
+
+/// In an entry, whose conditions begin behind its length and version: the rate code and the second of the two rates.
+const RATE_CODE: usize = 5 + 96;
+const SECOND_RATE: usize = 5 + 105;
 
 /// Node temperatures.
 #[derive(Clone)]
@@ -26,7 +30,7 @@ pub struct Held {
 pub struct Engine {
     head: Vec<u8>,
     hours: Vec<Vec<u8>>,
-    book_len: usize,
+    entry_len: usize,
 }
 
 fn accepted(answer: u32) {
@@ -49,8 +53,8 @@ impl Engine {
     pub fn new(elements: usize, hours: usize, windows: bool) -> Self {
         let head = houses::house(elements).to_bytes();
         let hour = |h| houses::hour(h, elements, windows).to_bytes();
-        let entry = 4 + 147 + 41 * elements + 8 * (5 * elements + 1);
-        Self { book_len: head.len() + hours * entry, head, hours: (0..hours).map(hour).collect() }
+        let entry_len = 4 + 147 + 41 * elements + 8 * (5 * elements + 1);
+        Self { head, hours: (0..hours).map(hour).collect(), entry_len }
     }
 
     pub fn hours(&self) -> &[Vec<u8>] {
@@ -160,7 +164,7 @@ impl Engine {
 
     /// Room for the book of the whole year.
     pub fn buffer(&self) -> Vec<u8> {
-        vec![0; self.book_len]
+        vec![0; self.head.len() + self.hours.len() * self.entry_len]
     }
 
     pub fn begin(&self, buffer: &mut [u8]) -> Held {
@@ -182,8 +186,8 @@ impl Engine {
         held
     }
 
-    /// Appends every hour of the year to a book that was begun.
-    pub fn append_all(&self, buffer: &mut [u8], mut held: Held) -> Held {
+    /// Appends every hour of the year, by a version without limits, to a book that was begun.
+    pub fn append_all(&self, version: u64, buffer: &mut [u8], mut held: Held) -> Held {
         for hour in &self.hours {
             // SAFETY: as above; the buffer is apart from head and hour.
             accepted(unsafe {
@@ -199,13 +203,22 @@ impl Engine {
                     &mut held.last_version,
                     hour.as_ptr(),
                     hour.len(),
-                    VERSION,
+                    version,
                     UNUSED_LIMIT,
                     UNUSED_LIMIT,
                 )
             });
         }
         held
+    }
+
+    /// The book of a year with one rate as it was stored before the fixed rate, code 0, was retired.
+    pub fn with_fixed_rate(&self, mut book: Vec<u8>) -> Vec<u8> {
+        for entry in book[self.head.len()..].chunks_exact_mut(self.entry_len) {
+            entry[RATE_CODE] = 0;
+            entry[SECOND_RATE..SECOND_RATE + 8].fill(0);
+        }
+        book
     }
 
     /// Takes a book up and gives the number of its entries.
@@ -224,6 +237,23 @@ impl Engine {
             )
         });
         held.count
+    }
+
+    /// Converts a book, and gives the number of its entries.
+    pub fn convert(&self, bytes: &[u8], out: &mut [u8]) -> u64 {
+        let (mut count, mut used) = (0, 0);
+        // SAFETY: the bytes and the output are valid for their lengths, and apart.
+        accepted(unsafe {
+            hem_convert(
+                bytes.as_ptr(),
+                bytes.len(),
+                out.as_mut_ptr(),
+                out.len(),
+                &mut count,
+                &mut used,
+            )
+        });
+        count
     }
 
     /// The first hour above a value, the hours within a band and the hour nearest to a value: each takes the book up.

@@ -59,7 +59,8 @@ pub fn house(elements: usize) -> Head {
     }
 }
 
-/// An hour of the year, from 0.
+/// An hour of the year, from 0. With one rate it is target and windows-open rate both; the original is timed with its
+/// fixed rate then, which gives the same hour.
 pub fn hour(hour: usize, elements: usize, windows: bool) -> Conditions {
     let of_day = (hour % 24) as f64;
     let season = (hour as f64 / 8760.0 * TAU).cos();
@@ -78,10 +79,9 @@ pub fn hour(hour: usize, elements: usize, windows: bool) -> Conditions {
         avg_air_supply_temp: temp_ext,
         gains_heat_cool_convective: 0.0,
         gains_heat_cool_radiative: 0.0,
-        ach: if windows {
-            AirChangesPerHour::TargetAndWindowsOpen { ach_target: 0.5, ach_windows_open: 4.0 }
-        } else {
-            AirChangesPerHour::Cooling { ach_cooling: 0.5 }
+        ach: AirChangesPerHour::TargetAndWindowsOpen {
+            ach_target: 0.5,
+            ach_windows_open: if windows { 4.0 } else { 0.5 },
         },
         elements: vec![element_hour(temp_ext, sun); elements],
     }

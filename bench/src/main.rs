@@ -1,11 +1,13 @@
 //! Times of the engine through its C interface: houses of 1, 8 and 24 five-node elements and a year of
-//! 8,760 hours, at a fixed rate and with windows; and a weather file of such a year.
+//! 8,760 hours, at one rate and with windows; books of such years, also with hours stored with the fixed rate; and a
+//! weather file of such a year.
 mod engine;
 mod houses;
 mod weather;
 
 use engine::{Engine, Held, Temps};
 use hem_zone::ffi::NONE;
+use hem_zone::{ENTRY_VERSION_1, ENTRY_VERSION_2};
 use std::io::Write;
 use std::process::ExitCode;
 use std::time::Instant;
@@ -15,7 +17,7 @@ type Figure = fn(&Engine, usize) -> f64;
 
 const HOURS: usize = 8760;
 const ELEMENTS: [usize; 3] = [1, 8, 24];
-const RATES: [(&str, bool); 2] = [("fixed", false), ("windows", true)];
+const RATES: [(&str, bool); 2] = [("one-rate", false), ("windows", true)];
 const REPETITIONS: usize = 5;
 
 fn main() -> ExitCode {
@@ -32,7 +34,7 @@ fn main() -> ExitCode {
 }
 
 fn usage() -> ExitCode {
-    eprintln!("usage: bench/run [REPETITIONS | totals | bytes ELEMENTS fixed|windows]");
+    eprintln!("usage: bench/run [REPETITIONS | totals | bytes ELEMENTS one-rate|windows]");
     ExitCode::from(2)
 }
 
@@ -53,7 +55,7 @@ fn for_each_house(mut show: impl FnMut(usize, &str, &Engine)) {
 }
 
 fn times(repetitions: usize) {
-    let figures: [(&str, Figure); 10] = [
+    let figures: [(&str, Figure); 11] = [
         ("head", head),
         ("demand", demand),
         ("why", why),
@@ -64,13 +66,27 @@ fn times(repetitions: usize) {
         ("first_above", first_above),
         ("hours_within", hours_within),
         ("nearest_hour", nearest_hour),
+        ("convert", convert),
     ];
     for (what, time) in figures {
         for_each_house(|elements, rate, engine| {
             say(format!("{what} {elements} {rate} {:.0}", time(engine, repetitions)));
         });
     }
+    stored_times(repetitions);
     weather::times(repetitions);
+}
+
+/// Of books whose hours are stored with the fixed rate: no call makes them any longer.
+fn stored_times(repetitions: usize) {
+    let figures: [(&str, Figure); 2] =
+        [("take_up", take_up_fixed_rate), ("convert", convert_fixed_rate)];
+    for (what, time) in figures {
+        for elements in ELEMENTS {
+            let engine = Engine::new(elements, HOURS, false);
+            say(format!("{what} {elements} fixed {:.0}", time(&engine, repetitions)));
+        }
+    }
 }
 
 /// Nanoseconds for an hour, the best of some repetitions of a whole year.
@@ -151,24 +167,56 @@ fn append(engine: &Engine, repetitions: usize) -> f64 {
     let mut buffer = engine.buffer();
     let begun = engine.begin(&mut buffer);
     best(repetitions, || {
-        engine.append_all(&mut buffer, begun.clone());
+        engine.append_all(ENTRY_VERSION_1, &mut buffer, begun.clone());
     })
 }
 
 /// The bytes of the whole year's book.
 fn book(engine: &Engine) -> Vec<u8> {
+    book_of(engine, ENTRY_VERSION_1)
+}
+
+fn book_of(engine: &Engine, version: u64) -> Vec<u8> {
     let mut buffer = engine.buffer();
     let begun = engine.begin(&mut buffer);
-    let Held { used, .. } = engine.append_all(&mut buffer, begun);
+    let Held { used, .. } = engine.append_all(version, &mut buffer, begun);
     buffer.truncate(used as usize);
     buffer
 }
 
-fn take_up(engine: &Engine, repetitions: usize) -> f64 {
-    let book = book(engine);
+fn take_up_of(engine: &Engine, book: &[u8], repetitions: usize) -> f64 {
     best(repetitions, || {
-        assert_eq!(engine.take_up(&book), HOURS as u64);
+        assert_eq!(engine.take_up(book), HOURS as u64);
     })
+}
+
+fn take_up(engine: &Engine, repetitions: usize) -> f64 {
+    take_up_of(engine, &book(engine), repetitions)
+}
+
+fn take_up_fixed_rate(engine: &Engine, repetitions: usize) -> f64 {
+    take_up_of(engine, &engine.with_fixed_rate(book(engine)), repetitions)
+}
+
+/// A book, and what it must become.
+fn convert_to(engine: &Engine, book: &[u8], converted: &[u8], repetitions: usize) -> f64 {
+    let mut out = vec![0; book.len()];
+    let time = best(repetitions, || {
+        assert_eq!(engine.convert(book, &mut out), HOURS as u64);
+    });
+    assert!(out == converted, "the converted book has other bytes");
+    time
+}
+
+/// It takes no book with entries of version 1.
+fn convert(engine: &Engine, repetitions: usize) -> f64 {
+    let book = book_of(engine, ENTRY_VERSION_2);
+    convert_to(engine, &book, &book, repetitions)
+}
+
+fn convert_fixed_rate(engine: &Engine, repetitions: usize) -> f64 {
+    let book = book_of(engine, ENTRY_VERSION_2);
+    convert_to(engine, &engine.with_fixed_rate(book.clone()), &book, repetitions)
 }
 
 /// No hour is so warm: each is looked at.

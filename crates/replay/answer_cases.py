@@ -2,7 +2,8 @@
 """answer_cases.py PROGRAM CASES ANSWERS
 
 Has the oracle's binary PROGRAM answer the file CASES, as gen_cases.py writes it, and writes its lines to ANSWERS for
-host/examples/replay.rs. Behind each demand that is answered with values stand its reason and its load (document 02
+host/examples/replay.rs. Each hour with the fixed rate is asked with the rate twice too, and must have the same line
+(`check_rate_twice`, making/oracle.py). Behind each demand that is answered with values stand its reason and its load (document 02
 (e)), as 16 hexadecimal digits, worked out as for data/cases (making/why_cases.py). How many demands hold what of them is
 printed.
 """
@@ -13,7 +14,7 @@ import tempfile
 
 sys.dont_write_bytecode = True  # before the modules are read: they leave nothing behind
 
-from making.oracle import answered
+from making.oracle import answered, asked_twice
 from making.why_cases import why
 
 
@@ -29,6 +30,7 @@ def main():
             f.write(" ".join([line, *("%016x" % n for n in reasons.get(i, []))]) + "\n")
     for name in sorted(seen):
         print("  %-50s %d" % (name, seen[name]))
+    print("  asked with the fixed rate and with the rate twice, by operation:", dict(sorted(asked_twice.items())))
 
 
 if __name__ == "__main__":

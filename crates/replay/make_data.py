@@ -21,6 +21,12 @@ greatest number of elements and the start-up limit that stand there. A case and 
           internal boundary, 14 of the external boundary); of start-up the node temperatures; of an hour step the
           first five of a demand and all of an update
 
+Hours stand in a case as the Rust takes them, also those with one fixed rate, code 0 (its `Cooling`), which document 02 (g)
+retired. Each of them is asked of the Rust a second time, with code 1 and this rate as target and with windows open (its
+`TargetAndWindowsOpen`), and the two lines must be the same (`check_rate_twice`, making/oracle.py), so that one answer is
+stored for both. The program asks for it with code 1, and lays beside it what a call, `why`, a book and the converter say
+to code 0.
+
 The Rust's hour is version 1's. Each hour step that it answers with values is also kept as one of version 2, with the
 answer that `in_version_2` (making/oracle.py) gets from the Rust. At least COOLED of them are cooled with two
 fractions that differ: only there do the versions part. Most of them are also kept as hours of version 3, with limits
@@ -48,19 +54,22 @@ of open windows, and a room in which the rate found misses its setpoint. How man
 load, two reasons of which the earlier is named, and the others of these is printed, and there are at least as many of
 each as WHY_HELD says.
 
-data/refusals: rows made from the papers' rules alone (document 01, document 02's (a) for entry versions, (b) for limits
-and (c) for the three questions). making/order.py has the papers' tests in the papers' order; the houses that give 12 to
-15 are constructed, the entries of take-up rows are those of House P in balance, where every result is 0 and every
-temperature 20, or heated and cooled by hand, with and without a limit (making/houses.py, making/limit_rows.py). The
-books of questions have hours that are worked out in making/question_rows.py, of House P and of one with a second
-element. A row:
+data/refusals: rows made from the papers' rules alone (document 01, document 02's (a) for entry versions, (b) for limits,
+(c) for the three questions and (g) for fixed rates and the converter). making/order.py has the papers' tests in the
+papers' order; the houses that give 12 to 15 are constructed, the entries of take-up rows are those of House P in balance,
+where every result is 0 and every temperature 20, or heated and cooled by hand, with and without a limit
+(making/houses.py, making/limit_rows.py). The books of questions have hours that are worked out in
+making/question_rows.py, of House P and of one with a second element. Hours with the fixed rate stand in
+making/fixed_rate_rows.py, where calls refuse them and stored ones are judged as before; the books of the converter, and
+what comes of them, in making/convert_rows.py. A row:
 
     u32   length of what follows
     u8    call (1 demand, 2 update, 3 start-up, 4 hour step, 5 begin, 6 append, 7 take-up, 8 the head alone,
-          structure and values, printed as read_head, 9 zone_test, 10 first_above, 11 hours_within, 12 nearest_hour);
-          number and index of a demand are also those of its reason
+          structure and values, printed as read_head, 9 zone_test, 10 first_above, 11 hours_within, 12 nearest_hour,
+          13 convert, 14 why); number and index of a demand are also those of `why`, but where it is refused for the fixed
+          rate: then the answer of `why` is a row of its own
     u8    expected number (0: accepted), u16 expected index
-    u32   length, the head (of a take-up and of a question: the whole book)
+    u32   length, the head (of a take-up, a question and a conversion: the whole book)
     u8    change of the zone after its head is read (0 none, 1 count, 2 treatments of the first element,
           3 useful area, 4 area of the second element), u16 its value
     u16   the state's node count, u16 count of temperatures, the temperatures
@@ -68,12 +77,13 @@ element. A row:
     3 f64 own floats: update's gains, fraction and rate; of an hour step or an append greatest heating, greatest cooling
           and 0, also with versions that have no limits; of a question the value, or the lower and the upper end of
           the band, and zeros
-    u32   count of entries and u32 used length that the call is given, u32 length of the buffer
+    u32   count of entries and u32 used length that the call is given, u32 length of the buffer or the output
     u64   version that an hour step or an append names, u64 last version that a call on a book is given
     u16   count, the expected values of an accepted call, each 8 bytes: of an hour step as above; of a call on a book
           the count of entries, the used length, the last version and the node temperatures that it hands back, and
-          of an append the entry that it writes, four bytes in each value; of a question the hour or the count of hours; none of a
-          head, of a question that no hour answers or of a refused call
+          of an append the entry that it writes, four bytes in each value; of a question the hour or the count of hours; of
+          a conversion the count of entries, the used length and the book that it writes, four bytes in each value; of `why`
+          its reason and its load; none of a head, of a question that no hour answers or of a refused call
 """
 import os
 import random
@@ -89,6 +99,8 @@ from making.version_rows import (
     make_append_versions, make_book_versions, make_hour_versions, make_last_zero, make_rests)
 from making.limit_rows import make_limit_rooms, make_limit_values, make_limited, make_powered
 from making.question_rows import make_questions
+from making.fixed_rate_rows import make_fixed_rates
+from making.convert_rows import make_conversions
 
 
 def make_refusals(out):
@@ -107,13 +119,15 @@ def make_refusals(out):
     make_limit_rooms(rows)
     make_last_zero(rows)
     make_questions(rows)
+    make_fixed_rates(rows)
+    make_conversions(rows)
     with open(out, "wb") as f:
         f.write(b"".join(rows.rows))
         total = f.tell()
     print("refusals: %d rows, %d bytes" % (len(rows.rows), total))
     print("  by number", dict(sorted(rows.numbers.items())))
     print("  by call  ", dict(sorted(rows.calls.items())))
-    assert all(rows.numbers[n] for n in range(1, 21))
+    assert all(rows.numbers[n] for n in (*range(1, 21), 24))
     for version in VERSIONS:
         of_limits = (19,) if version == LIMITS_VERSION else ()
         assert all((4, version, n) in rows.versions for n in (*range(6, 15), *of_limits))

@@ -10,7 +10,7 @@
 static const char epw[] = "\n\n\n\n\n\n\n\n1999,1,1,1,60,?9,-3.52345678901,5,93,101300,0,0,290,33,120.123456789,60\r\n";
 
 typedef struct {
-    uint8_t *head, *hour, *open_hour, *book;
+    uint8_t *head, *hour, *open_hour, *book, *converted;
     size_t head_len, hour_len, book_len;
     double temps[HEM_TEMPS], out[HEM_OUT], balance[HEM_BALANCE], weather[HEM_WEATHER];
     uint64_t nodes, count, used, last, found, reason, load;
@@ -34,6 +34,7 @@ static void *every_call(void *given) {
     c->answers |= hem_first_above(c->book, c->book_len, 20, &c->found);
     c->answers |= hem_hours_within(c->book, c->book_len, 18, 26, &c->found);
     c->answers |= hem_nearest_hour(c->book, c->book_len, 20, &c->found);
+    c->answers |= hem_convert(c->book, c->book_len, c->converted, c->book_len, &c->count, &c->used);
     c->answers |= hem_weather((const uint8_t *)epw, sizeof epw - 1, 1, c->weather);
     return NULL;
 }
@@ -64,9 +65,12 @@ void test_stack(void) {
     calls->open_hour = with_open_windows(&h);
     calls->book_len = h.head_len + HEM_ENTRY_OF(HEM_NEWEST_ENTRY_VERSION, HEM_ELEMENTS, HEM_TEMPS);
     calls->book = lent(calls->book_len);
+    calls->converted = lent(calls->book_len);
     run_with(HEM_STACK, calls);
     expect("HEM_STACK is enough for every call",
-           calls->answers == 0 && calls->count == 1 && calls->reason == HEM_WHY_WINDOWS_ENOUGH);
+           calls->answers == 0 && calls->count == 1 && calls->reason == HEM_WHY_WINDOWS_ENOUGH &&
+               memcmp(calls->converted, calls->book, calls->used) == 0);
+    free(calls->converted);
     free(calls->book);
     free(calls->open_hour);
     free(calls);

@@ -36,7 +36,7 @@ static uint8_t *house_p(void) {
 static uint8_t *hour_p(double heating, double cooling) {
     const double values[] = {1, 20, 0, 0, 1, 1, heating, cooling, 1.4e32, 20, 0, 0};
     uint8_t *hour = lent(HOUR), *at = put_doubles(hour, values, 12);
-    *at = 0;
+    *at = 1;
     memset(at + 1, 0, 16);
     put_element_hour(at + 17);
     return hour;
@@ -298,6 +298,7 @@ int main(int argc, char **argv) {
     test_convection();
     test_why();
     test_weather();
+    test_convert();
     if (argc > 1) write_year(argv[1], p, warm);
     test_index(p);
     free(p);

@@ -38,5 +38,7 @@ void test_convection(void);
 void test_why(void);
 /* The weather of a line of a file. */
 void test_weather(void);
+/* The fixed rate and the converter. */
+void test_convert(void);
 
 #endif

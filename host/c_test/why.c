@@ -84,6 +84,22 @@ static void test_no_choice(const House *h, double free_temp) {
     says("no choice, too warm", h, HEM_WHY_NO_CHOICE, HEM_LOAD_COOLING);
 }
 
+/* Code 0, which the demand refuses; its second rate must be 8 zero bytes. */
+static void test_fixed(const House *h) {
+    double *temps = at_24(), *out = lent(HEM_OUT * sizeof *out);
+    uint64_t *why = lent(sizeof *why), *is = lent(sizeof *is);
+    *why = *is = MARK;
+    expect("demand refused: 8, code 0",
+           hem_demand(h->head, h->head_len, temps, NODES, h->hour, h->hour_len, out) == HEM_CONDITIONS_CODE);
+    set(h, HEM_CONDITIONS_AT_RATES + 8, -0.0);
+    const uint32_t answer = hem_why(h->head, h->head_len, temps, NODES, h->hour, h->hour_len, why, is);
+    expect("why refused: 8, the second rate of code 0", answer == HEM_CONDITIONS_CODE && *why == MARK && *is == MARK);
+    free(is);
+    free(why);
+    free(out);
+    free(temps);
+}
+
 static void test_not_above_setpoint(const House *h) {
     const double warm = free_at(h, 0.5).operative;
     setpoints(h, warm - 2, warm + 2, warm);
@@ -177,10 +193,12 @@ static void test_refusals(const House *h) {
 
 void test_why(void) {
     House h = house(2, 1, 1);
-    fixed(&h, 0.5);
-    test_no_choice(&h, free_at(&h, 0.5).operative);
     windows(&h, 0.5, 0.5);
-    test_no_choice(&h, free_at(&h, 0.5).operative);
+    const double at_half = free_at(&h, 0.5).operative;
+    test_no_choice(&h, at_half);
+    fixed(&h, 0.5);
+    test_no_choice(&h, at_half);
+    test_fixed(&h);
     windows(&h, 0.0, -0.0);
     test_no_choice(&h, free_at(&h, 0.0).operative);
     windows(&h, 0.5, 4);

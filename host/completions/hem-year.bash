@@ -12,7 +12,7 @@ _hem_year() {
     local earlier=''
     ((COMP_CWORD > 2)) && earlier=${COMP_WORDS[COMP_CWORD - 2]}
     [[ $earlier == '=' ]] && earlier=${COMP_WORDS[COMP_CWORD - 3]}
-    local commands='sample house hours check run report warm why weather show cut help'
+    local commands='sample house hours check run report warm why weather show cut convert help'
     for ((i = 1; i < COMP_CWORD; i++)); do
         if [[ ${COMP_WORDS[i]} != -* && " $commands " == *" ${COMP_WORDS[i]} "* ]]; then
             command=${COMP_WORDS[i]}
@@ -22,7 +22,7 @@ _hem_year() {
 
     local options='--help'
     case $command in
-        house) options+=' --force' ;;
+        house | convert) options+=' --force' ;;
         hours) options+=' --head --force' ;;
         check | run) options+=' --entry-version --heating-limit --cooling-limit' ;;
         report) options+=' --csv --svg --balance --nodes --head --name --force' ;;

@@ -13,7 +13,10 @@
 //! is worked out from the temperatures of its answer. The answer to 1 may have two words more, reason and load
 //! as numbers, worked out from temperatures of the original (crates/replay/answer_cases.py writes them): then
 //! the demand is asked for both, and they are counted. An answer of the original that the engine refuses with
-//! 12 or 13 is no difference: the original tests for less. Signs of zeros are counted for themselves.
+//! 12 or 13 is no difference: the original tests for less. Signs of zeros are counted for themselves. An hour
+//! with the fixed rate, code 0, is asked with code 1 and this rate as target and with windows open, to which the
+//! original gives the same answer; as it stands the call must refuse it with 8, and why must be answered as with
+//! the rate twice.
 #[path = "../tests/common/convection.rs"]
 mod convection;
 
@@ -29,6 +32,12 @@ const BALANCE: usize = 25;
 const EXTERNAL: usize = 14;
 /// Words of the original's demand; behind them may stand reason and load.
 const DEMAND: usize = 4;
+/// In an hour's conditions: the rate code and the two rates.
+const RATE_CODE: usize = 96;
+const RATE: usize = 97;
+const SECOND_RATE: usize = 105;
+/// What the fixed rate is refused with.
+const RETIRED: u32 = 8;
 
 struct Case<'a> {
     call: u8,
@@ -99,13 +108,24 @@ impl<'a> Case<'a> {
         self.call == 1 && line.split(' ').count() == DEMAND + 2
     }
 
+    /// Whether the call refuses the hour as it stands, and why is what it is with the rate twice.
+    fn is_retired(&self, twice: &[u8]) -> bool {
+        let Ok(zone) = Zone::from_head(self.head) else { return false };
+        let refusal = match self.call {
+            1 => zone.space_heat_cool_demand(&self.state, self.conditions).err(),
+            _ => self.ask(self.conditions, "").err(),
+        };
+        let why = |conditions: &[u8]| zone.why(&self.state, conditions);
+        refusal.is_some_and(|r| r.number() == RETIRED) && why(self.conditions) == why(twice)
+    }
+
     /// The engine's values, in the order of the answers; a trigger that is absent is a NaN.
-    fn ask(&self, line: &str) -> Result<Vec<f64>, Refusal> {
+    fn ask(&self, conditions: &[u8], line: &str) -> Result<Vec<f64>, Refusal> {
         let zone = Zone::from_head(self.head)?;
         match self.call {
             1 => {
-                let asked = zone.space_heat_cool_demand(&self.state, self.conditions);
-                let why = zone.why(&self.state, self.conditions);
+                let asked = zone.space_heat_cool_demand(&self.state, conditions);
+                let why = zone.why(&self.state, conditions);
                 let mut values = demand_and_why(asked, why)?;
                 values.truncate(if self.has_reason(line) { values.len() } else { DEMAND });
                 Ok(values)
@@ -113,17 +133,27 @@ impl<'a> Case<'a> {
             2 => {
                 let [gains, fraction, rate] = self.own[..] else { unreachable!() };
                 let after =
-                    zone.update_temperatures(&self.state, self.conditions, gains, fraction, rate)?;
+                    zone.update_temperatures(&self.state, conditions, gains, fraction, rate)?;
                 Ok(updated(&after.0, &after.1))
             }
             4 | 6 | 7 => {
-                let (state, met, balance) =
-                    zone.hour_step(&self.state, self.conditions, self.rule())?;
+                let (state, met, balance) = zone.hour_step(&self.state, conditions, self.rule())?;
                 Ok([demand(&met), updated(&state, &balance)].concat())
             }
             _ => Ok(zone.start_up()?.temps().to_vec()),
         }
     }
+}
+
+/// Of an hour with the fixed rate the same with code 1, the rate twice.
+fn rate_twice(conditions: &[u8]) -> Option<Vec<u8>> {
+    if conditions.get(RATE_CODE) != Some(&0) {
+        return None;
+    }
+    let mut twice = conditions.to_vec();
+    twice[RATE_CODE] = 1;
+    twice.copy_within(RATE..SECOND_RATE, SECOND_RATE);
+    Some(twice)
 }
 
 /// A demand's values, and reason and load by the bits of their numbers. None, which is no answer of the
@@ -182,6 +212,8 @@ struct Tally {
     refused_by_both: usize,
     refused_by_engine: usize,
     different: usize,
+    /// Hours with the fixed rate; those that are not refused as they should be are different too.
+    fixed_rate: usize,
     /// Demands with a reason: for each of the six how many with neither load, heating and cooling.
     why: [[usize; Load::ALL.len()]; RateReason::ALL.len()],
 }
@@ -198,7 +230,12 @@ fn same_values(a: &[f64], b: &[f64]) -> bool {
 
 impl Tally {
     fn add(&mut self, place: usize, case: &Case, line: &str) {
-        let (engine, call) = (case.ask(line), case.call);
+        let twice = rate_twice(case.conditions);
+        if let Some(twice) = &twice {
+            self.count_fixed_rate(place, case, twice);
+        }
+        let (engine, call) =
+            (case.ask(twice.as_deref().unwrap_or(case.conditions), line), case.call);
         self.count_why(case, line, &engine);
         let kind = match (&engine, case.stored(line)) {
             (Ok(a), Ok(b)) if same_bits(a, &b) => &mut self.same,
@@ -211,6 +248,14 @@ impl Tally {
             }
         };
         *kind += 1;
+    }
+
+    fn count_fixed_rate(&mut self, place: usize, case: &Case, twice: &[u8]) {
+        self.fixed_rate += 1;
+        if !case.is_retired(twice) {
+            println!("case {place} (call {}): the fixed rate is taken otherwise", case.call);
+            self.different += 1;
+        }
     }
 
     fn count_why(&mut self, case: &Case, line: &str, engine: &Result<Vec<f64>, Refusal>) {

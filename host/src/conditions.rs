@@ -2,6 +2,7 @@
 use crate::bytes::{f64_at, f64s_at, put_f64s};
 use crate::refusal::Refusal;
 use crate::zone::{State, Zone};
+use std::borrow::Cow;
 
 /// The ventilation setpoint that stands for no control: nothing reaches it.
 pub const NO_CONTROL: f64 = 1.4e32;
@@ -50,7 +51,9 @@ impl ElementHour {
 /// The air change rates that an hour may have, per hour.
 #[derive(Clone, Copy, Debug, PartialEq)]
 pub enum AirChangesPerHour {
-    /// One fixed rate.
+    /// One fixed rate. It is retired: only a book that holds such an hour already has it, for
+    /// [`Book::take_up`](crate::Book::take_up) still takes it, and [`Zone::why`] answers for it. Demand, update,
+    /// hour step and append refuse it with 8. [`AirChangesPerHour::one_rate`] is the same hour.
     Cooling {
         /// The rate.
         ach_cooling: f64,
@@ -62,6 +65,21 @@ pub enum AirChangesPerHour {
         /// The rate with all windows open.
         ach_windows_open: f64,
     },
+}
+
+impl AirChangesPerHour {
+    /// One rate and no choice: target and windows open are both this rate.
+    pub fn one_rate(rate: f64) -> Self {
+        Self::TargetAndWindowsOpen { ach_target: rate, ach_windows_open: rate }
+    }
+
+    /// A fixed rate as [`AirChangesPerHour::one_rate`], with the same bits; two rates as they are.
+    pub fn rate_twice(self) -> Self {
+        match self {
+            Self::Cooling { ach_cooling } => Self::one_rate(ach_cooling),
+            Self::TargetAndWindowsOpen { .. } => self,
+        }
+    }
 }
 
 /// The conditions of one hour.
@@ -144,14 +162,44 @@ impl Conditions {
         }
     }
 
-    /// The conditions of these bytes for a zone, if the engine accepts them (refusals 7 to 11). An hour
-    /// that is refused for what it would lead to (12 to 14) has good conditions all the same.
+    /// The conditions of these bytes for a zone, if the engine accepts them (refusals 7 to 11) where it says
+    /// [why](Zone::why): a fixed rate too, which the other calls refuse. An hour that is refused for what it
+    /// would lead to (12 to 14) has good conditions all the same.
     pub fn from_bytes(zone: &Zone, bytes: &[u8]) -> Result<Self, Refusal> {
         let some_state = State::new(&vec![0.0; zone.layout().nodes()]);
-        match zone.space_heat_cool_demand(&some_state, bytes) {
+        match zone.why(&some_state, bytes) {
             Err(refusal) if !(12..=14).contains(&refusal.number()) => Err(refusal),
             _ => Ok(Self::of_accepted(bytes)),
         }
+    }
+
+    /// Whether the hour has one fixed rate, which only a book that holds it already, and
+    /// [`Zone::why`], take.
+    pub fn has_fixed_rate(&self) -> bool {
+        matches!(self.ach, AirChangesPerHour::Cooling { .. })
+    }
+
+    /// The conditions with a fixed rate as target and as windows open, which every call takes: the same hour.
+    /// Conditions with two rates are as they were.
+    ///
+    /// ```
+    /// use hem_zone::{samples, AirChangesPerHour, Conditions, Reason, State, Zone};
+    ///
+    /// let zone = Zone::new(&samples::house_p())?;
+    /// let before = State::new(&[20.0; 3]);
+    /// let ach = AirChangesPerHour::Cooling { ach_cooling: 0.5 };
+    /// let fixed = Conditions { ach, ..samples::hour_p(21.0, 24.0) };
+    /// assert!(fixed.has_fixed_rate());
+    /// let refusal = zone.space_heat_cool_demand(&before, &fixed).unwrap_err();
+    /// assert_eq!(refusal.reason(), Reason::ConditionsCode);
+    ///
+    /// let twice = fixed.with_rate_twice();
+    /// assert_eq!(twice.ach, AirChangesPerHour::one_rate(0.5));
+    /// assert_eq!(zone.space_heat_cool_demand(&before, &twice)?.ach_cooling, 0.5);
+    /// # Ok::<(), hem_zone::Refusal>(())
+    /// ```
+    pub fn with_rate_twice(&self) -> Self {
+        Self { ach: self.ach.rate_twice(), ..self.clone() }
     }
 
     /// The bytes of the conditions. Whether they are accepted is for the calls to say.
@@ -189,4 +237,18 @@ impl Conditions {
             elements.map(ElementHour::read).collect(),
         )
     }
+}
+
+/// Bytes of conditions with a fixed rate as code 1 has them, with the rate twice. Others are as they were, also
+/// those whose second rate is not all zero bits, which are refused in any case.
+pub(crate) fn bytes_with_rate_twice(conditions: &[u8]) -> Cow<'_, [u8]> {
+    const FIRST: usize = RATE_CODE + 1;
+    const SECOND: usize = FIRST + 8;
+    if conditions[RATE_CODE] != 0 || conditions[SECOND..COMMON_SIZE] != [0; 8] {
+        return conditions.into();
+    }
+    let mut twice = conditions.to_vec();
+    twice[RATE_CODE] = 1;
+    twice.copy_within(FIRST..SECOND, SECOND);
+    twice.into()
 }

@@ -2,13 +2,14 @@
 //! looked up in the bytes, by the layouts and ranges of docs/FORMATS.md.
 use crate::bytes::{f64_at, length_at};
 use crate::conditions::{ElementHour, COMMON_SIZE, RATE_CODE};
-use crate::layout::{element_size, Layout, HEAD_COMMON};
+use crate::layout::{element_size, Layout, ENTRY_VERSION_AT, HEAD_COMMON};
 use crate::limits::Limits;
 use crate::ranges::{plain, FRACTION, GAINS, OPEN, POWER_LIMIT, QUESTION, RATE};
 use crate::refusal::Reason;
 use crate::values::{conditions_values, head_values, treatments_text, Value};
-use crate::versions::{entry_versions_to, is_known, NEWEST_ENTRY_VERSION};
+use crate::versions::{entry_versions_to, is_known, ENTRY_VERSION_1, NEWEST_ENTRY_VERSION};
 use crate::weather_fault::{self, AskedLine};
+use std::ops::Range;
 
 /// What a call was given, as far as its refusal may speak of it.
 #[derive(Clone, Copy, Default)]
@@ -18,6 +19,8 @@ pub(crate) struct Given<'a> {
     pub(crate) temps: &'a [f64],
     pub(crate) nodes: usize,
     pub(crate) conditions: &'a [u8],
+    /// Whether the call takes conditions with a fixed rate.
+    pub(crate) fixed_rate: FixedRate,
     /// Gains, fraction and rate of an update.
     pub(crate) own: Option<[f64; 3]>,
     /// The entry version of an hour step or an append.
@@ -28,6 +31,15 @@ pub(crate) struct Given<'a> {
     pub(crate) asked: &'a [(&'static str, f64)],
     /// The line of a weather file.
     pub(crate) weather: Option<AskedLine<'a>>,
+}
+
+/// Whether a call takes conditions with a fixed rate, code 0.
+#[derive(Clone, Copy, Default)]
+pub(crate) enum FixedRate {
+    #[default]
+    Retired,
+    /// By `why`, and where an entry of a book is judged.
+    StillTaken,
 }
 
 /// An entry version that a call names or an entry has, and that of the entry before it, if there is one.
@@ -62,6 +74,7 @@ pub(crate) fn sentence(reason: Reason, index: u32, given: &Given) -> String {
             given.weather.and_then(|asked| weather_fault::fault(reason, asked))
         }
         Reason::FalseEntry => return named_version(given).unwrap_or_else(|| reason.to_string()),
+        Reason::Version1Entry => version_1(given.head),
         _ => None,
     };
     found.unwrap_or_else(|| at_element(index, &reason.to_string()))
@@ -140,6 +153,17 @@ fn named_version(given: &Given) -> Option<String> {
     Some(format!("the entry {}", given.version?.fault()?))
 }
 
+/// Which entry of a book is the first of version 1.
+fn version_1(book: &[u8]) -> Option<String> {
+    let layout = Layout::of_accepted(book);
+    let is_1 =
+        |entry: Range<usize>| u64::from(book[entry.start + ENTRY_VERSION_AT]) == ENTRY_VERSION_1;
+    let place = layout.entries(book).position(is_1)?;
+    Some(format!(
+        "entry {place} is of version 1, and a book with entries of version 1 is not converted"
+    ))
+}
+
 impl NamedVersion {
     /// What is wrong with the version: no hour has it, or it is below that of the entry before.
     pub(crate) fn fault(&self) -> Option<String> {
@@ -180,12 +204,9 @@ fn conditions_size(given: &Given) -> Option<String> {
 }
 
 fn conditions_form(given: &Given) -> Option<String> {
-    let code = *given.conditions.get(RATE_CODE)?;
-    if code > 1 {
-        return Some(format!("the rate code is {code}, not 0 (fixed) or 1 (target and open)"));
-    }
-    if code == 0 && given.conditions.get(RATE_CODE + 9..COMMON_SIZE)? != [0; 8] {
-        return Some("a fixed rate has a second rate that is not all zero bits".into());
+    if let Some(fault) = rate_code(given.conditions.get(RATE_CODE..COMMON_SIZE)?, given.fixed_rate)
+    {
+        return Some(fault);
     }
     let layout = Layout::of_accepted(given.head);
     layout.treatments().iter().enumerate().find_map(|(i, &treatments)| {
@@ -193,6 +214,29 @@ fn conditions_form(given: &Given) -> Option<String> {
         let text = format!("it has {}, but open is {open}", treatments_text(treatments));
         (!OPEN[treatments.min(4)].contains(open as f64)).then(|| at_element(i as u32 + 1, &text))
     })
+}
+
+/// What is wrong with the rate code and the rates behind it. Of a fixed rate that is retired it is said how the
+/// same hour is written.
+fn rate_code(rates: &[u8], fixed_rate: FixedRate) -> Option<String> {
+    match (rates[0], fixed_rate) {
+        (1, _) => None,
+        (0, FixedRate::StillTaken) => (rates[9..] != [0; 8])
+            .then(|| "a fixed rate has a second rate that is not all zero bits".into()),
+        (0, FixedRate::Retired) => {
+            let rate = f64_at(rates, 1);
+            let rate = if RATE.contains(rate) { plain(rate) } else { "that rate".into() };
+            Some(format!(
+                "the fixed rate (rate code 0) is retired: the same hour has target and windows open both {rate}"
+            ))
+        }
+        (code, FixedRate::StillTaken) => {
+            Some(format!("the rate code is {code}, not 0 (fixed) or 1 (target and open)"))
+        }
+        (code, FixedRate::Retired) => {
+            Some(format!("the rate code is {code}, not 1 (target and open)"))
+        }
+    }
 }
 
 fn conditions_fault(given: &Given, index: u32) -> Option<String> {

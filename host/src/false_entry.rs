@@ -1,7 +1,8 @@
 //! What is wrong with an entry that a take-up found to be false.
 use crate::bytes::length_at;
+use crate::conditions::bytes_with_rate_twice;
 use crate::entry::Entry;
-use crate::explain::NamedVersion;
+use crate::explain::{sentence, FixedRate, Given, NamedVersion};
 use crate::refusal::Reason;
 use crate::zone::{Demand, State, Zone};
 
@@ -32,11 +33,17 @@ fn find_fault(bytes: &[u8], place: usize) -> Option<String> {
         None => zone.start_up().ok()?,
         Some(before) => before.state(),
     };
-    match zone.hour_step(&state, entry.conditions_bytes(), entry.rule()) {
+    let conditions = entry.conditions_bytes();
+    match zone.hour_step(&state, &*bytes_with_rate_twice(conditions), entry.rule()) {
         Err(refusal) if refusal.reason() == Reason::LimitValue => {
             Some(format!("its {}", refusal.sentence()))
         }
-        Err(refusal) => Some(format!("its conditions are refused: {}", refusal.sentence())),
+        Err(refusal) => {
+            let fixed_rate = FixedRate::StillTaken;
+            let given = Given { fixed_rate, ..zone.given(&state, conditions) };
+            let fault = sentence(refusal.reason(), refusal.index(), &given);
+            Some(format!("its conditions are refused: {fault}"))
+        }
         Ok((after, demand, _)) => differing(&entry, &demand, &after),
     }
 }

@@ -132,5 +132,14 @@ unsafe extern "C" {
 
     pub fn hem_nearest_hour(bytes: *const u8, bytes_len: usize, value: f64, hour: *mut u64) -> u32;
 
+    pub fn hem_convert(
+        bytes: *const u8,
+        bytes_len: usize,
+        out: *mut u8,
+        out_len: usize,
+        count: *mut u64,
+        used: *mut u64,
+    ) -> u32;
+
     pub fn hem_weather(file: *const u8, file_len: usize, line: u64, weather: *mut f64) -> u32;
 }

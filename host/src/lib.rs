@@ -14,6 +14,7 @@
 //!   and surfaces ([`ENTRY_VERSION_1`], [`ENTRY_VERSION_2`]) and may have the [`Limits`] of a plant
 //!   ([`ENTRY_VERSION_3`]).
 //! - [`first_above`], [`hours_within`] and [`nearest_hour`] say when it got warm.
+//! - [`convert`] writes the hours of a book that have one fixed rate, which the calls no longer take, anew.
 //! - [`weather`] and [`weather_lines`] read temperature and radiation from an EnergyPlus weather file.
 //! - `text` (feature `text`) reads and writes heads as TOML and hours as CSV.
 //! - [`Refusal`] says why a call was turned away: its [`Reason`], number and index, and one sentence.
@@ -35,6 +36,7 @@
 mod book;
 mod bytes;
 mod conditions;
+mod converter;
 mod entry;
 mod explain;
 mod false_entry;
@@ -61,6 +63,7 @@ mod zone;
 
 pub use book::{Book, MOST_ENTRIES};
 pub use conditions::{AirChangesPerHour, Conditions, ElementHour, NO_CONTROL};
+pub use converter::convert;
 pub use entry::Entry;
 pub use head::{Basis, BuildingElement, Head, Kind, Layers, Pane};
 pub use heat_balance::{

@@ -64,11 +64,20 @@ pub(crate) const HOUR: [Named; 12] = [
     named("gains_heat_cool_radiative", GAINS, "W, likewise"),
 ];
 
-/// The rates of an hour: the fixed one, or the two others.
+/// The rates of an hour as its bytes have them: the fixed one, or the two others.
 pub(crate) const RATES: [Named; 3] = [
-    named("ach_cooling", RATE, "air changes per hour, fixed"),
+    named("ach_cooling", RATE, "air changes per hour, fixed, as only hours of older books have it"),
     named("ach_target", RATE, "air changes per hour that ventilation requires"),
     named("ach_windows_open", RATE, "air changes per hour with all windows open"),
+];
+
+/// The rates of an hour as a text has them: one for both, or the two, or the fixed one.
+#[cfg(feature = "text")]
+pub(crate) const TEXT_RATES: [Named; 4] = [
+    named("rate", RATE, "air changes per hour, the same with windows open and closed"),
+    RATES[1],
+    RATES[2],
+    RATES[0],
 ];
 
 /// Of an hour, for each element, before its open treatments.

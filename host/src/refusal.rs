@@ -46,7 +46,8 @@ reasons! {
     StateInvalid = 6, "the node temperatures do not fit the head or are beyond ±1,000,000 °C";
     /// The conditions have a wrong size.
     ConditionsSize = 7, "the conditions have a wrong size";
-    /// The rate code, the second rate of code 0 or an open bit is bad.
+    /// The rate code, the second rate of code 0 or an open bit is bad. Code 0, one fixed rate, is bad itself
+    /// except to [`Zone::why`](crate::Zone::why) and in an entry that a book holds.
     ConditionsCode = 8, "the rate code or an open bit of the conditions is bad";
     /// A value of the conditions, or an update's own gains, fraction or rate, is out of range.
     ConditionsValue = 9, "a value of the conditions is out of range";
@@ -64,7 +65,8 @@ reasons! {
         "heating or cooling would not change the temperature, so no demand can be found";
     /// Start-up did not settle within the head's limit of passes.
     NotSettled = 15, "start-up did not settle within its limit of passes";
-    /// The buffer of a book is too short. [`Book`](crate::Book) makes room itself.
+    /// The buffer of a book is too short. [`Book`](crate::Book) and [`convert`](crate::convert) make room
+    /// themselves.
     BufferShort = 16, "the buffer of the book is too short";
     /// The book would hold more than 8,784 entries.
     BookFull = 17, "a book holds at most 8,784 entries";
@@ -84,6 +86,8 @@ reasons! {
         "a value of the weather file is not a decimal of at most 12 digits, or is out of range";
     /// A value of a weather file is missing: a temperature of 99.9, a radiation of 9999.
     WeatherMissing = 23, "a value of the weather file is missing";
+    /// A book that is to be converted has an entry of version 1.
+    Version1Entry = 24, "a book with entries of version 1 is not converted";
     /// A number that this crate does not know.
     Unknown = 255, "the engine refused the call";
 }
@@ -94,7 +98,7 @@ pub struct Refusal {
     number: u32,
     index: u32,
     sentence: String,
-    /// Whether the index is the place of an entry that there is: that of 18 at a take-up or a question.
+    /// Whether the index is the place of an entry that there is: that of 18 where a book is taken up.
     of_entry: bool,
 }
 
@@ -115,13 +119,13 @@ impl Refusal {
         Reason::of_number(self.number)
     }
 
-    /// The engine's number, 1 to 23; 0 where the engine was not called ([`Reason::FloatEnvironment`]).
+    /// The engine's number, 1 to 24; 0 where the engine was not called ([`Reason::FloatEnvironment`]).
     pub fn number(&self) -> u32 {
         self.number
     }
 
-    /// The engine's index: for 4, 5 and 9 the element from 1 (0 if none); for 18 at a take-up or a question
-    /// the entry from 0, at an append the number of hours held, at an hour step 0.
+    /// The engine's index: for 4, 5 and 9 the element from 1 (0 if none); for 18 at a take-up, a question or a
+    /// conversion the entry from 0, at an append the number of hours held, at an hour step 0.
     pub fn index(&self) -> u32 {
         self.index
     }
@@ -156,10 +160,10 @@ mod tests {
 
     #[test]
     fn each_number_has_its_own_reason() {
-        for number in 0..=23 {
+        for number in 0..=24 {
             assert_eq!(Reason::of_number(number) as u32, number);
             assert_eq!(Refusal::new(number, |_, _| String::new()).reason() as u32, number);
         }
-        assert_eq!(Reason::of_number(24), Reason::Unknown);
+        assert_eq!(Reason::of_number(25), Reason::Unknown);
     }
 }

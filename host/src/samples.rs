@@ -56,7 +56,7 @@ pub fn hour_p(temp_setpnt_heat: f64, temp_setpnt_cool: f64) -> Conditions {
         avg_air_supply_temp: 20.0,
         gains_heat_cool_convective: 0.0,
         gains_heat_cool_radiative: 0.0,
-        ach: AirChangesPerHour::Cooling { ach_cooling: 0.0 },
+        ach: AirChangesPerHour::one_rate(0.0),
         elements: vec![element_hour_p()],
     }
 }

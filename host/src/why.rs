@@ -1,4 +1,5 @@
 //! Why an hour has its air change rate, and its load: asked of what its demand is asked of.
+use crate::explain::{FixedRate, Given};
 use crate::ffi;
 use crate::float;
 use crate::lent::AsConditions;
@@ -83,20 +84,21 @@ impl Why {
 impl Zone {
     /// Why the demand of an hour has its rate, and its load, from the node temperatures before it and its
     /// conditions, given as [`Conditions`](crate::Conditions) or in bytes. What
-    /// [`space_heat_cool_demand`](Zone::space_heat_cool_demand) refuses is refused alike.
+    /// [`space_heat_cool_demand`](Zone::space_heat_cool_demand) refuses is refused alike, but for a fixed rate,
+    /// which is still answered for.
     ///
     /// ```
     /// use hem_zone::{samples, AirChangesPerHour, Conditions, Load, RateReason, State, Why, Zone};
     ///
     /// let zone = Zone::new(&samples::house_p())?;
     /// let warm = State::new(&[26.0; 3]);
-    /// let fixed = samples::hour_p(18.0, 24.0);
-    /// let why = zone.why(&warm, &fixed)?;
+    /// let one_rate = samples::hour_p(18.0, 24.0);
+    /// let why = zone.why(&warm, &one_rate)?;
     /// assert_eq!(why, Why { reason: RateReason::NoChoice, load: Load::Cooling });
     ///
     /// // With windows that open above 22 °C.
     /// let ach = AirChangesPerHour::TargetAndWindowsOpen { ach_target: 0.0, ach_windows_open: 10.0 };
-    /// let windows = Conditions { temp_setpnt_cool_vent: 22.0, ach, ..fixed };
+    /// let windows = Conditions { temp_setpnt_cool_vent: 22.0, ach, ..one_rate };
     /// let why = zone.why(&warm, &windows)?;
     /// assert_eq!(why, Why { reason: RateReason::WindowsEnough, load: Load::Neither });
     /// # Ok::<(), hem_zone::Refusal>(())
@@ -123,7 +125,8 @@ impl Zone {
                 &mut load,
             )
         };
-        judge(answer, &self.given(before, conditions))?;
+        let fixed_rate = FixedRate::StillTaken;
+        judge(answer, &Given { fixed_rate, ..self.given(before, conditions) })?;
         Ok(Why::of_numbers(reason, load))
     }
 }

@@ -1,5 +1,6 @@
 //! The functions of include/hem_zone.h, called as C calls them: once accepted, once refused. Its questions
-//! about a book are asked in c_questions.rs, why an hour has its rate in c_why.rs, the weather in c_weather.rs.
+//! about a book are asked in c_questions.rs, why an hour has its rate in c_why.rs, the weather in c_weather.rs; the
+//! converter and the fixed rate are in c_convert.rs.
 #[path = "common/lent.rs"]
 mod lent;
 

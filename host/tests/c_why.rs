@@ -41,12 +41,22 @@ impl Given {
     }
 }
 
-/// The answer of the demand, which `hem_why` must give too. Where it is refused nothing is written, else nothing
-/// but the reason and the load, which is that of the demand.
+/// The conditions with a fixed rate as target and as windows open, which the demand takes.
+fn rate_twice(given: &Given) -> Given {
+    given.with(|g| {
+        if g.cond.len() >= 113 && g.cond[96] == 0 && g.cond[105..113] == [0; 8] {
+            g.cond[96] = 1;
+            g.cond.copy_within(97..105, 105);
+        }
+    })
+}
+
+/// The answer of the demand, which `hem_why` must give too, of a fixed rate that of the rate twice. Where it is
+/// refused nothing is written, else nothing but the reason and the load, which is that of the demand.
 #[track_caller]
 fn answer_of(given: &Given) -> u32 {
     let mut demanded = given.lent();
-    let answer = demand(&given.head, &given.cond, &mut demanded);
+    let answer = demand(&given.head, &rate_twice(given).cond, &mut demanded);
     if answer != 0 {
         refused(given.lent(), answer, |lent| why(&given.head, &given.cond, lent));
         return answer;
@@ -82,9 +92,12 @@ fn why_of_house_p() {
     let given = |hour: &Conditions, temp| Given::new(&house_p(), hour, temp);
     let (none, heated, cooled) = (hour_p(20.0, 24.0), hour_p(21.0, 24.0), hour_p(15.0, 19.0));
     for (hour, load) in [(none, Load::Neither), (heated, Load::Heating), (cooled, Load::Cooling)] {
-        let fixed = given(&hour, 20.0);
-        assert_eq!(told(&fixed), (RateReason::NoChoice.number(), load as u64));
-        assert_eq!(answer_of(&fixed), 0);
+        let one_rate = given(&hour, 20.0);
+        let fixed = one_rate.with(|g| g.cond[96] = 0);
+        for given in [one_rate, fixed] {
+            assert_eq!(told(&given), (RateReason::NoChoice.number(), load as u64));
+            assert_eq!(answer_of(&given), 0);
+        }
     }
     let open =
         Conditions { temp_setpnt_cool_vent: 22.0, ach: windows(0.0, 10.0), ..hour_p(18.0, 24.0) };
@@ -154,10 +167,18 @@ fn what_is_no_head_no_state_or_no_hour() {
             assert_eq!(answer_of(&good.with(later).with(change)), answer, "change {place}");
         }
     }
-    // The second float of code 0 must be zero bits, though it is no rate.
+    // Code 0 is answered for; its second float must be zero bits, though it is no rate.
     let fixed = good.with(|g| g.cond[96..113].fill(0));
     assert_eq!(answer_of(&fixed), 0);
-    assert_eq!(answer_of(&fixed.with(|g| g.cond[105] = 0x80)), 8);
+    refused(fixed.lent(), 8, |lent| demand(&fixed.head, &fixed.cond, lent));
+    for at in 105..113 {
+        assert_eq!(answer_of(&fixed.with(|g| g.cond[at] = 0x80)), 8);
+        // All that comes later is wrong too.
+        let spoilt = fixed.with(|g| (g.cond[at], g.cond[97]) = (1, 0xFF));
+        assert_eq!(answer_of(&spoilt), 8);
+    }
+    assert_eq!(answer_of(&fixed.with(|g| g.cond[97] = 0x80)), 0);
+    assert_eq!(answer_of(&fixed.with(|g| spoil(&mut g.cond, 97, -1.0))), 9);
 }
 
 /// House P with little to hold its temperature.

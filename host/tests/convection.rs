@@ -217,6 +217,7 @@ fn each_direction_of_many_houses_has_its_terms() {
             soft_head(&mut head, &mut chance);
             hours.iter_mut().for_each(|hour| soft_hour(hour, &mut chance));
         }
+        let hours = hours.iter().map(Conditions::with_rate_twice).collect();
         run(&head, hours, &mut chance, &mut met);
     }
     assert!(met.steps.iter().all(|steps| *steps > 1000), "{met:?}");

@@ -170,13 +170,14 @@ fn zeros_and_ends_of_ranges() {
     let state = State::new(&[20.0; 5]);
     let ask = |hour: Conditions| numbers(zone.space_heat_cool_demand(&state, &hour.to_bytes()));
     // A negative zero lies in a range from 0; as the second rate of a fixed one it is not all zero bits.
-    assert_eq!(
-        ask(Conditions { ach: AirChangesPerHour::Cooling { ach_cooling: -0.0 }, ..hour() }),
-        (0, 0)
-    );
+    assert_eq!(ask(Conditions { ach: AirChangesPerHour::one_rate(-0.0), ..hour() }), (0, 0));
     let mut second = hour().to_bytes();
     second[105] = 0x80;
-    assert_eq!(numbers(zone.space_heat_cool_demand(&state, &second)), (8, 0));
+    assert_eq!(numbers(zone.space_heat_cool_demand(&state, &second)), (0, 0));
+    second[96] = 0;
+    assert_eq!(numbers(zone.why(&state, &second)), (8, 0));
+    (second[97], second[105]) = (0x80, 0);
+    assert_eq!(numbers(zone.why(&state, &second)), (0, 0));
     assert_eq!(ask(Conditions { delta_t_h: 0.001, ..hour() }), (0, 0));
     assert_eq!(ask(Conditions { delta_t_h: 8760.0, ..hour() }), (0, 0));
     assert_eq!(ask(Conditions { temp_setpnt_heat: -273.15, ..hour() }), (0, 0));

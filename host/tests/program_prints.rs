@@ -54,13 +54,14 @@ fn the_table_has_every_value_to_the_bit() {
         same("element_1.node_1", entry.state().temps()[0]);
         same("element_1.node_2", entry.state().temps()[1]);
         assert_eq!(cell("windows_used"), ["0", "1"][usize::from(demand.ach_cooling > 0.5)]);
-        let (empty, full) = match c.ach {
-            AirChangesPerHour::Cooling { .. } => {
-                (&["ach_target", "ach_windows_open"][..], "ach_cooling")
+        let expected = match c.ach {
+            AirChangesPerHour::TargetAndWindowsOpen { ach_target: 0.5, ach_windows_open: 4.0 } => {
+                ["", "0.5", "4"]
             }
-            _ => (&["ach_cooling"][..], "ach_windows_open"),
+            _ => ["0", "", ""],
         };
-        assert!(empty.iter().all(|name| cell(name).is_empty()) && !cell(full).is_empty());
+        assert_eq!(["rate", "ach_target", "ach_windows_open"].map(cell), expected);
+        assert!(!names.contains(&"ach_cooling"), "no hour has a fixed rate");
         assert_eq!(cell("ach_to_trigger_heating").parse().ok(), demand.ach_to_trigger_heating);
         assert_eq!((cell("entry_version"), entry.version()), ("2", 2));
         let step = book.zone().hour_step(&state, entry.conditions_bytes(), entry.version());

@@ -7,8 +7,10 @@ use std::fs;
 use std::path::Path;
 use std::process::Command;
 
-const COMMANDS: [&str; 11] =
-    ["sample", "house", "hours", "check", "run", "report", "warm", "why", "weather", "show", "cut"];
+const COMMANDS: [&str; 12] = [
+    "sample", "house", "hours", "check", "run", "report", "warm", "why", "weather", "show", "cut",
+    "convert",
+];
 
 fn folder(name: &str) -> Folder {
     let folder = Folder::with_house_p(name, 3);
@@ -84,6 +86,11 @@ fn a_usage_error_is_one_sentence_with_where_to_read_more() {
         (&["why", "b", "1.5"], "why: HOUR is \"1.5\", which is not a whole number"),
         (&["why", "b", "18446744073709551616"], "which is not a whole number from 0 to 18,446,744,"),
         (&["report", "b", "--above", "1"], "report: --above is not an option of this command; see"),
+        (&["convert"], "convert: BOOK is missing; see `hem-year help convert`"),
+        (&["convert", "b"], "convert: NEW is missing; see `hem-year help convert`"),
+        (&["convert", "b", ""], "convert: the word for NEW is empty; see"),
+        (&["convert", "b", "c", "d"], "convert: \"d\" is one word too many; see"),
+        (&["convert", "b", "c", "--head", "x"], "convert: --head is not an option of this command;"),
         (&["--csv"], "--csv needs a file; see `hem-year help`"),
     ] {
         folder.call(words).failed(2, sentence);
@@ -239,7 +246,7 @@ fn the_completion_offers_commands_options_and_files() {
     let mut all: Vec<&str> = [&COMMANDS[..], &["help"]].concat();
     all.sort();
     assert_eq!(completed(&folder, &[""]), all);
-    assert_eq!(completed(&folder, &["help", "c"]), ["check", "cut"]);
+    assert_eq!(completed(&folder, &["help", "c"]), ["check", "convert", "cut"]);
     assert_eq!(completed(&folder, &["w"]), ["warm", "weather", "why"]);
     assert_eq!(completed(&folder, &["-"]), ["--help", "--version"]);
     for command in COMMANDS {

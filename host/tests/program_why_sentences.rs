@@ -79,7 +79,9 @@ fn must_hold(folder: &Folder, head: &Head, book: &Book) -> Vec<Why> {
     for (place, why) in all.iter().enumerate() {
         let (entry, sentence) = (book.entry(place).unwrap(), said(folder, place + 1));
         let before = before(book, place);
-        let asked = Asked { head, zone: book.zone(), before: &before, hour: entry.conditions() };
+        // A fixed rate is retired; with the rate twice every call takes the hour.
+        let hour = entry.conditions().with_rate_twice();
+        let asked = Asked { head, zone: book.zone(), before: &before, hour };
         if let Ok(worked) = asked.worked() {
             assert_eq!(worked.reason, why.reason, "{sentence}");
         }

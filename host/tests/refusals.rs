@@ -123,10 +123,31 @@ fn n08_form_of_the_conditions() {
     let with = |at: usize, byte| {
         let mut bytes = hour().to_bytes();
         bytes[at] = byte;
-        demand_of(&zone(), &twenty(), &bytes)
+        bytes
     };
-    is(with(96, 2), 8, 0, "the rate code is 2, not 0 (fixed) or 1 (target and open)");
-    is(with(105, 128), 8, 0, "a fixed rate has a second rate that is not all zero bits");
+    let demand = |bytes: &[u8]| zone().space_heat_cool_demand(&twenty(), bytes);
+    let why = |bytes: &[u8]| zone().why(&twenty(), bytes);
+    is(demand(&with(96, 2)), 8, 0, "the rate code is 2, not 1 (target and open)");
+    is(why(&with(96, 2)), 8, 0, "the rate code is 2, not 0 (fixed) or 1 (target and open)");
+    // A fixed rate, by its code; of what is no rate the number is not told.
+    let retired = |rate: &str| {
+        format!("the fixed rate (rate code 0) is retired: the same hour has target and windows open both {rate}")
+    };
+    is(demand(&with(96, 0)), 8, 0, &retired("0"));
+    let second = Conditions { ach: AirChangesPerHour::one_rate(0.5), ..hour() };
+    let mut second = second.to_bytes();
+    second[96] = 0;
+    is(demand(&second), 8, 0, &retired("0.5"));
+    is(why(&second), 8, 0, "a fixed rate has a second rate that is not all zero bits");
+    let fixed = |ach_cooling| {
+        Conditions { ach: AirChangesPerHour::Cooling { ach_cooling }, ..hour() }.to_bytes()
+    };
+    for (rate, told) in
+        [(1000.0, "1,000"), (-0.0, "0"), (-1.0, "that rate"), (f64::NAN, "that rate")]
+    {
+        is(demand(&fixed(rate)), 8, 0, &retired(told));
+    }
+    is(why(&fixed(-1.0)), 9, 0, "ach_cooling is -1, out of its range 0 to 1,000");
     let sentence = "element 2: it has 2 treatments, but open is 4";
     is(demand_with(|c| c.elements[1].open = 4), 8, 0, sentence);
     let sentence = "element 3: it has no treatments, but open is 1";

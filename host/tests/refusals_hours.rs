@@ -87,7 +87,7 @@ fn n18_false_entries() {
     let wrong = format!("entry 2: its length is {}, not {length}", length ^ 0x81);
     is(changed(third + 3), 18, 2, &wrong);
     is(changed(third + 4), 18, 2, "entry 2: its version is 131, not 1, 2 or 3");
-    let refused = "entry 2: its conditions are refused: the rate code is 129, \
+    let refused = "entry 2: its conditions are refused: the rate code is 128, \
                    not 0 (fixed) or 1 (target and open)";
     is(changed(third + 5 + 96), 18, 2, refused);
     is(changed(results), 18, 2, "entry 2: its stored heating is not what the hour gives");

@@ -6,11 +6,22 @@ mod generated;
 use common::Folder;
 use generated::Chance;
 use hem_zone::text::*;
-use hem_zone::{Conditions, Head, Zone};
+use hem_zone::{AirChangesPerHour, Conditions, Head, Zone};
 use std::path::Path;
 
 fn bytes_of(hours: &[Conditions]) -> Vec<u8> {
     hours.iter().flat_map(Conditions::to_bytes).collect()
+}
+
+/// Hours by chance with rates of every kind: fixed ones, two, and two that are one.
+fn hours_with_rates(chance: &mut Chance, head: &Head, count: usize) -> Vec<Conditions> {
+    let hours = chance.hours(head, count).into_iter();
+    hours
+        .map(|hour| match chance.below(3) {
+            0 => hour.with_rate_twice(),
+            _ => hour,
+        })
+        .collect()
 }
 
 #[track_caller]
@@ -42,7 +53,7 @@ fn a_thousand_houses_and_years_come_back_from_text() {
         assert_eq!(write_house(&read, &read_plan), text);
 
         let count = 1 + chance.below(6) as usize;
-        let hours = chance.hours(&head, count);
+        let hours = hours_with_rates(&mut chance, &head, count);
         let csv = write_hours(&hours, &read_plan, 1);
         for plan in [Some(&read_plan), None] {
             assert_eq!(bytes_of(&hours_of(&csv, plan)), bytes_of(&hours), "{csv}");
@@ -84,7 +95,7 @@ fn the_program_gives_the_bytes_back() {
     for _ in 0..25 {
         let head = chance.head();
         let count = 1 + chance.below(4) as usize;
-        let hours = chance.hours(&head, count);
+        let hours = hours_with_rates(&mut chance, &head, count);
         folder.write("a.head", &head.to_bytes());
         folder.write("a.year", &bytes_of(&hours));
         let text = folder.call(&["show", "a.head"]).done();
@@ -204,13 +215,15 @@ fn all_names_are_documented() {
             let key = line.split(" = ").next().unwrap();
             names.insert(key.trim_start_matches("first_hour.").to_string());
         }
-        let hour = Chance(5).hour(head);
+        // With a fixed rate, so that it has its column too.
+        let ach = AirChangesPerHour::Cooling { ach_cooling: 0.5 };
+        let hour = Conditions { ach, ..Chance(5).hour(head) };
         let csv = write_hours(&[hour], &plan, 1);
         let heading = csv.lines().next().unwrap().to_string();
         names.extend(heading.split(',').map(|name| name.rsplit('.').next().unwrap().to_string()));
     }
     names.retain(|name| !name.is_empty() && !name.starts_with("[element."));
-    assert_eq!(names.len(), 8 + 11 + 12 + 3 + 6 + 1, "{names:?}");
+    assert_eq!(names.len(), 8 + 11 + 12 + 4 + 6 + 1, "{names:?}");
     for name in names {
         let (own, of_element) = (format!("`{name}`"), format!("`NAME.{name}`"));
         assert!(document.contains(&own) || document.contains(&of_element), "{name}");

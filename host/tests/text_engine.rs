@@ -65,6 +65,7 @@ const HOURS: &[fn(&mut Conditions, f64)] = &[
     |h, v| h.gains_heat_cool_convective = v,
     |h, v| h.gains_heat_cool_radiative = v,
     |h, v| h.ach = AirChangesPerHour::Cooling { ach_cooling: v },
+    |h, v| h.ach = AirChangesPerHour::one_rate(v),
     |h, v| h.ach = AirChangesPerHour::TargetAndWindowsOpen { ach_target: v, ach_windows_open: 1.0 },
     |h, v| h.ach = AirChangesPerHour::TargetAndWindowsOpen { ach_target: 1.0, ach_windows_open: v },
     |h, v| h.elements[0].temp_ext = v,

@@ -78,6 +78,9 @@ fn each_fault_of_a_house_is_told() {
         ("pane.f_sh_dir = 0.5", "pane.temp_ext_air = 5", "13: conditions, pane: temp_ext_air is not known here"),
         ("pane.f_sh_dir = 0.5", "wall.open = [1]", "13: conditions, wall: open is 1, but it has no treatments"),
         ("pane.f_sh_dir = 0.5", "sun = 0.5", "13: conditions: sun is not known here"),
+        ("pane.f_sh_dir = 0.5", "rate = 1001", "13: conditions: rate is 1001, out of its range 0 to 1,000"),
+        ("pane.f_sh_dir = 0.5", "rate = \"none\"", "13: conditions: rate is \"none\", not a number (0 to 1,000)"),
+        ("pane.f_sh_dir = 0.5", "pane.rate = 0.5", "13: conditions, pane: rate is not known here"),
         // TOML itself
         ("volume = 100", "volume = ", "4: expected a value, found a newline"),
         ("volume = 100", "volume = 1.2.3", "4: "),
@@ -144,12 +147,12 @@ fn each_fault_of_hours_is_told() {
         (
             "22,100,0,1,1,20,24,20,0.5",
             "22,100,0,1,1,20,24,20,",
-            "4: either ach_cooling or both ach_target and ach_windows_open are needed",
+            "4: either rate or both ach_target and ach_windows_open are needed",
         ),
         (
             "22,100,0,1,1,20,24,20,0.5",
             "22,100,0,1,1,20,24,20,x",
-            "4: ach_cooling is \"x\", not a number (0 to 1,000)",
+            "4: rate is \"x\", not a number (0 to 1,000)",
         ),
         // setpoints
         (
@@ -187,9 +190,9 @@ fn each_fault_of_hours_is_told() {
         (",open,", ",pane.f_sh_dif,", "1: pane.open is missing"),
         (",gains_internal,", ",temp_ext_air,", "1: there are two columns temp_ext_air"),
         (
-            ",ach_cooling,",
+            ",rate,",
             ",ach_target,",
-            "1: either ach_cooling or both ach_target and ach_windows_open are needed",
+            "1: either rate or both ach_target and ach_windows_open are needed",
         ),
     ];
     for (from, to, expected) in cases {

@@ -5,6 +5,8 @@ mod small;
 
 use common::Folder;
 use hem_zone::text::*;
+use hem_zone::AirChangesPerHour::{self, *};
+use hem_zone::Conditions;
 use small::{edited, plan, HOURS, HOUSE};
 
 #[test]
@@ -108,24 +110,136 @@ fn texts_as_other_programs_write_them() {
     folder.call(&["hours", "h.year", "l.year"]).failed(2, "h.year: is not text");
 }
 
+/// The hours with the fields `rate,ach_target,ach_cooling` of each.
+fn with_rates(rates: [&str; 3]) -> String {
+    let heading = edited(HOURS, ",rate,", ",rate,ach_target,ach_cooling,");
+    let put = |text: String, rates: &str| {
+        assert!(text.contains(",20,0.5,20,18,"));
+        text.replacen(",20,0.5,20,18,", &format!(",20,{rates},20,18,"), 1)
+    };
+    rates.into_iter().fold(heading, put)
+}
+
+/// The rates of the hours of a text, for a house with these constants.
+fn rates_of(constants: &str, hours: &str, faults: &mut Faults) -> Option<Vec<AirChangesPerHour>> {
+    let constants = format!("delta_t_h = 1\n{constants}");
+    let house = edited(HOUSE, "delta_t_h = 1", &constants);
+    let plan = read_house("h.toml", &house, faults).plan.unwrap();
+    let hours = read_hours("h.csv", hours.as_bytes(), Some(&plan), faults)?;
+    Some(hours.iter().map(|hour| hour.ach).collect())
+}
+
+const WITHOUT_RATES: [&str; 3] = [",,"; 3];
+
+fn one_rate(rate: f64) -> AirChangesPerHour {
+    TargetAndWindowsOpen { ach_target: rate, ach_windows_open: rate }
+}
+
 #[test]
-fn rates_of_both_kinds() {
-    let constants = "delta_t_h = 1\nach_windows_open = 3";
-    let house = edited(HOUSE, "delta_t_h = 1", constants);
-    let plan = read_house("h.toml", &house, &mut Faults::new()).plan.unwrap();
-    let hours = HOURS.replace(",ach_cooling,", ",ach_cooling,ach_target,");
-    let rows = hours.replacen(",20,0.5,", ",20,0.5,,", 1).replacen(",20,0.5,20", ",20,,0.5,20", 1);
-    let both = rows.replacen(",20,0.5,20", ",20,0.5,0.5,20", 1);
-    let mut told = Faults::new();
-    assert_eq!(read_hours("h.csv", both.as_bytes(), Some(&plan), &mut told), None);
-    let expected = "h.csv:4: ach_cooling is given together with ach_target or ach_windows_open";
-    assert_eq!(told.told(), [expected]);
-    let good = rows.replacen(",20,0.5,20", ",20,,0.7,20", 1);
-    let hours = read_hours("h.csv", good.as_bytes(), Some(&plan), &mut Faults::new()).unwrap();
-    use hem_zone::AirChangesPerHour::*;
+fn rates_of_every_kind() {
+    let rates = |constants, hours: &str| rates_of(constants, hours, &mut Faults::new()).unwrap();
     let open = |ach_target| TargetAndWindowsOpen { ach_target, ach_windows_open: 3.0 };
-    let rates: Vec<_> = hours.iter().map(|hour| hour.ach).collect();
-    assert_eq!(rates, [Cooling { ach_cooling: 0.5 }, open(0.5), open(0.7)]);
+    let constant = "ach_windows_open = 3";
+    let found = rates(constant, &with_rates(["0.5,,", ",0.7,", ",,0.25"]));
+    assert_eq!(found, [one_rate(0.5), open(0.7), Cooling { ach_cooling: 0.25 }]);
+    // rate is code 1 with the rate twice, to the bit; ach_cooling is code 0.
+    let found = rates(constant, &with_rates(["-0,,", "1e3,,", ",,-0"]));
+    let minus = |rate: f64| rate == 0.0 && rate.is_sign_negative();
+    assert!(
+        matches!(found[0], TargetAndWindowsOpen { ach_target, ach_windows_open }
+            if minus(ach_target) && minus(ach_windows_open)),
+        "{found:?}"
+    );
+    assert_eq!(found[1], one_rate(1000.0));
+    assert!(matches!(found[2], Cooling { ach_cooling } if minus(ach_cooling)), "{found:?}");
+
+    for (written, expected) in [
+        ("rate = 0.25", one_rate(0.25)),
+        ("ach_cooling = 0.25", Cooling { ach_cooling: 0.25 }),
+        ("rate = 0.25\nach_windows_open = 3", one_rate(0.25)),
+        ("ach_target = 0.25\nach_windows_open = 3", open(0.25)),
+    ] {
+        assert_eq!(rates(written, &with_rates(WITHOUT_RATES)), [expected; 3]);
+        // What stands in a line goes before it.
+        let found = rates(written, &with_rates(["0.5,,", ",,", ",,0.5"]));
+        assert_eq!(found, [one_rate(0.5), expected, Cooling { ach_cooling: 0.5 }]);
+    }
+}
+
+#[test]
+fn rates_of_two_kinds_are_a_fault() {
+    let constant = "ach_windows_open = 3";
+    for (rates, fault) in [
+        ("0.5,0.5,", "rate is given together with ach_target, ach_windows_open or ach_cooling"),
+        ("0.5,,0.5", "rate is given together with ach_target, ach_windows_open or ach_cooling"),
+        ("0.5,0.5,0.5", "rate is given together with ach_target, ach_windows_open or ach_cooling"),
+        (",0.5,0.5", "ach_cooling is given together with ach_target or ach_windows_open"),
+        (",,", "either rate or both ach_target and ach_windows_open are needed"),
+        ("1001,,", "rate is 1001, out of its range 0 to 1,000"),
+        ("x,,", "rate is \"x\", not a number (0 to 1,000)"),
+        (",,1001", "ach_cooling is 1001, out of its range 0 to 1,000"),
+    ] {
+        let mut told = Faults::new();
+        let found = rates_of(constant, &with_rates(["0.5,,", rates, ",,0.5"]), &mut told);
+        assert_eq!((found, told.told()), (None, &[format!("h.csv:3: {fault}")][..]));
+    }
+    let needed = "either rate or both ach_target and ach_windows_open are needed";
+    for constants in [
+        "rate = 0.5\nach_cooling = 0.5",
+        "rate = 0.5\nach_target = 0.5\nach_windows_open = 3",
+        "ach_cooling = 0.5\nach_target = 0.5\nach_windows_open = 3",
+    ] {
+        let mut told = Faults::new();
+        assert_eq!(rates_of(constants, &with_rates(WITHOUT_RATES), &mut told), None);
+        assert_eq!(told.told(), [2, 3, 4].map(|line| format!("h.csv:{line}: {needed}")));
+    }
+    // Where none can come from anywhere, that is told once.
+    let mut told = Faults::new();
+    let without = HOURS.replace(",rate,", ",").replace(",20,0.5,20,18,", ",20,20,18,");
+    assert_eq!(rates_of("ach_windows_open = 3", &without, &mut told), None);
+    assert_eq!(told.told(), [format!("h.csv:1: {needed}")]);
+}
+
+/// The rates that a table of an hour has, by its columns.
+fn shown(rates: AirChangesPerHour) -> Vec<(String, String)> {
+    let hours = read_hours("h.csv", HOURS.as_bytes(), Some(&plan()), &mut Faults::new()).unwrap();
+    let hour = Conditions { ach: rates, ..hours[0].clone() };
+    let text = write_hours(&[hour], &plan(), 1);
+    let mut lines = text.lines().map(|line| line.split(',').map(String::from));
+    let columns = lines.next().unwrap().zip(lines.next().unwrap());
+    columns.filter(|(name, _)| name == "rate" || name.starts_with("ach_")).collect()
+}
+
+#[test]
+fn equal_rates_are_written_as_one() {
+    let columns = |columns: &[(&str, &str)]| {
+        columns.iter().map(|(name, cell)| (name.to_string(), cell.to_string())).collect::<Vec<_>>()
+    };
+    let two = |ach_target, ach_windows_open| TargetAndWindowsOpen { ach_target, ach_windows_open };
+    for (rates, cells) in [
+        (one_rate(0.45), ["0.45", "", ""]),
+        (two(0.0, 0.0), ["0", "", ""]),
+        (two(-0.0, -0.0), ["-0", "", ""]),
+        (two(0.0, -0.0), ["", "0", "-0"]),
+        (two(0.5, 0.5_f64.next_up()), ["", "0.5", "0.5000000000000001"]),
+    ] {
+        let [rate, target, open] = cells;
+        let expected =
+            columns(&[("rate", rate), ("ach_target", target), ("ach_windows_open", open)]);
+        assert_eq!(shown(rates), expected);
+    }
+    // Only an hour that has a fixed rate has a column for it.
+    let expected =
+        [("rate", ""), ("ach_target", ""), ("ach_windows_open", ""), ("ach_cooling", "2")];
+    assert_eq!(shown(Cooling { ach_cooling: 2.0 }), columns(&expected));
+}
+
+#[test]
+fn an_hour_of_a_table_has_a_line() {
+    assert_eq!(hour_lines(HOURS.as_bytes()), [2, 3, 4]);
+    let spaced = HOURS.replace("\n", "\n\n# note\n,,,\n");
+    assert_eq!(hour_lines(spaced.as_bytes()), [5, 9, 13]);
+    assert!(hour_lines(b"").is_empty() && hour_lines(b"temp_ext_air\n").is_empty());
 }
 
 #[test]

@@ -131,6 +131,7 @@ fn houses_such_as_houses_are() {
     at_least(&met, [[500; 3], [500; 3], [500, 0, 100], [100, 0, 20], [10, 0, 300], [1000, 0, 10]]);
     assert_eq!((met.not_worked, met.refused), (0, [0; 15]));
     assert!(met.bases.iter().flatten().all(|count| *count > 50), "{met:?}");
+    assert!(met.fixed > 500, "{met:?}");
     // Where the target rate is the higher one, windows never cool.
     assert!(met.target_above[1..4].iter().all(|count| *count > 50), "{met:?}");
     assert_eq!(met.target_above[4..], [0, 0]);
@@ -148,6 +149,7 @@ fn houses_of_all_ranges() {
     at_least(&met, [[200; 3], [200; 3], [200, 0, 20], [50, 0, 10], [1, 0, 20], [200, 0, 0]]);
     assert_eq!(met.refused[..12], [0; 12]);
     assert!(met.refused[12..].iter().all(|count| *count > 5), "{met:?}");
+    assert!(met.fixed > 500, "{met:?}");
     // Of most hours the gains of heating or cooling are such as an update takes.
     assert!(met.not_worked < met.pairs.iter().flatten().sum::<usize>() / 2, "{met:?}");
 }

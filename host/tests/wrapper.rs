@@ -2,8 +2,8 @@
 //! length, and no call in a floating-point environment that would give other values.
 use hem_zone::samples::{hour_p, house_p};
 use hem_zone::{
-    first_above, hours_within, nearest_hour, weather, weather_lines, Book, Reason, Refusal, State,
-    Zone, ENTRY_VERSION_2,
+    convert, first_above, hours_within, nearest_hour, weather, weather_lines, Book, Reason,
+    Refusal, State, Zone, ENTRY_VERSION_2,
 };
 use std::arch::asm;
 
@@ -83,6 +83,7 @@ fn every_call(zone: &Zone, book: &Book) -> Vec<Option<Refusal>> {
         first_above(book.bytes(), 20.0).err(),
         hours_within(book.bytes(), 20.0, 21.0).err(),
         nearest_hour(book.bytes(), 20.0).err(),
+        convert(book.bytes()).err(),
         weather(&epw, 1).err(),
         weather_lines(&epw).next().unwrap().err(),
     ]
@@ -130,7 +131,7 @@ fn another_floating_point_environment_is_refused_by_every_call() {
             assert_eq!(refusal.to_string(), refusal.sentence());
         }
     }
-    assert_eq!(with_control(0, || every_call(&zone, &book)), vec![None; 15]);
+    assert_eq!(with_control(0, || every_call(&zone, &book)), vec![None; 16]);
 }
 
 #[test]

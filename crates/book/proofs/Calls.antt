@@ -34,6 +34,8 @@ use Rattle.book.specs.Model.Session.{CallSpec}
 use Rattle.book.specs.Inner.Start.{with_start}
 use Rattle.zone.specs.Format.Layout.{conditions_length}
 use Rattle.zone.specs.Format.Limits.{limits_in}
+use Rattle.zone.specs.declared.format.conditions.FixedRate.{FixedRate}
+use Rattle.zone.specs.declared.format.conditions.FixedRate.TheVariants.{Retired}
 use Rattle.zone.specs.declared.format.limits.Limits.{Limits}
 use Rattle.zone.specs.Calls.Hour.{has_limits}
 use Rattle.book.specs.Layout.{limits_length, whole_length}
@@ -55,20 +57,20 @@ use Rattle.book.proofs.Laws.NextHour.{step_given, step_refused, step_not_next}
 
 module _ (z : Zone) where
   -- the conditions i of an hour that is accepted, before the bytes j of its limits
-  pub step_size : (k : ℕ) (s : Carried) (version : ℕ) (i j : List ℕ) → length j ≡ limits_length version → (e : Written Carried) → hour_entry z k s (hour version (i ++ j)) ≡ ok e
+  pub step_size : (fixed : FixedRate) (k : ℕ) (s : Carried) (version : ℕ) (i j : List ℕ) → length j ≡ limits_length version → (e : Written Carried) → hour_entry fixed z k s (hour version (i ++ j)) ≡ ok e
       → length i ≡ conditions_length z.count
-  step_size k s version i j l e p =
-      let a = step_hour z k s version (i ++ j) e p in
-      omega (arith, l, length-append i j, hour_body z version s.state (i ++ j) a.result a.stepped)
+  step_size fixed k s version i j l e p =
+      let a = step_hour fixed z k s version (i ++ j) e p in
+      omega (arith, l, length-append i j, hour_body fixed z version s.state (i ++ j) a.result a.stepped)
 
-  module _ (tested : zone_test z ≡ ok tt) (s : Carried) (version : ℕ) (follows : may_follow s.last_version version ≡ true)
+  module _ (fixed : FixedRate) (tested : zone_test z ≡ ok tt) (s : Carried) (version : ℕ) (follows : may_follow s.last_version version ≡ true)
       (i j : List ℕ) (long : length j ≡ limits_length version) (l : Limits) (holds : has_limits version ≡ true → limits_in j ≡ l) (x : HourReply Demand)
-      (e : stepped_in x ≡ next_hour_reply s.state (next_hour standard_coefficients z version l s.state i)) (d : Demand) (f : x.answer ≡ Ok d) where
+      (e : stepped_in x ≡ next_hour_reply s.state (next_hour fixed standard_coefficients z version l s.state i)) (d : Demand) (f : x.answer ≡ Ok d) where
     pub hour_size : length i ≡ conditions_length z.count
-    hour_size = step_size 0 s version i j long _ (step_given z tested s version follows i j long l holds x e d f 0)
+    hour_size = step_size fixed 0 s version i j long _ (step_given fixed z tested s version follows i j long l holds x e d f 0)
 
     pub hour_written : length (entry_of z version (i ++ j) d x.state) ≡ whole_length z version
-    hour_written = step_length z 0 s version (i ++ j) _ (step_given z tested s version follows i j long l holds x e d f 0)
+    hour_written = step_length fixed z 0 s version (i ++ j) _ (step_given fixed z tested s version follows i j long l holds x e d f 0)
 
   pub append_room : (version used m room : ℕ) (t : Bool) → m ≡ whole_length z version → t ≡ leb (used + m) room → t ≡ true → used + whole_length z version ≤ room
   append_room version used m room t l e f = let w = leb-true (used + m) room (sym e ∙ f) in omega arith
@@ -155,29 +157,29 @@ module _ (z : Zone) (g : BookState) (version : ℕ) (i : List ℕ) (l : Limits) 
 
       pub append_version : may_follow g.last_version version ≡ false → Appends (refused false_entry g.count)
       unfolding Book.append_res
-      append_version f = rw (tested, room, step_not_next z (given_of g).state version f body g.count)
+      append_version f = rw (tested, room, step_not_next Retired z (given_of g).state version f body g.count)
 
       -- the limits are read back from the bytes that they have
       module _ (follows : may_follow g.last_version version ≡ true) (heating : T (fits binary64 l.heating)) (cooling : T (fits binary64 l.cooling))
-          (x : HourReply Demand) (e : stepped_in x ≡ next_hour_reply g.state (next_hour standard_coefficients z version l g.state i)) where
+          (x : HourReply Demand) (e : stepped_in x ≡ next_hour_reply g.state (next_hour Retired standard_coefficients z version l g.state i)) where
         pub append_no_hour : (y : Refusal) → x.answer ≡ Err y → Appends (refused (number_of y) (index_of y))
         unfolding Book.append_res
         append_no_hour y f =
-            rw (tested, room, step_refused z tested (given_of g).state version follows i (limits_part version l) (part_length version l) l (part_back version l heating cooling) x e y f g.count)
+            rw (tested, room, step_refused Retired z tested (given_of g).state version follows i (limits_part version l) (part_length version l) l (part_back version l heating cooling) x e y f g.count)
 
         module _ (d : Demand) (f : x.answer ≡ Ok d) where
-          gives : hour_entry z g.count (given_of g).state (hour_item version i l) ≡ ok (record { bytes = entry_of z version body d x.state; after = carried x.state version })
-          gives = step_given z tested (given_of g).state version follows i (limits_part version l) (part_length version l) l (part_back version l heating cooling) x e d f g.count
+          gives : hour_entry Retired z g.count (given_of g).state (hour_item version i l) ≡ ok (record { bytes = entry_of z version body d x.state; after = carried x.state version })
+          gives = step_given Retired z tested (given_of g).state version follows i (limits_part version l) (part_length version l) l (part_back version l heating cooling) x e d f g.count
 
           pub append_size : length i ≡ conditions_length z.count
-          append_size = step_size z g.count (given_of g).state version i (limits_part version l) (part_length version l) _ gives
+          append_size = step_size z Retired g.count (given_of g).state version i (limits_part version l) (part_length version l) _ gives
 
           module _ (m : ℕ) (m_is : m ≡ whole_length z version) where
             abbrev bytes : List ℕ
             bytes = entry_of z version body d x.state
 
             long : length bytes ≡ m
-            long = step_length z g.count (given_of g).state version body _ gives ∙ sym m_is
+            long = step_length Retired z g.count (given_of g).state version body _ gives ∙ sym m_is
 
             pub append_short : leb (g.used + m) (length buf) ≡ false → Appends (refused buffer_short 0)
             unfolding Book.append_res

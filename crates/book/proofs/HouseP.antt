@@ -15,8 +15,10 @@ use Rattle.zone.specs.Format.Limits.{limits_bytes, limits_in}
 use Rattle.zone.specs.Calls.Hour.{hour_step}
 use Rattle.zone.specs.Record.BuildingElement.{standard_coefficients}
 use Rattle.zone.proofs.Promise.{bind_is, limits_back, limits_length_lem}
-use Rattle.zone.specs.Claims.HouseP.{house_p, head_of_p, hour_of_p, twenty, no_demand}
+use Rattle.zone.specs.declared.format.conditions.FixedRate.TheVariants.{Retired, StillTaken}
+use Rattle.zone.specs.Claims.HouseP.{house_p, head_of_p, hour_of_p, old_hour_of_p, twenty, no_demand}
 use Rattle.zone.proofs.Claims.HouseP.{house_p_lem, count_of_p, nodes_of_p, head_of_p_length}
+use Rattle.zone.proofs.Claims.FixedRate.{hour_still}
 use Rattle.book.specs.Model.Interface.{Written}
 use Rattle.book.specs.Model.Calls.{BookState, accepted, begin_res, take_up}
 use Rattle.book.specs.Model.Plain.{book, entries_of, used_bytes, own_book_state, items_ending_by, WellFormed}
@@ -64,7 +66,7 @@ none_formed =
 module _ (version : ℕ) (body : List ℕ) (size : ℕ) (whole : whole_length house_p version ≡ size)
     (gives : year_interface.step house_p 0 (carried twenty no_entry_version) (hour version body) ≡ ok (entry version body)) where
   long : length (entry version body).bytes ≡ size
-  long = step_length house_p 0 (carried twenty no_entry_version) version body (entry version body) gives ∙ whole
+  long = step_length StillTaken house_p 0 (carried twenty no_entry_version) version body (entry version body) gives ∙ whole
 
   abbrev items : List Item
   items = hour version body ∷ []
@@ -129,12 +131,17 @@ module _ (version : ℕ) (body : List ℕ) (size : ℕ) (whole : whole_length ho
   book_by : BookOfP version body size
   book_by = record { entry = entry version body; gives = gives; long = long; kept = same_after; cut_before = cut_before; cut_at_end = cut_at_end }
 
--- what the zone computes for House P, as an entry: the limits' bytes j behind its conditions
-gives_by : (version : ℕ) (j : List ℕ) → length j ≡ limits_length version → may_follow no_entry_version version ≡ true
-    → hour_step standard_coefficients house_p version (limits_in j) twenty hour_of_p ≡ ok (record { demand = no_demand; state = twenty; balance = house_p_lem.balance })
-    → year_interface.step house_p 0 (carried twenty no_entry_version) (hour version (hour_of_p ++ j)) ≡ ok (entry version (hour_of_p ++ j))
+-- what the zone computes for House P, as an entry: the limits' bytes j behind the conditions i
+given_by : (version : ℕ) (i j : List ℕ) → length j ≡ limits_length version → may_follow no_entry_version version ≡ true
+    → hour_step StillTaken standard_coefficients house_p version (limits_in j) twenty i ≡ ok (record { demand = no_demand; state = twenty; balance = house_p_lem.balance })
+    → year_interface.step house_p 0 (carried twenty no_entry_version) (hour version (i ++ j)) ≡ ok (entry version (i ++ j))
 unfolding hour_entry entry
-gives_by version j long follows e = rw (follows, conditions_are version hour_of_p j long, limits_are version hour_of_p j long, e) refl
+given_by version i j long follows e = rw (follows, conditions_are version i j long, limits_are version i j long, e) refl
+
+gives_by : (version : ℕ) (j : List ℕ) → length j ≡ limits_length version → may_follow no_entry_version version ≡ true
+    → hour_step Retired standard_coefficients house_p version (limits_in j) twenty hour_of_p ≡ ok (record { demand = no_demand; state = twenty; balance = house_p_lem.balance })
+    → year_interface.step house_p 0 (carried twenty no_entry_version) (hour version (hour_of_p ++ j)) ≡ ok (entry version (hour_of_p ++ j))
+gives_by version j long follows e = given_by version hour_of_p j long follows (hour_still standard_coefficients house_p version (limits_in j) twenty hour_of_p _ e)
 
 fits_zero : T (fits binary64 zero64)
 fits_zero = of_bits-fits binary64 0
@@ -145,6 +152,9 @@ books_of_p =
       version_1 =
           subst (λ x. BookOfP 1 x 216) (append-nil hour_of_p)
           (book_by 1 (hour_of_p ++ []) 216 (omega (arith, count_of_p, nodes_of_p)) (gives_by 1 [] refl refl (house_p_lem.hour_1 _)));
+      old_hour =
+          subst (λ x. BookOfP 1 x 216) (append-nil old_hour_of_p)
+          (book_by 1 (old_hour_of_p ++ []) 216 (omega (arith, count_of_p, nodes_of_p)) (given_by 1 old_hour_of_p [] refl refl (house_p_lem.old_hour _)));
       version_2 =
           subst (λ x. BookOfP 2 x 216) (append-nil hour_of_p)
           (book_by 2 (hour_of_p ++ []) 216 (omega (arith, count_of_p, nodes_of_p)) (gives_by 2 [] refl refl (house_p_lem.hour_2 _)));

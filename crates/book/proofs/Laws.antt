@@ -8,6 +8,7 @@ pub mod Rest
 pub mod Writing
 pub mod Accepted
 pub mod Interface
+pub mod Twice
 pub mod Heads
 pub mod NextHour
 pub mod Reader

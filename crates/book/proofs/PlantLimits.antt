@@ -14,6 +14,7 @@ use Rattle.zone.specs.Record.BuildingElement.{node_count, standard_coefficients}
 use Rattle.zone.specs.Check.ZoneTest.{zone_test}
 use Rattle.zone.specs.declared.record.zone_record.Zone.{Zone}
 use Rattle.zone.specs.declared.format.conditions.Conditions.{Conditions}
+use Rattle.zone.specs.declared.format.conditions.FixedRate.TheVariants.{Retired}
 use Rattle.zone.specs.declared.format.limits.Limits.{Limits}
 use Rattle.zone.specs.declared.calls.state.Demand.{Demand}
 use Rattle.zone.specs.Calls.Hour.{power_limits_range, tested, demand, delivered, HourResult, hour_step}
@@ -35,14 +36,14 @@ module _ (z : Zone) (given : BookState Carried) (conditions buf : List ℕ) (l :
     body = conditions ++ limits_part version l
 
     abbrev hour_of : Result HourResult
-    hour_of = hour_step standard_coefficients z version l given.state.state conditions
+    hour_of = hour_step Retired standard_coefficients z version l given.state.state conditions
 
-    of_body : hour_step standard_coefficients z version (body_limits version body) given.state.state (body_conditions version body) ≡ hour_of
-    of_body = by_parts version conditions (limits_part version l) (part_length version l) z given.state.state l (part_back version l f.heating f.cooling)
+    of_body : hour_step Retired standard_coefficients z version (body_limits version body) given.state.state (body_conditions version body) ≡ hour_of
+    of_body = by_parts version conditions (limits_part version l) (part_length version l) Retired z given.state.state l (part_back version l f.heating f.cooling)
 
     -- an accepted hour's entry has its version's length
     entry_long : (h : HourResult) → hour_of ≡ ok h → length (entry_of z version body h.demand h.state) ≡ whole_length z version
-    entry_long h e = hour_entry_lem z version given.state.state body h (of_body ∙ e)
+    entry_long h e = hour_entry_lem Retired z version given.state.state body h (of_body ∙ e)
 
     abbrev Whole : Type 0
     Whole = append z given conditions buf l version ≡ (
@@ -84,13 +85,13 @@ module _ (z : Zone) (given : BookState Carried) (conditions buf : List ℕ) (l :
         (h.0, h.1, sym (ok_inj b.2))
 
   within_limits : power_limits_range l ≡ true
-      → ((h : Conditions) (d : Demand) → tested z given.state.state conditions ≡ ok h → demand standard_coefficients z given.state.state conditions ≡ ok d → Within l (delivered h d))
+      → ((h : Conditions) (d : Demand) → tested Retired z given.state.state conditions ≡ ok h → demand Retired standard_coefficients z given.state.state conditions ≡ ok d → Within l (delivered h d))
       → (r r' : BookState Carried × List ℕ) → append z given conditions buf l 3 ≡ ok r → append z given conditions buf l 2 ≡ ok r'
       → (h : HourResult) × (r ≡ appended z given conditions buf l 3 h) × (r' ≡ appended z given conditions buf l 2 h)
   within_limits k w r r' e e' =
       let three = accepted 3 r e in
       let two = accepted 2 r' e' in
-      let same = (Hours.version_claims standard_coefficients z given.state.state conditions).within_limits l k w in
+      let same = (Hours.version_claims Retired standard_coefficients z given.state.state conditions).within_limits l k w in
       (two.0, three.2 ∙ ap (appended z given conditions buf l 3) (ok_inj (sym three.1 ∙ same ∙ two.1)), two.2)
 
 length_of : (z : Zone) (version : ℕ) → (version ≡ 1) ⊎ (version ≡ 2) → whole_length z version ≡ 151 + 41 * z.count + 8 * node_count z

@@ -10,6 +10,8 @@ use Rattle.zone.specs.Calls.Hour.{hour_version}
 use Rattle.zone.specs.Claims.Refusals.{KnownHourRefusal, StartUpRefusal}
 use Rattle.zone.specs.Record.BuildingElement.{standard_coefficients}
 use Rattle.zone.specs.declared.record.zone_record.Zone.{Zone}
+use Rattle.zone.specs.declared.format.conditions.FixedRate.{FixedRate}
+use Rattle.zone.specs.declared.format.conditions.FixedRate.TheVariants.{Retired}
 use Rattle.zone.proofs.Claims.HeadRefusals.{head_refusals, zone_refusals}
 use Rattle.zone.proofs.Claims.Refusals.{known_step_refusals, start_up_refusals}
 use Rattle.book.specs.Numbers.{false_entry}
@@ -35,6 +37,7 @@ use Rattle.book.specs.Refusals.{
   take_up_false_entry,
   BookRefusals,
 }
+use Rattle.book.proofs.RetiredAppends.{retired_appends}
 
 start_refuses : {P : ℕ → ℕ → Type 0} → ((n i : ℕ) → StartUpRefusal n i → P n i) → (z : Zone) → RefusesOnly P (start_up z)
 start_refuses also z = bind_refuses _ (refuses_also also (start_up_refusals standard_coefficients z)) λ s _. accepts _
@@ -47,20 +50,20 @@ begin_refusals head buf =
     begin_buffer_short head buf
 
 -- the entry of an hour: 18 for its version, or the hour step's
-pub hour_refuses_by : {P : ℕ → ℕ → Type 0} (z : Zone) (k : ℕ) (s : Carried) (i : Item) → (may_follow s.last_version (version_of i) ≡ false → P false_entry k)
-    → ((n i : ℕ) → KnownHourRefusal n i → P n i) → RefusesOnly P (hour_entry z k s i)
+pub hour_refuses_by : {P : ℕ → ℕ → Type 0} (fixed : FixedRate) (z : Zone) (k : ℕ) (s : Carried) (i : Item) → (may_follow s.last_version (version_of i) ≡ false → P false_entry k)
+    → ((n i : ℕ) → KnownHourRefusal n i → P n i) → RefusesOnly P (hour_entry fixed z k s i)
 unfolding hour_entry
-hour_refuses_by z k s (hour version body) false_entry_lem also =
+hour_refuses_by fixed z k s (hour version body) false_entry_lem also =
     because (may_follow s.last_version version) false_entry k _ false_entry_lem λ follows.
     let known = (and_true (hour_version version) (leb s.last_version version) follows).0 in
-    bind_refuses _ (refuses_also also (known_step_refusals standard_coefficients z s.state (body_conditions version body) version (body_limits version body) known)) λ r _.
+    bind_refuses _ (refuses_also also (known_step_refusals standard_coefficients z fixed s.state (body_conditions version body) version (body_limits version body) known)) λ r _.
     accepts _
 
 pub append_refusals : (z : Zone) (given : BookState Carried) (i : Item) (buf : List ℕ) → RefusesOnly (AppendRefusal given.count) (append_res year_interface z given i buf)
 append_refusals z given i buf =
     append_refuses_by year_interface z given i buf
     (refuses_also (λ n i p. append_zone p) (zone_refusals z))
-    (λ _ few. hour_refuses_by z given.count given.state i (λ _. append_false_entry few) (λ n i p. append_hour p))
+    (λ _ few. hour_refuses_by Retired z given.count given.state i (λ _. append_false_entry few) (λ n i p. append_hour p))
     append_buffer_short append_book_full
 
 pub take_up_refusals : (bytes : List ℕ) → RefusesOnly TakeUpRefusal (take_up_res year_interface bytes)
@@ -71,4 +74,4 @@ take_up_refusals bytes =
     take_up_book_full take_up_false_entry bytes
 
 pub book_refusals : BookRefusals
-book_refusals = record { begins = begin_refusals; appends = append_refusals; take_ups = take_up_refusals }
+book_refusals = record { begins = begin_refusals; appends = append_refusals; take_ups = take_up_refusals; fixed_rates = retired_appends }

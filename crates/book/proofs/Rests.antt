@@ -13,6 +13,7 @@ use Rattle.zone.specs.Calls.Hour.{hour_version}
 use Rattle.zone.specs.Format.Bytes.{bytes_of}
 use Rattle.zone.specs.Format.Layout.{version_at, version_in}
 use Rattle.zone.specs.declared.record.zone_record.Zone.{Zone}
+use Rattle.zone.specs.declared.format.conditions.FixedRate.TheVariants.{StillTaken}
 use Rattle.zone.proofs.Promise.{hour_version_not}
 use Rattle.book.specs.Numbers.{book_full, false_entry}
 use Rattle.book.specs.Layout.{most_entries, limits_length, following_length, whole_length}
@@ -64,14 +65,14 @@ module _ (head : List ℕ) (is : List Item) (S : WellFormed year_interface head 
 
       module _ (other : take 4 rest ≢ bytes_of 4 (following_length zone (version_in rest))) where
         -- an entry that the hour step gives begins with its version's length
-        judged : (x : Result (Written Carried)) → hour_entry zone (length is) last (item_in zone c) ≡ x → check_entry year_interface (length is) c x ≡ refused false_entry (length is)
+        judged : (x : Result (Written Carried)) → hour_entry StillTaken zone (length is) last (item_in zone c) ≡ x → check_entry year_interface (length is) c x ≡ refused false_entry (length is)
         unfolding item_in
         judged (refused a b) e = refl
         judged (ok w) e = go (equal_bytes w.bytes c) refl
           where
             go : (b : Bool) → equal_bytes w.bytes c ≡ b → check_entry year_interface (length is) c (ok w) ≡ refused false_entry (length is)
             go true t =
-                let a = step_hour zone (length is) last (version_in c) (body_in zone (version_in c) c) w e in
+                let a = step_hour StillTaken zone (length is) last (version_in c) (body_in zone (version_in c) c) w e in
                 absurd (other (
                 sym (take-take 4 n rest (omega arith))
                 ∙ ap (take 4) (sym (equal_true w.bytes c t))
@@ -99,7 +100,7 @@ module _ (head : List ℕ) (is : List Item) (S : WellFormed year_interface head 
         let f : may_follow last.last_version v ≡ false = rw not_known refl in
         ap (taken_up_with head is S) (sym (append-nil rest))
         ∙ refused_behind year_interface year_laws head is S few rest [] (rw (append-nil rest) (rest_unknown zone rest five not_known)) false_entry (length is)
-        (step_not_next zone last v f (body_in zone v rest) (length is))
+        (step_not_next StillTaken zone last v f (body_in zone v rest) (length is))
 
     unknown_17 : length is ≡ most_entries → taken_up_with head is S rest ≡ refused book_full 0
     unknown_17 full = full_behind year_interface year_laws head is S full rest (length rest) (rest_unknown zone rest five not_known)

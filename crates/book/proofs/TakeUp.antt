@@ -36,6 +36,7 @@ use Rattle.book.specs.Model.Calls as Book
 use Rattle.book.proofs.Model.Laws.Decode.{whole_none, whole_some}
 use Rattle.zone.specs.Format.Layout.{length_size, version_in, conditions_length}
 use Rattle.zone.specs.Format.Limits.{limits_in}
+use Rattle.zone.specs.declared.format.conditions.FixedRate.TheVariants.{StillTaken}
 use Rattle.zone.specs.declared.format.limits.Limits.{Limits}
 use Rattle.book.specs.Layout.{front_size, limits_length, whole_length}
 use Rattle.book.specs.Entry.{entry_of}
@@ -69,15 +70,15 @@ entry_known z last c e version v f =
 
 module _ (z : Zone) (k : ℕ) (s : Carried) (c : List ℕ) (version : ℕ) (v : version ≡ version_in c) where
   -- of a version that may not follow
-  pub entry_not_next : may_follow s.last_version version ≡ false → refused false_entry k ≡ Book.check_entry year_interface k c (hour_entry z k s (item_in z c))
+  pub entry_not_next : may_follow s.last_version version ≡ false → refused false_entry k ≡ Book.check_entry year_interface k c (hour_entry StillTaken z k s (item_in z c))
   unfolding item_in
-  entry_not_next f = rw (step_not_next z s (version_in c) (ap (may_follow s.last_version) (sym v) ∙ f) (body_in z (version_in c) c) k)
+  entry_not_next f = rw (step_not_next StillTaken z s (version_in c) (ap (may_follow s.last_version) (sym v) ∙ f) (body_in z (version_in c) c) k)
 
   -- of one that may: its hour
-  pub entry_by_hour : (r : Result Carried) → r ≡ Book.check_entry year_interface k c (hour_entry z k s (hour version (body_in z version c)))
-      → r ≡ Book.check_entry year_interface k c (hour_entry z k s (item_in z c))
+  pub entry_by_hour : (r : Result Carried) → r ≡ Book.check_entry year_interface k c (hour_entry StillTaken z k s (hour version (body_in z version c)))
+      → r ≡ Book.check_entry year_interface k c (hour_entry StillTaken z k s (item_in z c))
   unfolding item_in
-  entry_by_hour r q = q ∙ ap (λ (x : ℕ). Book.check_entry year_interface k c (hour_entry z k s (hour x (body_in z x c)))) v
+  entry_by_hour r q = q ∙ ap (λ (x : ℕ). Book.check_entry year_interface k c (hour_entry StillTaken z k s (hour x (body_in z x c)))) v
 
 -- the parts of its body, as the code cuts them out: m and n bytes, the conditions and the limits
 abbrev conditions_cut : (c : List ℕ) (m : ℕ) → List ℕ
@@ -100,10 +101,10 @@ module _ (z : Zone) (version : ℕ) (c : List ℕ) (m : ℕ) (m_is : m ≡ condi
 
 module _ (z : Zone) (tested : zone_test z ≡ ok tt) (k : ℕ) (s : Carried) (version : ℕ) (follows : may_follow s.last_version version ≡ true) (c : List ℕ) where
   abbrev Checks : Result Carried → Type 0
-  Checks r = r ≡ Book.check_entry year_interface k c (hour_entry z k s (hour version (body_in z version c)))
+  Checks r = r ≡ Book.check_entry year_interface k c (hour_entry StillTaken z k s (hour version (body_in z version c)))
 
   module _ (whole : length c ≡ whole_length z version) (m : ℕ) (m_is : m ≡ conditions_length z.count) (n : ℕ) (n_is : n ≡ limits_length version)
-      (l : Limits) (l_is : l ≡ limits_in (limits_cut c m n)) (x : HourReply Demand) (r : stepped_in x ≡ next_hour_reply s.state (next_hour standard_coefficients z version l s.state (conditions_cut c m))) where
+      (l : Limits) (l_is : l ≡ limits_in (limits_cut c m n)) (x : HourReply Demand) (r : stepped_in x ≡ next_hour_reply s.state (next_hour StillTaken standard_coefficients z version l s.state (conditions_cut c m))) where
     abbrev i : List ℕ
     i = conditions_cut c m
 
@@ -113,17 +114,17 @@ module _ (z : Zone) (tested : zone_test z ≡ ok tt) (k : ℕ) (s : Carried) (ve
     long : length j ≡ limits_length version
     long = limits_cut_lem z version c m m_is n n_is whole
 
-    by_part : hour_entry z k s (hour version (body_in z version c)) ≡ hour_entry z k s (hour version (i ++ j))
-    by_part = ap (λ y. hour_entry z k s (hour version y)) (cuts_are z version c m m_is n n_is)
+    by_part : hour_entry StillTaken z k s (hour version (body_in z version c)) ≡ hour_entry StillTaken z k s (hour version (i ++ j))
+    by_part = ap (λ y. hour_entry StillTaken z k s (hour version y)) (cuts_are z version c m m_is n n_is)
 
     pub entry_refused : (a : Refusal) → x.answer ≡ Err a → Checks (refused false_entry k)
     entry_refused a f =
-        let w : hour_entry z k s (hour version (body_in z version c)) ≡ refused (number_of a) (index_of a) = by_part ∙ step_refused z tested s version follows i j long l (λ _. sym l_is) x r a f k in
+        let w : hour_entry StillTaken z k s (hour version (body_in z version c)) ≡ refused (number_of a) (index_of a) = by_part ∙ step_refused StillTaken z tested s version follows i j long l (λ _. sym l_is) x r a f k in
         rw w
 
     module _ (d : Demand) (f : x.answer ≡ Ok d) where
-      gives : hour_entry z k s (hour version (body_in z version c)) ≡ ok (record { bytes = entry_of z version (i ++ j) d x.state; after = carried x.state version })
-      gives = by_part ∙ step_given z tested s version follows i j long l (λ _. sym l_is) x r d f k
+      gives : hour_entry StillTaken z k s (hour version (body_in z version c)) ≡ ok (record { bytes = entry_of z version (i ++ j) d x.state; after = carried x.state version })
+      gives = by_part ∙ step_given StillTaken z tested s version follows i j long l (λ _. sym l_is) x r d f k
 
       pub entry_right : equal_bytes (entry_of z version (i ++ j) d x.state) c ≡ true → Checks (ok (carried x.state version))
       entry_right q = rw (gives, q)
@@ -159,7 +160,7 @@ module _ (z : Zone) (s : Records) (same : s.layout.zone.now ≡ z) (v : BookStat
     check_many h = rw (inv, opened, le-ltb v.count year_interface.limit h)
 
     module _ (few : v.count < year_interface.limit) (x : Rust.Result CheckedEntry BookError)
-        (checked : checked_entry x ≡ Book.check_entry year_interface v.count c.now (hour_entry z v.count (given_of v).state (item_in z c.now))) where
+        (checked : checked_entry x ≡ Book.check_entry year_interface v.count c.now (hour_entry StillTaken z v.count (given_of v).state (item_in z c.now))) where
       pub check_false : (e : BookError) → x ≡ Err e → refused (number_of_error e) (index_of_error e) ≡ J
       unfolding Book.check_entries
       check_false e f = rw (inv, opened, lt-ltb v.count year_interface.limit few, sym checked ∙ ap checked_entry f)

@@ -17,6 +17,7 @@ use Rattle.zone.specs.Calls.Hour.{hour_version}
 use Rattle.zone.specs.Calls.StartUp.{init_node_temps}
 use Rattle.zone.specs.Format.Layout.{version_at, version_in}
 use Rattle.zone.specs.declared.record.zone_record.Zone.{Zone}
+use Rattle.zone.specs.declared.format.conditions.FixedRate.TheVariants.{Retired, StillTaken}
 use Rattle.zone.proofs.Claims.HeadRefusals.{zone_below, zone_refusals}
 use Rattle.zone.proofs.Claims.Refusals.{demand_below}
 use Rattle.zone.specs.Claims.Refusals.{KnownHourRefusal, hour_demand, hour_limit_value}
@@ -42,10 +43,10 @@ use Rattle.book.proofs.Rests.{one_or_two}
 -- ---- hour by hour
 
 module _ (z : Zone) where
-  step_version : (k : ℕ) (s : Carried) (i : Item) (e : Written Carried) → hour_entry z k s i ≡ ok e
+  step_version : (k : ℕ) (s : Carried) (i : Item) (e : Written Carried) → hour_entry StillTaken z k s i ≡ ok e
       → (hour_version (version_of i) ≡ true) × (s.last_version ≤ version_of i) × (e.after.last_version ≡ version_of i)
   step_version k s (hour version body) e p =
-      let a = step_hour z k s version body e p in
+      let a = step_hour StillTaken z k s version body e p in
       let f = and_true (hour_version version) (leb s.last_version version) a.follows in
       (f.0, leb-true s.last_version version f.1, sym (ap (λ x. x.after.last_version) a.gives))
 
@@ -126,7 +127,7 @@ module _ (z : Zone) (given : BookState Carried) (version : ℕ) (body buf : List
   only_18 =
       append_refuses_by year_interface z given (hour version body) buf
       (refuses_also (λ n i p. below n i (omega (arith, zone_below n i p))) (zone_refusals z))
-      (λ tested few. hour_refuses_by z given.count given.state (hour version body)
+      (λ tested few. hour_refuses_by Retired z given.count given.state (hour version body)
       (λ f _. (tested, few, may_not given.state.last_version version f, refl))
       (λ n i p e. absurd (known_apart n i p e)))
       (below buffer_short 0 (omega arith)) (below book_full 0 (omega arith))
@@ -136,7 +137,7 @@ module _ (z : Zone) (given : BookState Carried) (version : ℕ) (body buf : List
   unfolding append_res
   append_18 index p =
       let f = not_follow given.state.last_version version p.2 in
-      rw (p.0, lt-ltb given.count most_entries p.1, step_not_next z given.state version f body given.count, p.3) refl
+      rw (p.0, lt-ltb given.count most_entries p.1, step_not_next Retired z given.state version f body given.count, p.3) refl
 
 -- ---- 18 at a take-up
 
@@ -154,7 +155,7 @@ take_up_18 head is S few entry rest known below long =
     let l = length-append entry rest in
     refused_behind year_interface year_laws head is S few entry rest
     (rest_whole z (entry ++ rest) (omega (arith, l, long)) (rw same (one_or_two v known).0) (rw same (omega (arith, l, long))) ∙ rw same (ap some (sym long)))
-    false_entry (length is) (step_not_next z s v f (body_in z v entry) (length is))
+    false_entry (length is) (step_not_next StillTaken z s v f (body_in z v entry) (length is))
 
 pub version_claims : VersionClaims
 version_claims =

@@ -3,7 +3,7 @@ use Rattle.std.specs.Prelude.{◌≡◌, List, ◌++◌, ℕ, ◌+◌, ◌≤◌
 use Rattle.zone.specs.Promise.{ok, zero64}
 use Rattle.zone.specs.Format.Limits.{limits_bytes}
 use Rattle.zone.specs.declared.format.limits.Limits.{Limits}
-use Rattle.zone.specs.Claims.HouseP.{house_p, head_of_p, hour_of_p, twenty}
+use Rattle.zone.specs.Claims.HouseP.{house_p, head_of_p, hour_of_p, old_hour_of_p, twenty}
 use Rattle.book.specs.Model.Interface.{Written}
 use Rattle.book.specs.Model.Calls.{BookState, accepted, begin_res, take_up}
 use Rattle.book.specs.Year.{hour, Carried, carried, no_entry_version, year_interface}
@@ -28,8 +28,10 @@ pub record BookOfP (version : ℕ) (body : List ℕ) (size : ℕ) : Type 0 where
 abbrev pub no_power : Limits
 no_power = record { heating = zero64; cooling = zero64 }
 
--- "entry 216: cut at 395, no entry; at 396, one", of version 1 and of version 2; of version 3 16 bytes more
+-- "entry 216: cut at 395, no entry; at 396, one", of version 1 and of version 2; of version 3 16 bytes more. So too of the hour as it was written before, with
+-- the fixed rate 0: "Entries .. with code 0 already written are still taken up"
 pub record BooksOfP : Type 0 where
   pub version_1 : BookOfP 1 hour_of_p 216
+  pub old_hour : BookOfP 1 old_hour_of_p 216
   pub version_2 : BookOfP 2 hour_of_p 216
   pub version_3 : BookOfP 3 (hour_of_p ++ limits_bytes no_power) 232

@@ -6,6 +6,7 @@ pub mod Layout
 pub mod Entry
 pub mod Year
 pub mod Answers
+pub mod RetiredAppends
 pub mod Refusals
 pub mod VersionOrder
 pub mod Rests

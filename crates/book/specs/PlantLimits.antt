@@ -8,6 +8,7 @@ use Rattle.zone.specs.Record.BuildingElement.{node_count, standard_coefficients}
 use Rattle.zone.specs.Check.ZoneTest.{zone_test}
 use Rattle.zone.specs.declared.record.zone_record.Zone.{Zone}
 use Rattle.zone.specs.declared.format.conditions.Conditions.{Conditions}
+use Rattle.zone.specs.declared.format.conditions.FixedRate.TheVariants.{Retired}
 use Rattle.zone.specs.declared.format.limits.Limits.{Limits}
 use Rattle.zone.specs.declared.calls.state.Demand.{Demand}
 use Rattle.zone.specs.Calls.Hour.{power_limits_range, tested, demand, delivered, HourResult, hour_step}
@@ -44,7 +45,7 @@ module _ (z : Zone) (given : BookState Carried) (conditions buf : List ℕ) (l :
         bind (zone_test z) λ _.
         bind (require (ltb given.count most_entries) book_full) λ _.
         bind (require_at (may_follow given.state.last_version version) false_entry given.count) λ _.
-        bind (hour_step standard_coefficients z version l given.state.state conditions) λ h.
+        bind (hour_step Retired standard_coefficients z version l given.state.state conditions) λ h.
         bind (require (leb (given.used + whole_length z version) (length buf)) buffer_short) λ _.
         ok (appended version h))
     -- "Length 147 + 41n + 8N" with its own 4 bytes; "The entry grows by 16 bytes"
@@ -52,7 +53,7 @@ module _ (z : Zone) (given : BookState Carried) (conditions buf : List ℕ) (l :
     pub size_3 : whole_length z 3 ≡ 167 + 41 * z.count + 8 * node_count z
     -- An hour whose power is within both limits ends as version 2's: one demand, one state, and entries that differ in length, version byte and limits only.
     pub within_limits : AreF64 l → power_limits_range l ≡ true
-        → ((h : Conditions) (d : Demand) → tested z given.state.state conditions ≡ ok h → demand standard_coefficients z given.state.state conditions ≡ ok d
+        → ((h : Conditions) (d : Demand) → tested Retired z given.state.state conditions ≡ ok h → demand Retired standard_coefficients z given.state.state conditions ≡ ok d
         → Within l (delivered h d))
         → (r r' : BookState Carried × List ℕ) → append 3 ≡ ok r → append 2 ≡ ok r' → (h : HourResult) × (r ≡ appended 3 h) × (r' ≡ appended 2 h)
 

@@ -8,6 +8,7 @@ use Rattle.book.specs.Model.Calls.{BookState, begin_res, append_res, take_up_res
 use Rattle.book.specs.Year.{Item, Carried, year_interface}
 use Rattle.book.specs.Numbers.{buffer_short, book_full, false_entry}
 use Rattle.book.specs.Layout.{most_entries}
+use Rattle.book.specs.RetiredAppends.{RetiredAppends}
 use Rattle.book.specs.Answers.{number_of, index_of}
 use Rattle.book.specs.declared.book_error.BookError.{BookError}
 
@@ -38,6 +39,8 @@ pub record BookRefusals : Type 0 where
   pub begins : (head buf : List ℕ) → RefusesOnly BeginRefusal (begin_res year_interface head buf)
   pub appends : (z : Zone) (given : BookState Carried) (i : Item) (buf : List ℕ) → RefusesOnly (AppendRefusal given.count) (append_res year_interface z given i buf)
   pub take_ups : (bytes : List ℕ) → RefusesOnly TakeUpRefusal (take_up_res year_interface bytes)
+  -- an append of an hour with code 0 has 8
+  pub fixed_rates : RetiredAppends
 
 -- "number and index": no two errors have the same
 abbrev pub OneError : Type 0

@@ -12,6 +12,8 @@ use Rattle.zone.specs.declared.calls.state.State.{State}
 use Rattle.book.specs.Model.Interface.{Interface, Written}
 use Rattle.zone.specs.Format.Layout.{version_in}
 use Rattle.zone.specs.Format.Limits.{limits_bytes, limits_in}
+use Rattle.zone.specs.declared.format.conditions.FixedRate.{FixedRate}
+use Rattle.zone.specs.declared.format.conditions.FixedRate.TheVariants.{Retired, StillTaken}
 use Rattle.zone.specs.declared.format.limits.Limits.{Limits}
 use Rattle.book.specs.Numbers.{false_entry}
 use Rattle.book.specs.Layout.{most_entries, front_size, limits_length, whole_length, body_length}
@@ -58,10 +60,10 @@ abbrev pub may_follow : (last_version version : ℕ) → Bool
 may_follow last_version version = hour_version version && leb last_version version
 
 -- the entry that an hour has, and what is carried after it: the version is tested, "its index the count held", and the hour is written "by that version's rule"
-unfoldable pub hour_entry : Zone → (count : ℕ) → Carried → Item → Result (Written Carried)
-hour_entry z k s (hour version body) =
+unfoldable pub hour_entry : FixedRate → Zone → (count : ℕ) → Carried → Item → Result (Written Carried)
+hour_entry fixed z k s (hour version body) =
     bind (require_at (may_follow s.last_version version) false_entry k) λ _.
-    bind (hour_step standard_coefficients z version (body_limits version body) s.state (body_conditions version body)) λ r.
+    bind (hour_step fixed standard_coefficients z version (body_limits version body) s.state (body_conditions version body)) λ r.
     ok (record { bytes = entry_of z version body r.demand r.state; after = carried r.state version })
 
 -- "What is dropped at the end is a rest under 5 bytes, or shorter than its version byte calls for; an unknown version byte makes any rest of 5 bytes or more
@@ -81,6 +83,8 @@ body_in z version e = take (body_length z version) (drop front_size e)
 unfoldable pub item_in : Zone → (entry : List ℕ) → Item
 item_in z e = hour (version_in e) (body_in z (version_in e) e)
 
+-- "Entries of every version with code 0 already written are still taken up, each judged by what the hour step would write without this refusal"; an append has
+-- that refusal
 abbrev pub year_interface : Interface
 year_interface =
     record {
@@ -91,8 +95,8 @@ year_interface =
       head_of = head_of;
       given_test = λ z s. zone_test z;
       start_up = start_up;
-      step = hour_entry;
-      append_step = hour_entry;
+      step = hour_entry StillTaken;
+      append_step = hour_entry Retired;
       entry_length = entry_length;
       item_of = item_in;
     }

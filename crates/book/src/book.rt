@@ -11,7 +11,7 @@ use crate::bytes::put;
 use crate::entry::{Entry, EntryLayout, limits_bytes, limits_length};
 use crate::layout::MOST_ENTRIES;
 use crate::versions::{NO_ENTRY_VERSION, may_follow};
-use zone::{Limits, State, Zone, init_node_temps, read_head, zone_test};
+use zone::{FixedRate, Limits, State, Zone, init_node_temps, read_head, zone_test};
 
 // What a call is given and hands back: the node temperatures, the count of entries, the used length and the version of the last entry, 1 where there is
 // none.
@@ -110,7 +110,9 @@ fn appended(
     if !may_follow(given.last_version, version) {
         return Err(false_entry(given.count));
     }
-    let hour = given.state.next_hour(z, conditions, version, limits);
+    let hour = given
+        .state
+        .next_hour(FixedRate::Retired, z, conditions, version, limits);
     let demand = hour.answer?;
     let layout = EntryLayout { zone: z };
     let length = layout.whole_length(version);

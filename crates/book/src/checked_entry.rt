@@ -3,6 +3,7 @@ ghost use Rattle.std.specs.Prelude.{◌≡◌, true, length};
 ghost use Rattle.std.proofs.Math.Option.{some};
 ghost use Rattle.zone.specs.Promise.{ok};
 ghost use Rattle.zone.specs.Check.ZoneTest.{zone_test};
+ghost use Rattle.zone.specs.declared.format.conditions.FixedRate.TheVariants.{StillTaken};
 ghost use Rattle.zone.specs.Inner.Kept.{Kept};
 ghost use Rattle.zone.specs.Inner.KeptMatrix.{held_in};
 ghost use Rattle.book.specs.Model.Calls as Book;
@@ -16,7 +17,7 @@ use crate::book_error::{BookError, false_entry};
 use crate::entry::{Entry, EntryLayout, limits_length};
 use crate::layout::{FRONT_SIZE, LENGTH_SIZE};
 use crate::versions::may_follow;
-use zone::{KeptMatrix, State, Zone, read_limits};
+use zone::{FixedRate, KeptMatrix, State, Zone, read_limits};
 
 // An entry that is what the hour step gives: the state after it, and its version.
 #[derive(Clone, Copy)]
@@ -48,7 +49,7 @@ impl<'a> EntryChecker<'a> {
             × (may_follow before.now.last_version version ≡ true) }
         ensures checked { checked_entry result
             ≡ Book.check_entry year_interface before.now.count entry.now
-            (hour_entry self.old.zone.now before.now.count (given_of before.now).state (hour version (body_in self.old.zone.now version entry.now))) }
+            (hour_entry StillTaken self.old.zone.now before.now.count (given_of before.now).state (hour version (body_in self.old.zone.now version entry.now))) }
         ensures zone { self.new.zone ≡ self.old.zone }
     {
         let layout = EntryLayout { zone: self.zone };
@@ -56,6 +57,7 @@ impl<'a> EntryChecker<'a> {
         let conditions = &entry[FRONT_SIZE..limits_at];
         let limits = &entry[limits_at..limits_at + limits_length(version)];
         let hour = before.state.next_hour_kept(
+            FixedRate::StillTaken,
             self.zone,
             conditions,
             version,
@@ -89,7 +91,7 @@ impl<'a> EntryChecker<'a> {
     ) -> Result<CheckedEntry, BookError>
         requires { entry_length self.old.zone.now entry.now ≡ some (length entry.now) }
         ensures checked { checked_entry result
-            ≡ Book.check_entry year_interface before.now.count entry.now (hour_entry self.old.zone.now before.now.count (given_of before.now).state (item_in self.old.zone.now entry.now)) }
+            ≡ Book.check_entry year_interface before.now.count entry.now (hour_entry StillTaken self.old.zone.now before.now.count (given_of before.now).state (item_in self.old.zone.now entry.now)) }
         ensures zone { self.new.zone ≡ self.old.zone }
     {
         let version = u64::from(entry[LENGTH_SIZE]);

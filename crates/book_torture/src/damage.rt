@@ -11,7 +11,7 @@ use std::ops::Range;
 use zone::Refusal;
 
 // One bit, all bits or the highest, by the place.
-const CHANGES: [u8; 5] = [1, 255, 16, 128, 2];
+pub const CHANGES: [u8; 5] = [1, 255, 16, 128, 2];
 
 // How many of the answers to changed bytes were as expected, and which answers were expected: `held` counts acceptances.
 #[derive(Clone, Copy, Default)]
@@ -68,7 +68,7 @@ impl Damages {
         let b = &mut book.bytes[..USED];
         let changed = byte_at(b, place) ^ CHANGES[place % CHANGES.len()];
         let (expected, right) = with_bytes(b, place, [changed], |bytes| {
-            let expected = expected_at(house, bytes, place);
+            let expected = expected_at(house, bytes, PLAN, place);
             (expected, is_answered(bytes, expected))
         });
         self.count(Part::at(place), expected, right);

@@ -1,10 +1,12 @@
 // What stands in an entry of a book.
+use crate::fixed_rate::{has_fixed_rate, put_rate_twice};
 use crate::layout::{
-    CONDITIONS, CONDITIONS_PLACE, COOLING, COOLING_LIMIT_PLACE, LENGTH, LIMITS_PLACE, RATE, RESULTS,
+    CONDITIONS, CONDITIONS_PLACE, COOLING, COOLING_LIMIT_PLACE, ENTRY, LENGTH, LIMITS_PLACE, RATE,
+    RESULTS,
 };
 use crate::plan::Plan;
 use crate::version::Version;
-use big_endian::{part, read_f64_be, read_u32_be};
+use big_endian::{bytes_at, part, read_f64_be, read_u32_be};
 use zone::Limits;
 
 // Where some of the conditions stand among them.
@@ -54,6 +56,15 @@ impl<'a> Entry<'a> {
     // Its first bytes name what follows them.
     pub fn length_stands(&self) -> bool {
         read_u32_be(self.bytes, 0) as usize + LENGTH == self.bytes.len()
+    }
+
+    // The conditions as calls take them: an hour with the fixed rate, which they refuse, is the hour with target and windows open both that rate.
+    pub fn conditions_taken(&self) -> [u8; CONDITIONS] {
+        let mut b: [u8; ENTRY] = bytes_at(self.bytes, 0);
+        if has_fixed_rate(&b) {
+            put_rate_twice(&mut b);
+        }
+        bytes_at(&b, CONDITIONS_PLACE)
     }
 
     // Those of an entry of version 3. Of another these bytes are results, which no rule takes for limits.

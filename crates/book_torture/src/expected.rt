@@ -11,6 +11,13 @@ use crate::walk::{last_state, walk_on};
 use book::{BookError, BookState};
 use zone::Refusal;
 
+// The head alone.
+const NO_ENTRIES: Entries = Entries {
+    count: 0,
+    used: HEAD,
+    last_version: Version::One,
+};
+
 // What an acceptance hands back, but for the state.
 pub type Expected = Result<Entries, BookError>;
 
@@ -84,14 +91,14 @@ pub fn expected_of_rest(count: usize, rest: usize, byte: u8) -> Expected {
 
 // A byte of the head changed: its refusal, or what the other zone makes of the entries.
 fn expected_in_head(b: &[u8]) -> Expected {
-    walk_on(&House::read(b)?, b, PLAN.entries(0))
+    walk_on(&House::read(b)?, b, NO_ENTRIES)
 }
 
-// A byte changed. Where it stands in an entry the entries before it are true, and the walk begins at its own.
-pub fn expected_at(house: &House, b: &[u8], place: usize) -> Expected {
+// A byte changed, of a book in the versions of a plan. Where it stands in an entry the entries before it are true, and the walk begins at its own.
+pub fn expected_at(house: &House, b: &[u8], plan: Plan, place: usize) -> Expected {
     if place < HEAD {
         expected_in_head(b)
     } else {
-        walk_on(house, b, PLAN.entries(PLAN.whole_before(place)))
+        walk_on(house, b, plan.entries(plan.whole_before(place)))
     }
 }

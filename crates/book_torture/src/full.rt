@@ -6,6 +6,7 @@ use crate::full_questions::print_questions;
 use crate::held::check_held;
 use crate::house::House;
 use crate::layout::{FRONT, HEAD, LONG_ENTRY, YEAR};
+use crate::old_year::print_old_year;
 use crate::tally::{Mark, Tally};
 use crate::version::{VERSION_BYTES, Version};
 use crate::year::{MOST, PLAN, THREE, TWO, USED, Year};
@@ -94,5 +95,6 @@ pub fn print_year(rt: &impl Print, alloc: Global, house: &House) -> io::Result<(
     print_questions(rt, &year)?;
     print_cuts(rt, &mut year)?;
     print_many_cuts(rt, &mut year)?;
+    print_old_year(rt, alloc, &year)?;
     print_damage(rt, &held, &mut year)
 }

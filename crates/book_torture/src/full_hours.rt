@@ -1,12 +1,10 @@
 // What the hours of the year are, by version: heated, cooled, with windows open.
 use crate::entry::Entry;
+use crate::hours::ONE_RATE;
 use crate::layout::YEAR;
 use crate::version::{VERSIONS, Version};
 use crate::year::PLAN;
 use std::io;
-
-// The fixed rate of some hours: above it windows are open.
-const FIXED_RATE: f64 = 0.75;
 
 // How many hours of a version are of a kind.
 fn hours_with<F: Fn(Entry) -> bool>(b: &[u8], version: Version, is_one: F) -> usize
@@ -22,7 +20,7 @@ fn hours_with<F: Fn(Entry) -> bool>(b: &[u8], version: Version, is_one: F) -> us
 fn print_version(rt: &impl Print, b: &[u8], version: Version) -> io::Result<()> {
     let heating = hours_with(b, version, |entry| 0.0 < entry.heating());
     let cooling = hours_with(b, version, |entry| entry.cooling() < 0.0);
-    let windows = hours_with(b, version, |entry| FIXED_RATE < entry.rate());
+    let windows = hours_with(b, version, |entry| ONE_RATE < entry.rate());
     println!(rt; "  hours of version {version} with heating: {heating}")?;
     println!(rt; "  hours of version {version} with cooling: {cooling}")?;
     println!(rt; "  hours of version {version} with windows open: {windows}")

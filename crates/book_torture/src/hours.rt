@@ -9,6 +9,9 @@ use zone::Limits;
 // The hour of a year with which a book begins: a whole number of days.
 const FIRST_HOUR: usize = 3120;
 
+// The rate of hours that have one: with more, windows are open.
+pub const ONE_RATE: f64 = 0.75;
+
 // Up from 0 to 1 and down again, once in a period of twice `half`.
 fn wave(n: usize, half: usize) -> f64
     requires { 0 < half }
@@ -52,13 +55,19 @@ fn ventilation(hour: usize) -> f64 {
     if is_closed(hour) { 1.4e32 } else { 22.0 }
 }
 
-fn put_rate(b: &mut [u8; CONDITIONS], hour: usize) {
-    if hour % 5 == 0 {
-        write_f64s_be(b, 97, &[0.75, 0.0]);
+// Every fifth hour has one rate: target and windows open are equal.
+pub fn has_one_rate(hour: usize) -> bool {
+    hour % 5 == 0
+}
+
+fn put_rates(b: &mut [u8; CONDITIONS], hour: usize) {
+    let rates = if has_one_rate(hour) {
+        [ONE_RATE, ONE_RATE]
     } else {
-        put_byte(b, 96, 1);
-        write_f64s_be(b, 97, &[0.5, 4.0]);
-    }
+        [0.5, 4.0]
+    };
+    put_byte(b, 96, 1);
+    write_f64s_be(b, 97, &rates);
 }
 
 // The treatments that are open in six hours after another: none, the first, the second, both.
@@ -80,7 +89,7 @@ pub fn conditions(hour: usize) -> [u8; CONDITIONS] {
         1.0, outside, gains, light, 0.7, 0.9, heat, 24.0, vent, outside, 0.0, 30.0,
     ];
     write_f64s_be(&mut b, 0, &values);
-    put_rate(&mut b, hour);
+    put_rates(&mut b, hour);
     put_parts(&mut b, outside, light, hour);
     b
 }

@@ -57,14 +57,26 @@ impl House {
         limits: Limits,
         buf: &mut [u8],
     ) -> Reply {
-        let c = conditions(given.count);
-        book::append(&self.zone, given, &c, version, limits, buf)
+        self.append_hour(given, &conditions(given.count), version, limits, buf)
+    }
+
+    // An hour of these conditions appended.
+    pub fn append_hour(
+        &self,
+        given: BookState,
+        conditions: &[u8],
+        version: u64,
+        limits: Limits,
+        buf: &mut [u8],
+    ) -> Reply {
+        book::append(&self.zone, given, conditions, version, limits, buf)
     }
 
     // What the hour of an entry needs, and the state after it.
     pub fn hour_step(&self, before: &State, entry: Entry) -> Option<(Demand, State)> {
         let version = u64::from(entry.version);
-        let reply = before.hour_step(&self.zone, entry.conditions, version, entry.limits());
+        let c = entry.conditions_taken();
+        let reply = before.hour_step(&self.zone, &c, version, entry.limits());
         let (demand, _) = reply.answer.ok()?;
         Some((demand, reply.state))
     }
@@ -78,7 +90,8 @@ impl House {
         share: f64,
     ) -> Option<State> {
         let rate = entry.rate();
-        let reply = before.update_temperatures(&self.zone, entry.conditions, gains, share, rate);
+        let c = entry.conditions_taken();
+        let reply = before.update_temperatures(&self.zone, &c, gains, share, rate);
         reply.answer.ok()?;
         Some(reply.state)
     }

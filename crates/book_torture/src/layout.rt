@@ -20,6 +20,13 @@ pub const VERSION_PLACE: usize = LENGTH;
 
 pub const CONDITIONS_PLACE: usize = FRONT;
 
+// Of the rates, which stand in the conditions: their code, and the two.
+pub const RATE_CODE_PLACE: usize = CONDITIONS_PLACE + 96;
+
+pub const FIRST_RATE_PLACE: usize = RATE_CODE_PLACE + 1;
+
+pub const SECOND_RATE_PLACE: usize = FIRST_RATE_PLACE + 8;
+
 // Behind the conditions stand the limits where the version has them, else the results at once.
 pub const LIMITS_PLACE: usize = CONDITIONS_PLACE + CONDITIONS;
 

@@ -1,16 +1,19 @@
 // Books cut and damaged. A small book and a whole year, which both pass from version 1 to version 2 and on to version 3, are cut at
 // every byte of some entries and at 2,000 places spread over them, taken up, continued and compared with the book that was never
 // cut; single bytes are changed, versions and limits among them, and bytes stand behind the books.
-// What is left of a cut book, and the whole year, is asked when it got warm.
+// What is left of a cut book, and the whole year, is asked when it got warm. Books of old hours, with the fixed rate, are cut, damaged,
+// continued and converted.
 #![tactic(auto)]
 
 mod appends;
 mod changed;
+mod conversions;
 mod cuts;
 mod damage;
 mod entry;
 mod expected;
 mod fill;
+mod fixed_rate;
 mod follows;
 mod full;
 mod full_changes;
@@ -20,6 +23,12 @@ mod held;
 mod hours;
 mod house;
 mod layout;
+mod old;
+mod old_appends;
+mod old_book;
+mod old_cuts;
+mod old_damage;
+mod old_year;
 mod passes;
 mod plan;
 mod questions;
@@ -46,5 +55,6 @@ fn main(rt: HostRuntime) -> io::Result<()> {
         return println!(rt; "the head of the house: {}", Mark(false));
     };
     small::print_small(&rt, &house)?;
+    old::print_old(&rt, &house)?;
     full::print_year(&rt, rt.alloc(), &house)
 }

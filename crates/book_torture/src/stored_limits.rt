@@ -56,7 +56,7 @@ impl OtherLimits {
         }
         for bits in WITHIN.into_iter().filter(|bits| *bits != own) {
             let (expected, right) = with_bytes(b, place, bits.to_be_bytes(), |bytes| {
-                let expected = expected_at(house, bytes, place);
+                let expected = expected_at(house, bytes, PLAN, place);
                 (expected, is_answered(bytes, expected))
             });
             self.count_within(expected, right);

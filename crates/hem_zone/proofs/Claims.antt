@@ -1,4 +1,4 @@
--- The claims of specs/Claims.antt, proved: every refusal has a number from 1 to 23 and an index of at most 8,783, so nothing of it is cut off.
+-- The claims of specs/Claims.antt, proved: every refusal has a number from 1 to 24 and an index of at most 8,783, so nothing of it is cut off.
 use Prim.Native.Nat.{ℕ, ◌+◌, ◌*◌, ◌%◌, ◌/◌}
 use mathlib.Core.Path.{◌≡◌, refl, ap}
 use mathlib.Core.List.{List, []}
@@ -6,13 +6,15 @@ use native.Mathlib.Omega.{arith}
 use Rattle.zone.specs.Promise.{Result, RefusesOnly, accepts, refuses}
 use Rattle.zone.proofs.Promise.{bind_refuses, refuses_also}
 use Rattle.zone.specs.declared.record.zone_record.Zone.{Zone}
+use Rattle.zone.specs.declared.format.conditions.FixedRate.TheVariants.{Retired}
 use Rattle.zone.specs.Record.BuildingElement.{standard_coefficients}
 use Rattle.zone.proofs.Claims.HeadRefusals.{head_refusals}
 use Rattle.zone.proofs.Claims.Refusals.{operative_refusals, demand_refusals, update_refusals, hour_step_refusals, start_up_refusals}
 use Rattle.zone.proofs.Claims.Why.{why_refusals}
 use Rattle.book.specs.Year.{hour_item}
 use Rattle.book.proofs.Refusals.{begin_refusals, append_refusals, take_up_refusals}
-use Rattle.tools.proofs.Refusals.{question_refusals}
+use Rattle.tools.proofs.Refusals.{question_refusals, convert_refusals}
+use Rattle.hem_zone.specs.Convert.{converted_out, hem_convert_outcome}
 use Rattle.weather.proofs.Refusals.{weather_refusals}
 use Rattle.hem_zone.specs.Code.{refusal_code, answer_code, lent_after, answered}
 use Rattle.hem_zone.specs.Arrays.{state_in, limits_of}
@@ -22,7 +24,7 @@ use Rattle.hem_zone.specs.Book.{book_state_of, hem_begin_outcome, hem_append_out
 use Rattle.hem_zone.specs.Questions.{hem_first_above_outcome, hem_hours_within_outcome, hem_nearest_hour_outcome}
 use Rattle.hem_zone.specs.Weather.{hem_weather_outcome}
 use Rattle.hem_zone.specs.Claims.{AfterHead, of_head, of_call, ReturnCodeSpec, Answered, Claims}
-use Rattle.hem_zone.proofs.Laws.Numbered.{Numbered, head_numbered, operative_numbered, demand_numbered, hour_numbered, update_numbered, start_up_numbered, begin_numbered, append_numbered, take_up_numbered, question_numbered, weather_numbered, after_head_numbered}
+use Rattle.hem_zone.proofs.Laws.Numbered.{Numbered, head_numbered, operative_numbered, demand_numbered, hour_numbered, update_numbered, start_up_numbered, begin_numbered, append_numbered, take_up_numbered, question_numbered, convert_numbered, weather_numbered, after_head_numbered}
 
 -- nothing of it is cut off, and both are read back
 module _ (number index : ℕ) (p : Numbered number index) where
@@ -53,7 +55,7 @@ module _ {P : ℕ → ℕ → Type 0} (numbered : (number index : ℕ) → P num
           index = i;
           is_refused = refl;
           allowed = p;
-          in_answer = record { from_1 = q.from_1; to_23 = q.to_23; room = omega (arith, q.few) };
+          in_answer = record { from_1 = q.from_1; to_24 = q.to_24; room = omega (arith, q.few) };
           exact = e;
           HEM_NUMBER = code_number n i q;
           HEM_INDEX = code_index n i q;
@@ -73,10 +75,11 @@ with_zone_refuses head f p =
     bind_refuses _ (refuses_also (λ n i q. of_head q) (head_refusals head)) λ h _.
     refuses_also (λ n i q. of_call q) (p h.zone)
 
--- ---- the fourteen functions
+-- ---- the fifteen functions
 
 pub claims : Claims
-unfolding hem_head_outcome hem_start_up_outcome hem_operative_outcome hem_demand_outcome hem_why_outcome hem_update_outcome hem_hour_step_outcome hem_begin_outcome hem_append_outcome hem_take_up_outcome hem_first_above_outcome hem_hours_within_outcome hem_nearest_hour_outcome hem_weather_outcome
+unfolding hem_head_outcome hem_start_up_outcome hem_operative_outcome hem_demand_outcome hem_why_outcome hem_update_outcome hem_hour_step_outcome hem_begin_outcome
+    hem_append_outcome hem_take_up_outcome hem_first_above_outcome hem_hours_within_outcome hem_nearest_hour_outcome hem_convert_outcome hem_weather_outcome
 claims =
     record {
       hem_head = λ head. returned head_numbered (head_refusals head);
@@ -87,7 +90,7 @@ claims =
           (with_zone_refuses head _ λ z. operative_refusals standard_coefficients z (state_in temps nodes) []);
       hem_demand = λ head temps nodes conditions out.
           answers (after_head_numbered demand_numbered) _ _
-          (with_zone_refuses head _ λ z. demand_refusals standard_coefficients z (state_in temps nodes) conditions);
+          (with_zone_refuses head _ λ z. demand_refusals standard_coefficients z Retired (state_in temps nodes) conditions);
       hem_why = λ head temps nodes conditions reason load.
           answers (after_head_numbered demand_numbered) _ _
           (with_zone_refuses head _ λ z. why_refusals standard_coefficients z (state_in temps nodes) conditions);
@@ -96,7 +99,7 @@ claims =
           (with_zone_refuses head _ λ z. update_refusals standard_coefficients z (state_in temps nodes) conditions gains fraction rate);
       hem_hour_step = λ head temps nodes conditions version heating_limit cooling_limit out balance.
           answers (after_head_numbered hour_numbered) _ _
-          (with_zone_refuses head _ λ z. hour_step_refusals standard_coefficients z (state_in temps nodes) conditions version (limits_of heating_limit cooling_limit));
+          (with_zone_refuses head _ λ z. hour_step_refusals standard_coefficients z Retired (state_in temps nodes) conditions version (limits_of heating_limit cooling_limit));
       hem_begin = λ head buf held. answers begin_numbered _ _ (begin_refusals head buf);
       hem_append = λ head buf held conditions version heating_limit cooling_limit.
           answers (after_head_numbered (append_numbered held.count)) _ _
@@ -105,5 +108,6 @@ claims =
       hem_first_above = λ bytes value hour. answers question_numbered _ _ (question_refusals.first_above bytes value);
       hem_hours_within = λ bytes lower upper hours. answers question_numbered _ _ (question_refusals.hours_within_lem bytes lower upper);
       hem_nearest_hour = λ bytes value hour. answers question_numbered _ _ (question_refusals.nearest_hour_lem bytes value);
+      hem_convert = λ bytes out count used. answers convert_numbered (converted_out out) (out, (count, used)) (convert_refusals bytes out);
       hem_weather = λ file line weather. answers weather_numbered _ _ (weather_refusals.weather file line);
     }

@@ -1,4 +1,6 @@
 -- The three demands of specs/Demands.antt, from the theorems that prove them.
+use Rattle.zone.proofs.Claims.FixedRate.{retired_claims, hour_still}
+use Rattle.zone.proofs.Claims.SameHour.{same_hour}
 use Rattle.zone.specs.Record.BuildingElement.{standard_coefficients}
 use mathlib.Core.Path.{refl}
 use Rattle.zone.proofs.Claims.Demand.{demand_call_signs, hour_call_signs}
@@ -20,7 +22,8 @@ use Rattle.book.proofs.HouseP.{begin_of_p, books_of_p}
 use Rattle.book.proofs.Refusals.{book_refusals}
 use Rattle.book.proofs.VersionOrder as Order
 use Rattle.tools.proofs.Claims.{question_claims}
-use Rattle.tools.proofs.Refusals.{question_refusals}
+use Rattle.tools.proofs.Refusals.{question_refusals, convert_refusals}
+use Rattle.tools.proofs.ConvertClaims.{convert_claims}
 use Rattle.hem_zone.specs.Demands.{Demands}
 use Rattle.hem_zone.proofs.Claims.{claims}
 use Rattle.hem_zone.proofs.ToldApart.{told_apart}
@@ -38,7 +41,7 @@ demands =
       demand_2 = λ z. record {
         heads = head_claims;
         zone = zone_claims z;
-        conditions = conditions_claims z;
+        conditions = λ fixed. conditions_claims fixed z;
         refusals = call_refusals standard_coefficients z;
         demand_reasons = demand_reasons standard_coefficients z;
         hour_reasons = hour_reasons standard_coefficients z;
@@ -54,7 +57,10 @@ demands =
         is_not_settled = start_up_is_not_settled standard_coefficients z;
         settled = start_up_settled standard_coefficients z;
         is_settled = start_up_is_settled standard_coefficients z;
-        versions = Hours.version_claims standard_coefficients z;
+        versions = λ fixed. Hours.version_claims fixed standard_coefficients z;
+        retired = retired_claims z;
+        hour_still = hour_still standard_coefficients z;
+        same_hour = same_hour standard_coefficients z;
         directions = yields_direction;
         update_directions = update_by_direction z;
         hour_directions = hour_by_direction z;
@@ -86,6 +92,8 @@ demands =
       books_of_p = books_of_p;
       questions = question_claims;
       question_refusals = question_refusals;
+      conversion = convert_claims;
+      convert_refusals = convert_refusals;
       weather = weather_claims;
       weather_refusals = weather_refusals;
     }

@@ -5,6 +5,7 @@ use mathlib.Core.List.{List}
 use lib.Ieee.{Float}
 use Rattle.zone.specs.Promise.{Result, ok, refused, bind}
 use Rattle.zone.specs.declared.record.zone_record.Zone.{Zone}
+use Rattle.zone.specs.declared.format.conditions.FixedRate.TheVariants.{Retired}
 use Rattle.zone.specs.Record.BuildingElement.{standard_coefficients}
 use Rattle.zone.specs.Check.ZoneTest.{zone_test}
 use Rattle.zone.specs.Inner.Head.{structured_head}
@@ -46,11 +47,11 @@ module _ (head : List ℕ) where
     module _ (conditions : List ℕ) where
       pub demand_by_structure : (out : List Float)
           → hem_demand_outcome head temps nodes conditions out
-          ≡ answered demand_out out (bind (structured_head head) λ h. demand standard_coefficients h.zone (state_in temps nodes) conditions)
+          ≡ answered demand_out out (bind (structured_head head) λ h. demand Retired standard_coefficients h.zone (state_in temps nodes) conditions)
       unfolding hem_demand_outcome
       demand_by_structure out =
-          by_structure demand_out out head (λ z. demand standard_coefficients z (state_in temps nodes) conditions)
-          (λ z a b q. demand_judges z a b q standard_coefficients (state_in temps nodes) conditions)
+          by_structure demand_out out head (λ z. demand Retired standard_coefficients z (state_in temps nodes) conditions)
+          (λ z a b q. demand_judges z a b q standard_coefficients (state_in temps nodes) conditions Retired)
 
       pub why_by_structure : (reason load : ℕ)
           → hem_why_outcome head temps nodes conditions reason load
@@ -71,11 +72,11 @@ module _ (head : List ℕ) where
       pub hour_by_structure : (version : ℕ) (heating_limit cooling_limit : Float) (out balance : List Float)
           → hem_hour_step_outcome head temps nodes conditions version heating_limit cooling_limit out balance
           ≡ answered hour_out (temps, out, balance)
-          (bind (structured_head head) λ h. hour_step standard_coefficients h.zone version (limits_of heating_limit cooling_limit) (state_in temps nodes) conditions)
+          (bind (structured_head head) λ h. hour_step Retired standard_coefficients h.zone version (limits_of heating_limit cooling_limit) (state_in temps nodes) conditions)
       unfolding hem_hour_step_outcome
       hour_by_structure version heating_limit cooling_limit out balance =
-          by_structure hour_out (temps, out, balance) head (λ z. hour_step standard_coefficients z version (limits_of heating_limit cooling_limit) (state_in temps nodes) conditions)
-          (λ z a b q. hour_judges z a b q standard_coefficients (state_in temps nodes) conditions version (limits_of heating_limit cooling_limit))
+          by_structure hour_out (temps, out, balance) head (λ z. hour_step Retired standard_coefficients z version (limits_of heating_limit cooling_limit) (state_in temps nodes) conditions)
+          (λ z a b q. hour_judges z a b q standard_coefficients (state_in temps nodes) conditions Retired version (limits_of heating_limit cooling_limit))
 
 append_judges : (given : Book.BookState Carried) (i : Item) (buf : List ℕ) (z : Zone) (a b : ℕ) → zone_test z ≡ refused a b → Book.append_res year_interface z given i buf ≡ refused a b
 unfolding Book.append_res

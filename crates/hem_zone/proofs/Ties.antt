@@ -1,4 +1,4 @@
--- The contracts of the fourteen functions, tied to their definitions. A contract speaks of references: a has the arguments as they were given, e what
+-- The contracts of the fifteen functions, tied to their definitions. A contract speaks of references: a has the arguments as they were given, e what
 -- was lent as the call left it, each by its place among the parameters; `now` is what stands behind a reference.
 use contract.Lifetimes.{Lfts}
 use borrow.Author.Rules.{rules}
@@ -6,6 +6,7 @@ use Rattle.hem_zone.specs.Zone.{hem_head_outcome, hem_start_up_outcome, hem_oper
 use Rattle.hem_zone.specs.Why.{hem_why_outcome}
 use Rattle.hem_zone.specs.Book.{c_book_state, hem_begin_outcome, hem_append_outcome, hem_take_up_outcome}
 use Rattle.hem_zone.specs.Questions.{hem_first_above_outcome, hem_hours_within_outcome, hem_nearest_hour_outcome}
+use Rattle.hem_zone.specs.Convert.{hem_convert_outcome}
 use Rattle.hem_zone.specs.Weather.{hem_weather_outcome}
 use Rattle.hem_zone.specs.Ties.{Tied}
 use Rattle.hem_zone.proofs.head.hem_head.Reads as head_reads
@@ -21,6 +22,7 @@ use Rattle.hem_zone.proofs.book_calls.hem_take_up.Reads as take_up_reads
 use Rattle.hem_zone.proofs.questions.hem_first_above.Reads as first_above_reads
 use Rattle.hem_zone.proofs.questions.hem_hours_within.Reads as hours_within_reads
 use Rattle.hem_zone.proofs.questions.hem_nearest_hour.Reads as nearest_hour_reads
+use Rattle.hem_zone.proofs.convert.hem_convert.Reads as convert_reads
 use Rattle.hem_zone.proofs.weather_file.hem_weather.Reads as weather_reads
 
 -- each for the lifetimes κs of its references. The record stands in proofs/, since specs/ cannot name a function's contract; its form is in specs/Ties.antt
@@ -87,6 +89,11 @@ pub record Ties : Type 0 where
       (κs : Lfts 2) → Tied (nearest_hour_reads.Pre κs) (nearest_hour_reads.Post κs)
       (λ r e. (r, e.1.1.0.now))
       (λ a. hem_nearest_hour_outcome a.0.now a.1.0 a.1.1.0.now)
+  -- fn hem_convert(bytes, out, count, used)
+  pub hem_convert :
+      (κs : Lfts 4) → Tied (convert_reads.Pre κs) (convert_reads.Post κs)
+      (λ r e. (r, (e.1.0.now, (e.1.1.0.now, e.1.1.1.0.now))))
+      (λ a. hem_convert_outcome a.0.now a.1.0.now a.1.1.0.now a.1.1.1.0.now)
   -- fn hem_weather(file, line, weather)
   pub hem_weather :
       (κs : Lfts 2) → Tied (weather_reads.Pre κs) (weather_reads.Post κs)
@@ -109,5 +116,6 @@ ties =
       hem_first_above = λ κs. record { asks_nothing = λ a. search rules; is_definition = λ a r e p. p };
       hem_hours_within = λ κs. record { asks_nothing = λ a. search rules; is_definition = λ a r e p. p };
       hem_nearest_hour = λ κs. record { asks_nothing = λ a. search rules; is_definition = λ a r e p. p };
+      hem_convert = λ κs. record { asks_nothing = λ a. search rules; is_definition = λ a r e p. p };
       hem_weather = λ κs. record { asks_nothing = λ a. search rules; is_definition = λ a r e p. p };
     }

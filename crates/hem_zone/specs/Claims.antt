@@ -10,6 +10,7 @@ use Rattle.zone.specs.Calls.Hour.{demand, update_temperatures, hour_step}
 use Rattle.zone.specs.Calls.StartUp.{init_node_temps}
 use Rattle.zone.specs.Calls.Why.{why}
 use Rattle.zone.specs.Claims.Refusals.{OperativeRefusal, DemandRefusal, HourRefusal, UpdateRefusal, StartUpRefusal}
+use Rattle.zone.specs.declared.format.conditions.FixedRate.TheVariants.{Retired}
 use Rattle.book.specs.Model.Calls as Book
 use Rattle.book.specs.Year.{hour_item, year_interface}
 use Rattle.book.specs.Refusals.{BeginRefusal, AppendRefusal, TakeUpRefusal}
@@ -18,7 +19,9 @@ use Rattle.hem_zone.specs.Arrays.{state_in, demand_out, limits_of}
 use Rattle.hem_zone.specs.Zone.{with_zone, hem_head_outcome, start_up_out, hem_start_up_outcome, hem_operative_outcome, hem_demand_outcome, update_out, hem_update_outcome, hour_out, hem_hour_step_outcome}
 use Rattle.hem_zone.specs.Why.{why_out, hem_why_outcome}
 use Rattle.tools.specs.Questions.{first_above_in, hours_within_in, nearest_hour_in}
-use Rattle.tools.specs.Refusals.{QuestionRefusal}
+use Rattle.tools.specs.Refusals.{QuestionRefusal, ConvertRefusal}
+use Rattle.tools.specs.Convert.{convert_in}
+use Rattle.hem_zone.specs.Convert.{converted_out, hem_convert_outcome}
 use Rattle.hem_zone.specs.Questions.{hour_or_none, hem_first_above_outcome, hem_hours_within_outcome, hem_nearest_hour_outcome}
 use Rattle.weather.specs.Weather.{weather_of}
 use Rattle.weather.specs.Refusals.{WeatherRefusal}
@@ -33,7 +36,7 @@ pub data AfterHead (P : (number index : ℕ) → Type 0) : (number index : ℕ) 
 -- a number of the papers, and an index for which the 32 bits of an answer have room beside it
 pub record InAnswer (number index : ℕ) : Type 0 where
   pub from_1 : 1 ≤ number
-  pub to_23 : number ≤ 23
+  pub to_24 : number ≤ 24
   pub room : index < 16777216
 
 -- Replies are told apart: no refusal is returned as acceptance is, and two that are returned as one number are one refusal
@@ -75,7 +78,7 @@ pub record Claims : Type 0 where
       → Answered (AfterHead OperativeRefusal) (λ t. t) before (with_zone head λ z. operative z (state_in temps nodes)) (hem_operative_outcome head temps nodes before)
   pub hem_demand :
       (head : List ℕ) (temps : List Float) (nodes : ℕ) (conditions : List ℕ) (out : List Float)
-      → Answered (AfterHead DemandRefusal) demand_out out (with_zone head λ z. demand standard_coefficients z (state_in temps nodes) conditions)
+      → Answered (AfterHead DemandRefusal) demand_out out (with_zone head λ z. demand Retired standard_coefficients z (state_in temps nodes) conditions)
       (hem_demand_outcome head temps nodes conditions out)
   pub hem_why :
       (head : List ℕ) (temps : List Float) (nodes : ℕ) (conditions : List ℕ) (reason load : ℕ)
@@ -89,7 +92,7 @@ pub record Claims : Type 0 where
   pub hem_hour_step :
       (head : List ℕ) (temps : List Float) (nodes : ℕ) (conditions : List ℕ) (version : ℕ) (heating_limit cooling_limit : Float) (out balance : List Float)
       → Answered (AfterHead HourRefusal) hour_out (temps, out, balance)
-      (with_zone head λ z. hour_step standard_coefficients z version (limits_of heating_limit cooling_limit) (state_in temps nodes) conditions)
+      (with_zone head λ z. hour_step Retired standard_coefficients z version (limits_of heating_limit cooling_limit) (state_in temps nodes) conditions)
       (hem_hour_step_outcome head temps nodes conditions version heating_limit cooling_limit out balance)
   pub hem_begin :
       (head buf : List ℕ) (held : CBookState) → Answered BeginRefusal book_out (buf, held) (Book.begin_res year_interface head buf) (hem_begin_outcome head buf held)
@@ -105,5 +108,7 @@ pub record Claims : Type 0 where
       (bytes : List ℕ) (lower upper : Float) (hours : ℕ) → Answered QuestionRefusal (λ n. n) hours (hours_within_in bytes lower upper) (hem_hours_within_outcome bytes lower upper hours)
   pub hem_nearest_hour :
       (bytes : List ℕ) (value : Float) (hour : ℕ) → Answered QuestionRefusal hour_or_none hour (nearest_hour_in bytes value) (hem_nearest_hour_outcome bytes value hour)
+  pub hem_convert :
+      (bytes out : List ℕ) (count used : ℕ) → Answered ConvertRefusal (converted_out out) (out, (count, used)) (convert_in bytes out) (hem_convert_outcome bytes out count used)
   pub hem_weather :
       (file : List ℕ) (line : ℕ) (weather : List Float) → Answered WeatherRefusal weather_out weather (weather_of file line) (hem_weather_outcome file line weather)

@@ -2,7 +2,7 @@
 use Rattle.std.specs.Prelude.{ℕ, ◌+◌, ◌*◌, ◌%◌, ◌^◌}
 use Rattle.zone.specs.Promise.{Result, ok, refused}
 
--- number + 256 × index, in the 32 bits of an answer. A number is at most 23 and an index at most 8,783, so nothing is cut off: `exact` in Claims.antt.
+-- number + 256 × index, in the 32 bits of an answer. A number is at most 24 and an index at most 8,783, so nothing is cut off: `exact` in Claims.antt.
 unfoldable pub refusal_code : (number index : ℕ) → ℕ
 refusal_code number index = (number + 256 * index) % 2 ^ 32
 

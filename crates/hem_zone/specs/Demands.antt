@@ -1,8 +1,9 @@
--- The three demands for the engine as a whole: for the fourteen functions that C calls. A call returns and leaves what its function's definition says
--- (specs/Zone.antt, specs/Book.antt and those beside them): that is the contract's, which the check proves, as it proves that the call ends, and `Ties` (proofs/Ties.antt) says it of each contract. So the
--- demands are stated of the definitions. Each line is a type that is proved elsewhere.
+-- The three demands for the engine as a whole: for the fifteen functions that C calls. A call returns and leaves what its function's definition says
+-- (specs/Zone.antt, specs/Book.antt and those beside them): that is the contract's, which the check proves, as it proves that the call ends, and `Ties`
+-- (proofs/Ties.antt) says it of each contract. So the demands are stated of the definitions. Each line is a type that is proved elsewhere.
 use Rattle.std.specs.Prelude.{◌≡◌, Bool, true, List, ◌++◌, take, ℕ, Float}
 use Rattle.zone.specs.declared.format.limits.Limits.{Limits}
+use Rattle.zone.specs.declared.format.conditions.FixedRate.{FixedRate}
 use Rattle.zone.specs.declared.record.zone_record.Zone.{Zone}
 use Rattle.zone.specs.Promise.{ok}
 use Rattle.zone.specs.declared.calls.state.State.{State}
@@ -19,6 +20,7 @@ use Rattle.zone.specs.Claims.NodeOrder.{NodeOrder}
 use Rattle.zone.specs.Claims.StateClaims.{StateKept, UpdateStateTested, HourStateTested, StartUpStateTested}
 use Rattle.zone.specs.Claims.Reasons.{DemandReasons, HourReasons, UpdateReasons, StartUpReasons}
 use Rattle.zone.specs.Claims.HouseP.{HousePClaims, all_hold, table}
+use Rattle.zone.specs.Claims.FixedRate.{RetiredClaims, HourStill, SameHour}
 use Rattle.book.specs.Model.Plain.{empty, book, WellFormed}
 use Rattle.book.specs.Model.Calls as Calls
 use Rattle.book.specs.Model.Session.{CallSpec}
@@ -31,6 +33,8 @@ use Rattle.book.specs.PlantLimits.{PlantClaims, LimitsApart}
 use Rattle.book.specs.Year.{Carried, hour_item, year_interface}
 use Rattle.tools.specs.Claims.{QuestionClaims}
 use Rattle.tools.specs.Refusals.{QuestionRefusals}
+use Rattle.tools.specs.Refusals.{ConvertRefusals}
+use Rattle.tools.specs.ConvertClaims.{ConvertClaims}
 use Rattle.weather.specs.Claims.{WeatherClaims}
 use Rattle.weather.specs.Refusals.{WeatherRefusals}
 use Rattle.hem_zone.specs.Arrays.{limits_of}
@@ -56,7 +60,7 @@ pub record Demand2 (z : Zone) : Type 0 where
   -- a head's own bytes decide it, a zone given as a record is judged as its head would be, and an hour's conditions are read as they are written;
   pub heads : HeadClaims
   pub zone : ZoneClaims z
-  pub conditions : (bytes : List ℕ) → ConditionsClaims z bytes
+  pub conditions : (fixed : FixedRate) (bytes : List ℕ) → ConditionsClaims fixed z bytes
   -- the refusals of each call are the paper's, and come only under its conditions,
   pub refusals : CallRefusals standard_coefficients z
   pub demand_reasons : DemandReasons standard_coefficients z
@@ -68,7 +72,7 @@ pub record Demand2 (z : Zone) : Type 0 where
   pub demand_signs : DemandCallSigns standard_coefficients z
   pub hour_signs : HourCallSigns standard_coefficients z
   -- the reason that is named for an hour's rate is the earliest of the paper's list that holds and tells which rate the demand chose, the load beside it is the
-  -- demand's; an hour is refused exactly where its demand is, and alike,
+  -- demand's; an hour is refused exactly where its demand is, and alike, by a demand that still takes code 0,
   pub why_answers : WhyAnswers standard_coefficients z
   pub why_refuses : WhyRefuses standard_coefficients z
   pub why_numbers : WhyNumbers
@@ -79,7 +83,12 @@ pub record Demand2 (z : Zone) : Type 0 where
   pub is_settled : StartUpIsSettled standard_coefficients z
   -- version 1's hour is document 01's, version 2's has the cooling fraction for power below 0, version 3's a limit on what is delivered or 19, any other
   -- version is 18,
-  pub versions : (s : State) (bytes : List ℕ) → Hours.VersionClaims standard_coefficients z s bytes
+  pub versions : (fixed : FixedRate) (s : State) (bytes : List ℕ) → Hours.VersionClaims fixed standard_coefficients z s bytes
+  -- "The fixed rate code 0 .. refused under 8, in its old place"; what an hour step gives is what an entry is judged by; and an hour with the fixed rate that is
+  -- judged true is, with code 1 and the rate twice, the same hour for a call
+  pub retired : (bytes : List ℕ) → RetiredClaims z bytes
+  pub hour_still : HourStill standard_coefficients z
+  pub same_hour : SameHour standard_coefficients z
   -- of each accepted update and hour step every term of the convective total stands in exactly one of the three sums by direction, which `h_ci` yields,
   pub directions : YieldsDirection
   pub update_directions : UpdateByDirection z
@@ -131,6 +140,9 @@ pub record Demands (Ties : Type 0) : Type 1 where
   -- the questions over an accepted book, and what they are refused with
   pub questions : QuestionClaims
   pub question_refusals : QuestionRefusals
+  -- the converter: what it keeps to the bit, that converting again changes nothing, and what it is refused with
+  pub conversion : ConvertClaims
+  pub convert_refusals : ConvertRefusals
   -- the weather of a line: a file that is written as the paper says is read so, and what it is refused with
   pub weather : WeatherClaims
   pub weather_refusals : WeatherRefusals

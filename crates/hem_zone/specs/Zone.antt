@@ -7,6 +7,7 @@ use Rattle.zone.specs.Record.BuildingElement.{standard_coefficients}
 use Rattle.zone.specs.Format.Head.{head_of}
 use Rattle.zone.specs.declared.physics.balance.HeatBalance.{HeatBalance}
 use Rattle.zone.specs.declared.calls.state.State.{State}
+use Rattle.zone.specs.declared.format.conditions.FixedRate.TheVariants.{Retired}
 use Rattle.zone.specs.Calls.State.{operative}
 use Rattle.zone.specs.Calls.Hour.{HourResult, demand, update_temperatures, hour_step}
 use Rattle.zone.specs.Calls.StartUp.{init_node_temps}
@@ -32,7 +33,7 @@ hem_start_up_outcome head temps nodes =
 unfoldable pub hem_demand_outcome : (head : List ℕ) → (temps : List Float) → (nodes : ℕ) → (conditions : List ℕ) → (out : List Float) → ℕ × List Float
 hem_demand_outcome head temps nodes conditions out =
     answered demand_out out
-    (with_zone head λ z. demand standard_coefficients z (state_in temps nodes) conditions)
+    (with_zone head λ z. demand Retired standard_coefficients z (state_in temps nodes) conditions)
 
 -- writes the operative temperature to `operative`
 unfoldable pub hem_operative_outcome : (head : List ℕ) → (temps : List Float) → (nodes : ℕ) → (before : Float) → ℕ × Float
@@ -61,4 +62,4 @@ unfoldable pub hem_hour_step_outcome :
     → ℕ × (List Float × List Float × List Float)
 hem_hour_step_outcome head temps nodes conditions version heating_limit cooling_limit out balance =
     answered hour_out (temps, out, balance)
-    (with_zone head λ z. hour_step standard_coefficients z version (limits_of heating_limit cooling_limit) (state_in temps nodes) conditions)
+    (with_zone head λ z. hour_step Retired standard_coefficients z version (limits_of heating_limit cooling_limit) (state_in temps nodes) conditions)

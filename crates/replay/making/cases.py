@@ -10,7 +10,7 @@ import tempfile
 from making.layout import (
     COOLING_FRACTION, HEATING_FRACTION, MILLION, RUST_BALANCE_VALUES, elements_of, floats_at, node_count, record, u16)
 from making.direction_cases import HELD, with_sums
-from making.oracle import answered, in_version_2, number_of
+from making.oracle import answered, asked_twice, in_version_2, number_of
 from making.limited_cases import LIMIT_CASES, LIMIT_KINDS, in_version_3
 from making.near_demands import coarse_demands, near_setpoints
 from making.why_cases import WHY_HELD, demands_in, why
@@ -34,6 +34,8 @@ SAMPLES = [
 ]
 # of the demands of which others are made (making/near_demands.py)
 NEAR_SAMPLE = (1304, 1500, "mix", "1", 5, 1000)
+# how many cases of each operation are asked with the fixed rate and with the rate twice, at least
+RATE_TWICE = 100
 # cases that the versions answer differently, and how many there are at least
 COOLED_BY_TWO, COOLED = "op 5 cooled, fractions differ", 100
 
@@ -167,3 +169,5 @@ def make_cases(oracle, program, out):
     assert all(LIMIT_CASES <= seen["limits " + kind] for kind in LIMIT_KINDS)
     assert all(least <= seen[name] for name, least in (HELD | WHY_HELD).items())
     print("cases: %d kept, %d left out (beyond a million), %d bytes" % (kept, left_out, total))
+    print("  asked with the fixed rate and with the rate twice, by the oracle's operation:", dict(sorted(asked_twice.items())))
+    assert all(RATE_TWICE <= asked_twice[op] for op in (1, 2, 4))

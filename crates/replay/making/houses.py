@@ -17,9 +17,10 @@ def head_of(elements, basis=0, limit=10, values=(36.0, 100.0, 43.0625, 20.0, 20.
     return record(b)
 
 
-def conditions_of(head, v=(1.0, 20.0, 0.0, 0.0, 1.0, 1.0, 20.0, 24.0, NO_CONTROL, 20.0, 0.0, 0.0), rate=(0, 0.0, 0.0),
+def conditions_of(head, v=(1.0, 20.0, 0.0, 0.0, 1.0, 1.0, 20.0, 24.0, NO_CONTROL, 20.0, 0.0, 0.0), rates=(0.0, 0.0),
                   part=PART):
-    return f64(*v) + bytes([rate[0]]) + f64(*rate[1:]) + (f64(*part) + b"\0") * head[6]
+    """target and windows open, as in House P both 0 where it is not said otherwise"""
+    return f64(*v) + b"\1" + f64(*rates) + (f64(*part) + b"\0") * head[6]
 
 
 HOUSE_P = head_of([element()])
@@ -44,7 +45,8 @@ HOT_START = head_of([element(area=1e-6, h=(1e-6, 0.0, 0.0), k=(0.0, 0.0))],
                     values=(1e5, 1e-3, 1e-9, 10.0, 20.0, NO_CONTROL))
 # House P in balance: bytes of its head, of an entry and of the limits in one, and its temperatures
 HEAD, ENTRY, LIMITS, BALANCE = 180, 216, 16, (20.0, 20.0, 20.0)
-# in an entry: the version byte, and the end of the front that a rest needs to be looked at; the limits
+# in an entry: the version byte, and the end of the front that a rest needs to be looked at, where the conditions begin;
+# the limits
 VERSION_PLACE, FRONT, LIMITS_PLACE = 4, 5, 159
 
 
@@ -58,12 +60,13 @@ def room_for_one(version):
     return HEAD + entry_size(version)
 
 
-def entry_p(version=1, conditions=None, heating=0.0, cooling=0.0, temps=BALANCE, limits=(MOST_LIMIT, 0.0)):
+def entry_p(version=1, conditions=None, heating=0.0, cooling=0.0, temps=BALANCE, limits=(MOST_LIMIT, 0.0), rate=0.0,
+            trigger=b"\0" + bytes(8)):
     """an entry of House P; in balance no power is delivered, so it is the same under every version but for its byte and
     the limits, which stand behind the conditions from version 3 on"""
     b = bytes([version]) + (conditions or conditions_of(HOUSE_P))
     b += f64(*limits) if version == LIMITS_VERSION else b""
-    b += f64(heating, cooling, 0.0) + b"\0" + f64(0.0) + f64(*temps)
+    b += f64(heating, cooling, rate) + trigger + f64(*temps)
     assert len(b) == entry_size(version) - 4
     return record(b)
 

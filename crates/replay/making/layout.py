@@ -8,7 +8,7 @@ MILLION = 1e6
 HEATING_FRACTION, COOLING_FRACTION = 32, 40
 GAINS_CONVECTIVE, GAINS_RADIATIVE = 80, 88
 # of heating, cooling and ventilation setpoint, with the supply's temperature behind them; of the rate code and the rates
-SETPOINTS, RATE_CODE, RATES = 48, 96, 97
+SETPOINTS, RATE_CODE, RATES, SECOND_RATE, ELEMENT_HOURS = 48, 96, 97, 105, 113
 # entry versions that hours have, the first with limits, and some that no hour has
 VERSIONS, LIMITS_VERSION, NO_VERSIONS = (1, 2, 3), 3, (0, 4, 257, 2 ** 64 - 1)
 # greatest limit, W
@@ -42,6 +42,24 @@ def record(b):
 
 def put(b, at, new):
     return b[:at] + new + b[at + len(new):]
+
+
+def has_fixed_rate(conditions):
+    """code 0: one rate, and a second float of all zero bits"""
+    return conditions[RATE_CODE] == 0
+
+
+def with_rate_twice(conditions):
+    """of an hour with the fixed rate: code 1, and the rate's own bits in both floats"""
+    assert has_fixed_rate(conditions)
+    return put(conditions, RATE_CODE, b"\1" + 2 * conditions[RATES:SECOND_RATE])
+
+
+def with_fixed_rate(conditions):
+    """of an hour with code 1 and one rate in both floats"""
+    rate = conditions[RATES:SECOND_RATE]
+    assert conditions[RATE_CODE:ELEMENT_HOURS] == b"\1" + 2 * rate
+    return put(conditions, RATE_CODE, b"\0" + rate + bytes(8))
 
 
 def floats_at(b, at, n):

@@ -84,6 +84,7 @@ def make_limit_order(rows, head, turn):
     t = [20.0] * n
     crossed = put(put(c, 48, f64(22.0)), 56, f64(21.0))
     before = [(7, 0, c[:-1]), (7, 0, b""), (8, 0, put(c, 96, b"\2")), (8, 0, put(c, 153, b"\x80"))]
+    before += [(8, 0, put(c, 96, b"\0"))]
     before += [(9, 0, put(c, 0, f64(0.0))), (9, 0, put(c, 32, f64(1.5))), (9, 0, put(c, 97, f64(NAN)))]
     before += [(9, i + 1, put(c, 113 + 41 * i, f64(101.0))) for i in range(head[6])]
     behind = [(head, crossed), (head, put(c, 64, f64(19.0))), (head, put(crossed, 64, f64(19.0)))]

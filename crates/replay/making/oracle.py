@@ -1,8 +1,10 @@
 """The oracle's cases and its lines of answers."""
+import collections
 import struct
 import subprocess
+import sys
 
-from making.layout import COOLING_FRACTION, HEATING_FRACTION, put, u16, u32
+from making.layout import COOLING_FRACTION, HEATING_FRACTION, has_fixed_rate, put, u16, u32, with_rate_twice
 
 NUMBERS = [
     ("err Cooling setpoint is below", 10),
@@ -51,11 +53,42 @@ def number_of(line):
     return 0
 
 
+# the cases with the fixed rate that were asked again with the rate twice, by operation
+asked_twice = collections.Counter()
+
+
+def lines_for(program, cases, answers):
+    """the oracle's lines for the cases of a file"""
+    subprocess.run([program, cases, answers], check=True)
+    with open(answers) as a:
+        return a.read().splitlines()
+
+
+def check_rate_twice(program, answers, pairs):
+    """the Rust gives an hour with the fixed rate (its `Cooling`) and the same hour with this rate as target and with
+    windows open (its `TargetAndWindowsOpen`) the same line. Where it does not, that ends here, with the smallest case"""
+    fixed = [(case, line) for case, line in pairs if case[3] and has_fixed_rate(case[3])]
+    if not fixed:
+        return
+    cases = answers + ".twice"
+    with open(cases, "wb") as f:
+        for (op, head, temps, conditions, own), _ in fixed:
+            f.write(case_bytes(op, head, temps, with_rate_twice(conditions), own if op == 2 else b""))
+    lines = lines_for(program, cases, answers + ".lines")
+    assert len(lines) == len(fixed)
+    others = [(case_bytes(*case).hex(), line, other) for (case, line), other in zip(fixed, lines) if line != other]
+    if others:
+        sys.exit("with the rate twice the original answers otherwise: case, line, and line with the rate twice\n"
+                 + "\n".join(min(others, key=lambda other: len(other[0]))))
+    asked_twice.update(case[0] for case, _ in fixed)
+
+
 def answered(program, cases, answers):
     """the cases of a file, each with the oracle's line"""
-    subprocess.run([program, cases, answers], check=True)
-    with open(cases, "rb") as c, open(answers) as a:
-        pairs = list(zip(read_cases(c.read()), a.read().splitlines()))
+    lines = lines_for(program, cases, answers)
+    with open(cases, "rb") as c:
+        pairs = list(zip(read_cases(c.read()), lines))
+    check_rate_twice(program, answers, pairs)
     return pairs
 
 

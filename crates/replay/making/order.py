@@ -73,11 +73,16 @@ def state_answer(head, nodes, temps):
     return (0, 0) if good else (6, 0)
 
 
-def conditions_answer(head, c):
+def rate_code_good(c, fixed_taken):
+    """code 1; code 0, with a second float of all zero bits, where it is still taken: by `why`, and in stored entries"""
+    return c[96] == 1 or (fixed_taken and c[96] == 0 and c[105:113] == bytes(8))
+
+
+def conditions_answer(head, c, fixed_taken=False):
     n = head[6]
     if len(c) != 113 + 41 * n:
         return 7, 0
-    if c[96] > 1 or (c[96] == 0 and c[105:113] != bytes(8)):
+    if not rate_code_good(c, fixed_taken):
         return 8, 0
     for i, (_, t, _) in enumerate(elements_of(head)):
         if c[113 + 41 * i + 40] >= 1 << t:

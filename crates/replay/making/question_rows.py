@@ -4,7 +4,7 @@ from fractions import Fraction
 
 from making.layout import (
     GAINS_CONVECTIVE, LIMITS_VERSION, MILLION, MOST_LIMIT, NO_CONTROL, VERSIONS, f64, floats_at,
-    node_count, put, record, u64)
+    node_count, put, record, u64, with_fixed_rate)
 from making.operative import operative
 from making.order import head_answer
 from making.houses import (
@@ -45,9 +45,10 @@ def hours_of(head, airs):
     return found
 
 
-def entry(head, version, gains, temps):
-    """an hour with neither heating nor cooling"""
+def entry(head, version, gains, temps, fixed=False):
+    """an hour with neither heating nor cooling, with code 1 or with the fixed rate"""
     c = put(put(conditions_of(head), 48, f64(-100.0, 100.0)), GAINS_CONVECTIVE, f64(gains))
+    c = with_fixed_rate(c) if fixed else c
     limits = f64(MOST_LIMIT, 0.0) if version == LIMITS_VERSION else b""
     return record(bytes([version]) + c + limits + f64(0.0, 0.0, 0.0) + b"\0" + f64(0.0) + f64(*temps))
 
@@ -97,7 +98,8 @@ def make_turned_away(rows):
 
 
 def make_hours(rows):
-    """books by what their hours bring the air to; a rest behind them, and the last byte of one lost"""
+    """books by what their hours bring the air to, every second hour with the fixed rate; a rest behind them, and the last
+    byte of one lost"""
     rounded = (22.0, 19.5, 22.0 + 2.0 ** -36)
     for head, airs, versions in ((HOUSE_P, (), ()), (HOUSES_R[0], (), ()),
                                  (HOUSE_P, (21.0, 19.75, 21.0, 19.75, 22.0, 20.5), (1, 1, 2, 2, 3, 3)),
@@ -106,7 +108,7 @@ def make_hours(rows):
                                  (HOUSES_R[1], (20.5, 21.0, 21.0), (1, 1, 1))):
         hours = hours_of(head, airs)
         states = [temps for _, temps in hours]
-        entries = [entry(head, version, *hour) for version, hour in zip(versions, hours)]
+        entries = [entry(head, version, *hour, fixed=i % 2 == 0) for i, (version, hour) in enumerate(zip(versions, hours))]
         book = head + b"".join(entries)
         ask_accepted(rows, head, book, states)
         if len(airs) == 3:

@@ -1,10 +1,11 @@
 """Rows of each call and each number."""
-from making.layout import TRANSPARENT, elements_of, f64, node_count, put, u16, u32
+from making.layout import (
+    RATES, RATE_CODE, SECOND_RATE, TRANSPARENT, elements_of, f64, has_fixed_rate, node_count, put, u16, u32)
 from making.order import conditions_answer, first, head_answer, own_answer, setpoints_answer, state_answer
 from making.houses import (
     ENTRY, HEAD, HOT_START, HOUSE_P, HOUSE_Q, LIGHT, SINGULAR, SLOW, VENT, WEAK, WEAK_START, conditions_of,
     entry_p, room_for_one)
-from making.rows import GIVEN
+from making.rows import GIVEN, WHY, why_values
 
 
 def head_faults(head):
@@ -28,8 +29,9 @@ def condition_faults(head):
     faults = [(0, b"")]
     bad = (0.0005, 101.0, 1.1e7, -1.1e7, 1.5, -0.5, 100.5, 1.5e32, -274.0, -101.0, float("nan"), float("inf"))
     faults += [(8 * j, f64(x)) for j, x in enumerate(bad)]
-    faults += [(96, b"\2"), (96, b"\xff"), (105, f64(1.0)), (105, f64(-0.0)), (97, f64(1000.5)), (97, f64(-1e-9)),
-               (96, b"\1" + f64(1.0, 1000.5)), (96, b"\1" + f64(1.0, float("nan")))]
+    faults += [(RATE_CODE, b"\2"), (RATE_CODE, b"\xff"), (RATE_CODE, b"\0"), (RATE_CODE, b"\0" + f64(0.5)),
+               (RATE_CODE, b"\0" + f64(0.0, 1.0)), (RATE_CODE, b"\0" + f64(0.0, -0.0)), (RATES, f64(1000.5)),
+               (RATES, f64(-1e-9)), (SECOND_RATE, f64(1000.5)), (SECOND_RATE, f64(float("nan")))]
     for i, (_, t, _) in enumerate(elements_of(head)):
         at = 113 + 41 * i
         faults += [(at + 8 * j, f64(x)) for j, x in enumerate((100.5, -1.0, 2000.5, 1.1, -0.1))]
@@ -80,13 +82,25 @@ def state_faults(head):
             (500, good)]
 
 
+def add_hour(rows, call, head, state, b):
+    """a refused hour; where a demand has the fixed rate, also `why`, which still takes it: of House Q, whose load is not
+    known here, a refused one alone"""
+    tail = setpoints_answer(b) if len(b) == 113 + 41 * head[6] else (0, 0)
+    answer = first(conditions_answer(head, b), tail)
+    if answer[0]:
+        rows.add_each(call, answer, head, (0, 0), *state, b)
+    why = first(conditions_answer(head, b, fixed_taken=True), tail)
+    if call == 1 and why != answer and (why[0] or head is HOUSE_P):
+        assert has_fixed_rate(b)
+        rows.add(WHY, why, head, (0, 0), *state, b, values=why_values(why))
+
+
 def make_calls(rows, r):
     """6, 7, 8, 9, then 10 and 11; pairs of faults show the order"""
     for head in (HOUSE_P, HOUSE_Q):
         states, faults = state_faults(head), condition_faults(head)
         good = states[0]
         c = conditions_of(head)
-        tail = lambda b: setpoints_answer(b) if len(b) == 113 + 41 * head[6] else (0, 0)
         crossed = put(put(c, 48, f64(22.0)), 56, f64(21.0))
         low_vent = put(c, 64, f64(19.0))
         both = put(crossed, 64, f64(19.0))
@@ -97,9 +111,7 @@ def make_calls(rows, r):
                 rows.add_each(call, (6, 0), head, (0, 0), nodes, temps, r.choice(variants))
         for b in variants:
             for call in (1, 4) if head is HOUSE_P else (r.choice((1, 4)),):
-                answer = first(conditions_answer(head, b), tail(b))
-                if answer[0]:
-                    rows.add_each(call, answer, head, (0, 0), good[0], good[1], b)
+                add_hour(rows, call, head, good, b)
             answer = conditions_answer(head, b)
             if answer[0]:
                 rows.add(2, answer, head, (0, 0), good[0], good[1], b, (1e9, -1.0, -1.0))
@@ -110,9 +122,7 @@ def make_calls(rows, r):
         for _ in range(40):
             (a1, n1), (a2, n2) = r.sample(faults, 2)
             b = put(put(r.choice((c, both)), a1, n1), a2, n2)
-            answer = first(conditions_answer(head, b), tail(b))
-            if answer[0]:
-                rows.add_each(r.choice((1, 4)), answer, head, (0, 0), good[0], good[1], b)
+            add_hour(rows, r.choice((1, 4)), head, good, b)
 
 
 def make_solves(rows):
@@ -180,7 +190,7 @@ def make_books(rows, r):
         rows.add_each(6, (6, 0), p, (0, 0), 4, t, crossed, count=5, used=used, room=room)
         rows.add_each(6, (7, 0), p, (0, 0), 3, t, c[1:], count=5, used=used, room=room)
     no_room = {"count": 5, "used": 180, "room": 0}
-    for number, b in ((8, put(c, 96, b"\2")), (9, put(c, 0, f64(0.0))), (11, put(c, 64, f64(19.0)))):
+    for number, b in ((8, put(c, RATE_CODE, b"\2")), (9, put(c, 0, f64(0.0))), (11, put(c, 64, f64(19.0)))):
         rows.add_each(6, (number, 0), p, (0, 0), 3, t, b, **no_room)
     rows.add_each(6, (9, 1), p, (0, 0), 3, t, put(c, 113, f64(101.0)), **no_room)
     rows.add_each(6, (12, 0), SINGULAR, (0, 0), 3, t, conditions_of(SINGULAR), **no_room)
@@ -206,7 +216,7 @@ def make_books(rows, r):
         for at in places:
             k = HEAD + ENTRY * i + at
             rows.add(7, (18, i), put(book, k, bytes([book[k] ^ r.choice((1, 128, 255))])), **given)
-        # conditions that the hour step refuses: 9, 8, 10
+        # conditions that the hour step refuses, 9, 8, 10, or that give it a choice of rates and so a trigger
         for at, new in ((5, f64(0.0)), (101, b"\2"), (110, b"\1"), (53, f64(25.0)), (118, f64(101.0)), (158, b"\1")):
             rows.add(7, (18, i), put(book, HEAD + ENTRY * i + at, new), **given)
     for _ in range(10):

@@ -4,7 +4,8 @@ import collections
 from making.layout import BALANCE_VALUES, MOST_LIMIT, VERSIONS, f64, record, u16, u32, u64
 from making.houses import BALANCE, FRONT, HEAD, HOUSE_P, VERSION_PLACE, entry_p, entry_size, room_for_one
 
-
+# the calls that came with document 02 (g): the converter, and `why` for itself
+CONVERT, WHY = 13, 14
 # what a call is given that names no limits of its own: where they are neither tested nor used, limits out of range
 NAN = float("nan")
 USUAL_LIMITS = {1: (NAN, NAN), 2: (-1.0, -1.0), 3: (MOST_LIMIT, 0.0)}
@@ -36,6 +37,16 @@ def taken_up(book):
     return count, used, last
 
 
+def words(b):
+    """four bytes in each value: in so few no sign of a zero is lost; behind the last bytes zeros"""
+    return [u64(int.from_bytes(b[i:i + 4].ljust(4, b"\0"), "big")) for i in range(0, len(b), 4)]
+
+
+def why_values(answer, load=0):
+    """of an hour that has no choice of rates: reason and load, where it is not refused"""
+    return [] if answer[0] else [u64(1), u64(load)]
+
+
 def values_after(call, head, conditions, count, used, version, limits, demand, after):
     """what an accepted call gives, on a book with this demand and these temperatures; but for a head alone, every
     accepted row is of House P"""
@@ -48,8 +59,7 @@ def values_after(call, head, conditions, count, used, version, limits, demand, a
         return book_values(0, HEAD, 1, after)
     if call == 6:
         e = entry_p(version, conditions, *demand, after, limits)
-        words = [u64(int.from_bytes(e[i:i + 4], "big")) for i in range(0, len(e), 4)]
-        return book_values(count + 1, used + len(e), version, after) + words
+        return book_values(count + 1, used + len(e), version, after) + words(e)
     assert call == 7
     return book_values(*taken_up(head), after)
 

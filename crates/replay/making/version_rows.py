@@ -16,7 +16,7 @@ def make_hour_versions(rows):
         rows.add(4, (0, 0), HOUSE_P, (0, 0), 3, [20.0] * 3, conditions_of(HOUSE_P), version=version)
         rows.add(4, (6, 0), HOUSE_Q, (0, 0), len(t) - 1, t, c, version=version)
     for version in NO_VERSIONS:
-        for b in (c, c[:-1], b"", put(c, 96, b"\2"), put(c, 0, f64(0.0)), crossed):
+        for b in (c, c[:-1], b"", put(c, 96, b"\2"), put(c, 96, b"\0"), put(c, 0, f64(0.0)), crossed):
             rows.add(4, (18, 0), HOUSE_Q, (0, 0), len(t), t, b, version=version)
             rows.add(4, (18, 0), HOUSE_Q, (0, 0), len(t) + 1, [1e7] * 3, b, version=version)
         rows.add(4, (18, 0), SINGULAR, (0, 0), 3, [20.0] * 3, conditions_of(SINGULAR), version=version)

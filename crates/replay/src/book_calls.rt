@@ -1,4 +1,4 @@
-// The calls on a book: of a refused one number and index, and whether it changed nothing; of an accepted one what it
+// The calls on a book, and the converter: of a refused one number and index, and whether it changed nothing; of an accepted one what it
 // hands back and writes.
 use crate::comparison::Comparison;
 use crate::failure::Failure;
@@ -8,17 +8,20 @@ use book::{BookState, Reply};
 use zone::Zone;
 
 // The buffer that a call is lent is the end of a longer one.
-const ROOM: usize = 1024;
+const ROOM: usize = 2048;
 
 // Every byte of a buffer before a call.
-const FILLED: u8 = 85;
+pub const FILLED: u8 = 85;
+
+pub fn is_filled(buffer: &[u8]) -> bool {
+    buffer.iter().all(|b| *b == FILLED)
+}
 
 // A refused call hands back the values that it was given, and leaves the buffer as it is.
-fn accepted(given: &BookState, reply: &Reply, buffer: &[u8]) -> Result<BookState, Failure> {
+pub fn accepted(given: &BookState, reply: &Reply, buffer: &[u8]) -> Result<BookState, Failure> {
     match reply.answer {
         Ok(()) => Ok(reply.values),
-        Err(refusal)
-            if same_book_state(given, &reply.values) && buffer.iter().all(|b| *b == FILLED) => {
+        Err(refusal) if same_book_state(given, &reply.values) && is_filled(buffer) => {
             Err(Failure::from(refusal))
         }
         Err(_) => Err(Failure::Changed),
@@ -51,6 +54,27 @@ pub fn append(row: &Row<'_>, zone: &Zone, seen: &mut Comparison<'_>) -> Result<(
     seen.book_state(&after);
     seen.words(buffer[from..].get(given.used..after.used).unwrap_or(&[]));
     Ok(())
+}
+
+// A refused call leaves the output as it is, an accepted one the bytes behind the book.
+pub fn convert(row: &Row<'_>, seen: &mut Comparison<'_>) -> Result<(), Failure> {
+    let mut buffer = [FILLED; ROOM];
+    let from = ROOM.saturating_sub(row.room);
+    let answer = tools::convert(row.head, &mut buffer[from..]);
+    match answer {
+        Ok(converted) => {
+            let used = from.saturating_add(converted.used);
+            if !is_filled(buffer.get(used..).unwrap_or(&[])) {
+                return Err(Failure::Changed);
+            }
+            seen.value(converted.count as u64);
+            seen.value(converted.used as u64);
+            seen.words(buffer.get(from..used).unwrap_or(&[]));
+            Ok(())
+        }
+        Err(error) if is_filled(&buffer) => Err(Failure::from(error)),
+        Err(_) => Err(Failure::Changed),
+    }
 }
 
 pub fn take_up(row: &Row<'_>, seen: &mut Comparison<'_>) -> Result<(), Failure> {

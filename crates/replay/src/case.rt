@@ -3,6 +3,14 @@ use crate::bad_record::BadRecord;
 use crate::hour::Hour;
 use crate::record::Record;
 use std::fmt;
+use zone::Limits;
+
+// What an hour of an earlier version is given, where limits are neither tested nor used: out of range, and each power
+// would be beyond one of them.
+const NO_LIMITS: Limits = Limits {
+    heating: -1.0,
+    cooling: -1.0,
+};
 
 #[derive(Clone, Copy, Debug, PartialEq, Eq)]
 pub enum Profile {
@@ -117,5 +125,15 @@ impl<'a> Case<'a> {
             hour,
             answer,
         })
+    }
+
+    // The entry version of the hour, and its limits. An hour step names them; as an entry a demand's hour is version 2's, which
+    // the converter takes, and an update's version 1's.
+    pub fn rule(&self) -> (u64, Limits) {
+        match self.operation {
+            Operation::Demand | Operation::HourStep2 => (2, NO_LIMITS),
+            Operation::HourStep3 => (3, self.hour.limits()),
+            Operation::Update | Operation::StartUp | Operation::HourStep1 => (1, NO_LIMITS),
+        }
     }
 }

@@ -1,37 +1,33 @@
-// The oracle's cases: each is run, and every value compared with the oracle's.
+// The oracle's cases: each is run, and every value compared with the oracle's. One with the fixed rate, which is retired, is run
+// with that rate twice, and what the calls make of it as it stands is counted besides.
 use crate::bad_record::BadRecord;
 use crate::case::{Case, Operation};
 use crate::comparison::{Comparison, Difference};
 use crate::counts::CaseTally;
 use crate::failure::Failure;
+use crate::fixed_rates::FixedRateTally;
+use crate::hour::Hour;
+use crate::rate_twice::RateTwice;
 use crate::records::Records;
 use crate::zone_calls;
-use zone::Limits;
 
-// What an hour of an earlier version is given, where limits are neither tested nor used: out of range, and each power
-// would be beyond one of them.
-const NO_LIMITS: Limits = Limits {
-    heating: -1.0,
-    cooling: -1.0,
-};
-
-fn run(case: &Case<'_>, seen: &mut Comparison<'_>) -> Result<(), Failure> {
+fn run(case: &Case<'_>, hour: &Hour<'_>, seen: &mut Comparison<'_>) -> Result<(), Failure> {
     let zone = zone_calls::read(case.head)?;
-    let hour = &case.hour;
     match case.operation {
         Operation::Demand => zone_calls::demand_and_why(&zone, hour, seen),
         Operation::Update => zone_calls::update(&zone, hour, seen),
         Operation::StartUp => zone_calls::start_up(&zone, seen),
-        Operation::HourStep1 => zone_calls::hour_step(&zone, hour, 1, NO_LIMITS, seen),
-        Operation::HourStep2 => zone_calls::hour_step(&zone, hour, 2, NO_LIMITS, seen),
-        Operation::HourStep3 => zone_calls::hour_step(&zone, hour, 3, hour.limits(), seen),
+        Operation::HourStep1 | Operation::HourStep2 | Operation::HourStep3 => {
+            let (version, limits) = case.rule();
+            zone_calls::hour_step(&zone, hour, version, limits, seen)
+        }
     }
 }
 
 // Of a refused case the numbers alone are compared.
-fn difference(case: &Case<'_>) -> Option<Difference> {
+fn difference(case: &Case<'_>, hour: &Hour<'_>) -> Option<Difference> {
     let mut seen = Comparison::new(case.answer.unwrap_or(&[]));
-    match (run(case, &mut seen), case.answer) {
+    match (run(case, hour, &mut seen), case.answer) {
         (Ok(()), Ok(_)) => seen.difference(),
         (Ok(()), Err(_)) => Some(Difference::Accepted),
         (Err(failure), Err(number)) if failure.number() == number => None,
@@ -39,11 +35,22 @@ fn difference(case: &Case<'_>) -> Option<Difference> {
     }
 }
 
-pub fn check_cases(bytes: &[u8]) -> Result<CaseTally, BadRecord> {
+pub fn check_cases(bytes: &[u8]) -> Result<(CaseTally, FixedRateTally), BadRecord> {
     let mut tally = CaseTally::default();
+    let mut fixed_rates = FixedRateTally::default();
     for record in Records::new(bytes) {
         let case = Case::read(record)?;
-        tally.count(&case, difference(&case));
+        match RateTwice::of(case.hour.conditions) {
+            None => tally.count(&case, difference(&case, &case.hour)),
+            Some(twice) => {
+                let hour = Hour {
+                    conditions: twice.conditions(),
+                    ..case.hour
+                };
+                tally.count(&case, difference(&case, &hour));
+                fixed_rates.count(&case, twice.conditions());
+            }
+        }
     }
-    Ok(tally)
+    Ok((tally, fixed_rates))
 }

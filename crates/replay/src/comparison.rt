@@ -18,6 +18,8 @@ pub enum Difference {
     Value(usize),
     // More or fewer values.
     Count,
+    // Other values than those of the same call, or book, with the rate twice.
+    Otherwise,
 }
 
 // As one number, which the summary prints.
@@ -28,6 +30,7 @@ impl fmt::Display for Difference {
             Difference::Number(number) => write!(f, "{}", number.saturating_add(1000)),
             Difference::Value(place) => write!(f, "{place}"),
             Difference::Count => write!(f, "999"),
+            Difference::Otherwise => write!(f, "998"),
         }
     }
 }
@@ -87,9 +90,9 @@ impl<'a> Comparison<'a> {
         }
     }
 
-    // Four bytes in each value: in so few no sign of a zero is lost.
+    // Four bytes in each value: in so few no sign of a zero is lost. Behind the last bytes zeros are read.
     pub fn words(&mut self, bytes: &[u8]) {
-        for word in bytes.chunks_exact(4) {
+        for word in bytes.chunks(4) {
             self.value(u64::from(read_u32_be(word, 0)));
         }
     }

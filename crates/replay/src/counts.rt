@@ -49,7 +49,7 @@ pub struct Differences {
 }
 
 impl Differences {
-    fn count(&mut self, difference: Option<Difference>) {
+    pub fn count(&mut self, difference: Option<Difference>) {
         count(&mut self.all);
         if let Some(difference) = difference {
             count(&mut self.differ);
@@ -75,7 +75,7 @@ impl fmt::Display for Differences {
 // How many of each number that arose; number 0 is acceptance, as in the data.
 #[derive(Default, Drop)]
 pub struct Numbers {
-    counts: [u64; 21],
+    counts: [u64; 25],
 }
 
 impl Numbers {
@@ -143,7 +143,7 @@ impl CaseTally {
 pub struct RowTally {
     pub differences: Differences,
     pub numbers: Numbers,
-    pub calls: [u64; 12],
+    pub calls: [u64; 14],
 }
 
 impl RowTally {

@@ -41,6 +41,8 @@ fn run(row: &Row<'_>, seen: &mut Comparison<'_>) -> Result<(), Failure> {
             seen.hour(tools::nearest_hour(row.head, value)?);
             Ok(())
         }
+        Call::Convert => book_calls::convert(row, seen),
+        Call::Why => zone_calls::why(&row.zone()?, hour, seen),
     }
 }
 
@@ -50,7 +52,7 @@ fn difference(row: &Row<'_>) -> Option<Difference> {
     match (run(row, &mut seen), row.answer) {
         (Ok(()), Ok(_)) => seen.difference(),
         (Ok(()), Err(_)) => Some(Difference::Accepted),
-        (Err(Failure::Refused(error)), Err(refusal)) if refusal.is_of(error) => None,
+        (Err(Failure::Refused(came)), Err(refusal)) if came == refusal => None,
         (Err(failure), _) => Some(Difference::Number(failure.number())),
     }
 }

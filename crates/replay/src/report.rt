@@ -1,6 +1,7 @@
 // The summary.
 use crate::case::{Operation, Profile};
 use crate::counts::{CaseTally, RowTally};
+use crate::fixed_rates::FixedRateTally;
 use crate::row::Call;
 use std::io;
 
@@ -33,11 +34,27 @@ fn print_reasons(rt: &impl Print, tally: &CaseTally) -> io::Result<()> {
     Ok(())
 }
 
-pub fn print_cases(rt: &impl Print, tally: &CaseTally) -> io::Result<()> {
+// Call by call, the cases with the fixed rate.
+fn print_fixed_rates(rt: &impl Print, tally: &FixedRateTally) -> io::Result<()> {
+    println!(rt; "with the fixed rate")?;
+    println!(rt; "calls, refused           {}", tally.calls)?;
+    println!(rt; "why, as with code 1      {}", tally.whys)?;
+    println!(rt; "append, refused          {}", tally.appends)?;
+    println!(rt; "take-up                  {}", tally.take_ups)?;
+    println!(rt; "convert                  {}", tally.conversions)?;
+    println!(rt; "convert, version 1       {}", tally.of_version_1)
+}
+
+pub fn print_cases(
+    rt: &impl Print,
+    tally: &CaseTally,
+    fixed_rates: &FixedRateTally,
+) -> io::Result<()> {
     println!(rt; "The oracle's cases")?;
     println!(rt; "profile call                 cases  acc.  ref.")?;
     print_table(rt, tally)?;
     println!(rt; "cases  {}", tally.differences)?;
+    print_fixed_rates(rt, fixed_rates)?;
     println!(rt; "demands, by reason             neither heating cooling")?;
     print_reasons(rt, tally)?;
     println!(rt; "refused, by number")?;

@@ -2,10 +2,10 @@
 use crate::bad_record::BadRecord;
 use crate::hour::Hour;
 use crate::record::Record;
+use crate::refusal::Refusal;
 use crate::zone_calls;
 use book::BookState;
 use std::fmt;
-use tools::QuestionError;
 use zone::Zone;
 
 #[derive(Clone, Copy, Debug, PartialEq, Eq)]
@@ -22,10 +22,12 @@ pub enum Call {
     FirstAbove,
     HoursWithin,
     NearestHour,
+    Convert,
+    Why,
 }
 
 impl Call {
-    pub const ALL: [Call; 12] = [
+    pub const ALL: [Call; 14] = [
         Call::Demand,
         Call::Update,
         Call::StartUp,
@@ -38,6 +40,8 @@ impl Call {
         Call::FirstAbove,
         Call::HoursWithin,
         Call::NearestHour,
+        Call::Convert,
+        Call::Why,
     ];
 }
 
@@ -66,20 +70,9 @@ impl fmt::Display for Call {
             Call::FirstAbove => "first_above",
             Call::HoursWithin => "hours_within",
             Call::NearestHour => "nearest_hour",
+            Call::Convert => "convert",
+            Call::Why => "why",
         })
-    }
-}
-
-// A refusal as the file holds it: by number and index, which may be those of no error of the engine.
-#[derive(Clone, Copy, Debug, PartialEq, Eq)]
-pub struct Refusal {
-    pub number: u32,
-    index: usize,
-}
-
-impl Refusal {
-    pub fn is_of(self, error: QuestionError) -> bool {
-        self.number == error.number() && self.index == error.index()
     }
 }
 
@@ -119,13 +112,13 @@ impl Change {
 #[derive(Drop)]
 pub struct Row<'a> {
     pub call: Call,
-    // Of a take-up and of a question the whole book.
+    // Of a take-up, a question and a conversion the whole book.
     pub head: &'a [u8],
     change: Option<Change>,
     pub hour: Hour<'a>,
     count: usize,
     used: usize,
-    // The length of the buffer.
+    // The length of the buffer, or of the output.
     pub room: usize,
     pub version: u64,
     last_version: u64,

@@ -2,6 +2,7 @@
 use crate::comparison::Comparison;
 use crate::failure::Failure;
 use crate::hour::Hour;
+use crate::rate_twice::has_fixed_rate;
 use crate::same::same_state;
 use zone::{Demand, Limits, Refusal, Reply, State, Zone};
 
@@ -23,24 +24,36 @@ fn accepted<T: Copy>(given: &State, reply: &Reply<T>) -> Result<T, Failure> {
 }
 
 // A demand leaves the state as it is.
-fn demand(zone: &Zone, state: &State, conditions: &[u8]) -> Result<Demand, Failure> {
-    let reply = state.space_heat_cool_demand(zone, conditions);
-    if !same_state(state, &reply.state) {
+pub fn demand(zone: &Zone, hour: &Hour<'_>) -> Result<Demand, Failure> {
+    let state = hour.state();
+    let reply = state.space_heat_cool_demand(zone, hour.conditions);
+    if !same_state(&state, &reply.state) {
         return Err(Failure::Changed);
     }
     Ok(reply.answer?)
 }
 
-// A demand and, asked beside it, why this rate, why this load: what the demand refuses is refused there with the same
-// number and index.
+// Why this rate, why this load.
+pub fn why(zone: &Zone, hour: &Hour<'_>, seen: &mut Comparison<'_>) -> Result<(), Failure> {
+    let (reason, load) = hour.state().why(zone, hour.conditions)?;
+    seen.reason(reason, load);
+    Ok(())
+}
+
+// A demand refuses the fixed rate; why is answered for it, which is asked for itself.
+fn is_fixed_rate(hour: &Hour<'_>, failure: Failure) -> bool {
+    has_fixed_rate(hour.conditions) && failure == Failure::from(Refusal::ConditionsCode)
+}
+
+// A demand and, asked beside it, why this rate, why this load: what the demand refuses, but for the fixed rate, is refused
+// there with the same number and index.
 pub fn demand_and_why(
     zone: &Zone,
     hour: &Hour<'_>,
     seen: &mut Comparison<'_>,
 ) -> Result<(), Failure> {
-    let state = hour.state();
-    let demand = demand(zone, &state, hour.conditions);
-    let why = state.why(zone, hour.conditions);
+    let demand = demand(zone, hour);
+    let why = hour.state().why(zone, hour.conditions);
     match (demand, why) {
         (Ok(demand), Ok((reason, load))) => {
             seen.demand(&demand);
@@ -48,6 +61,7 @@ pub fn demand_and_why(
             Ok(())
         }
         (Err(failure), Err(refusal)) if failure == Failure::from(refusal) => Err(failure),
+        (Err(failure), _) if is_fixed_rate(hour, failure) => Err(failure),
         _ => Err(Failure::RefusedOtherwise),
     }
 }

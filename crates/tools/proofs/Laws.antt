@@ -5,3 +5,9 @@ pub mod Above
 pub mod Within
 pub mod Nearest
 pub mod Asked
+pub mod PutConverted
+pub mod ConvertLoop
+pub mod ConvertedStep
+pub mod ConvertedAgain
+pub mod ConvertedBook
+pub mod Convert

@@ -1,2 +1,3 @@
 pub mod Hours
 pub mod Asked
+pub mod Convert

@@ -94,6 +94,17 @@ pub struct Hour {
 }
 
 impl Hour {
+    // As calls take it: a fixed rate is target and windows open both that rate.
+    pub fn with_rate_twice(self) -> Hour {
+        match self.rates {
+            Rates::Cooling(rate) => Hour {
+                rates: Rates::TargetAndWindowsOpen(rate, rate),
+                ..self
+            },
+            Rates::TargetAndWindowsOpen(_, _) => self,
+        }
+    }
+
     // With these heating and cooling setpoints and all power by convection: no gains, no sun, no ventilation, and 0 outside.
     pub fn of(heat: f64, cool: f64) -> Hour {
         Hour {

@@ -8,13 +8,15 @@
 // books, versions that no hour has, and the room in version 3: hours with limits, limits out of range, entries and books.
 // At the end of each house books of it are asked when it got warm: the first hour above a value, the hours within a band and the
 // hour nearest to a value. Then come rooms of six surfaces: what their air gives to the surfaces, by direction of heat flow.
-// Then a room with windows that can open: why an hour has its air change rate and its load. Last the weather of a file's line, and a house in it.
+// Then a room with windows that can open: why an hour has its air change rate and its load. Then the weather of a file's line, and a house in it. Last hours
+// with the fixed rate, rate code 0, of all these houses: refused by the calls, taken up in books, and converted.
 #![tactic(auto)]
 
 mod answers;
 mod bytes;
 mod chilled_ceiling;
 mod convection;
+mod fixed_rate;
 mod house_p;
 mod limits;
 mod refusal;
@@ -26,6 +28,7 @@ mod zone_read;
 
 use chilled_ceiling::{books, hours, limit_books, limit_values, limited, questions, room, unknown};
 use convection::rows as surface_rows;
+use fixed_rate::{by_hand, conversions, cuts, not_converted, refused, taken_up};
 use house_p::{
     book_rows, limited as limited_hours, questions as hours_asked, rows, surface_convection,
 };
@@ -86,10 +89,24 @@ fn print_weather(rt: &impl Print) -> anyhow::Result<()> {
     house::print_house(rt)
 }
 
+fn print_fixed_rate(rt: &impl Print) -> anyhow::Result<()> {
+    table::heading(
+        rt,
+        "\nHours with the fixed rate, rate code 0: refused, taken up and converted",
+    )?;
+    refused::print_refused(rt)?;
+    by_hand::print_by_hand(rt)?;
+    taken_up::print_taken_up(rt)?;
+    cuts::print_cuts(rt)?;
+    conversions::print_conversions(rt)?;
+    not_converted::print_not_converted(rt)
+}
+
 fn main(rt: HostRuntime) -> anyhow::Result<()> {
     print_house_p(&rt)?;
     print_chilled_ceiling(&rt)?;
     print_convection(&rt)?;
     print_why(&rt)?;
-    print_weather(&rt)
+    print_weather(&rt)?;
+    print_fixed_rate(&rt)
 }

@@ -2,7 +2,7 @@
 use book::BookError;
 use std::error::Error;
 use std::fmt::{self, Display};
-use tools::QuestionError;
+use tools::{ConvertError, QuestionError};
 use weather::WeatherError;
 
 // The refusals that the rows meet. Their numbers are written here as the documents give them: the rows lay them beside the engine's.
@@ -28,10 +28,11 @@ pub enum Cause {
     WeatherAbsent = 21,
     WeatherInvalid = 22,
     WeatherMissing = 23,
+    Version1Entry = 24,
 }
 
-// A refusal of the zone, the book, a question or a line of weather, with the index of the element or the hour that it is about, 0 where it is about none. By
-// number: were what is expected an error of the engine, its `number()` would be laid beside itself, and a wrong number would be `ok`.
+// A refusal of the zone, the book, a question, a line of weather or a conversion, with the index of the element or the hour that it is about, 0 where it is
+// about none. By number: were what is expected an error of the engine, its `number()` would be laid beside itself, and a wrong number would be `ok`.
 #[derive(Clone, Copy, Debug, PartialEq, Eq)]
 pub struct Refusal {
     pub number: u32,
@@ -75,6 +76,15 @@ impl From<BookError> for Refusal {
 
 impl From<QuestionError> for Refusal {
     fn from(refusal: QuestionError) -> Refusal {
+        Refusal {
+            number: refusal.number(),
+            index: refusal.index(),
+        }
+    }
+}
+
+impl From<ConvertError> for Refusal {
+    fn from(refusal: ConvertError) -> Refusal {
         Refusal {
             number: refusal.number(),
             index: refusal.index(),

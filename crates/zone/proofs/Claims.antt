@@ -9,6 +9,8 @@ pub mod HeadIndex
 pub mod HeadClaims
 pub mod Demand
 pub mod Why
+pub mod FixedRate
+pub mod SameHour
 pub mod StartUp
 pub mod State
 pub mod Versions

@@ -51,4 +51,6 @@ pub mod Whole
 pub mod Fits
 pub mod Answers
 pub mod Limits
+pub mod RateTwice
+pub mod OtherRates
 pub mod Refusals

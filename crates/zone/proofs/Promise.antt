@@ -3,7 +3,7 @@ pub use Rattle.solver.proofs.Laws.Fits.{AllFit, take_fits}
 pub use Rattle.solver.proofs.Laws.Result.{bind_is, bind_ok, require_ok, ok_inj, ok_not_refused}
 pub use Rattle.solver.proofs.Laws.Refusals.{bind_refuses, refusal_by, refuses_also, test_refuses}
 pub use Rattle.solver.proofs.Laws.Tests.{and_true}
-pub use Rattle.zone.proofs.Laws.Accepted.{conditions_length_lem, count_few, temps_length}
+pub use Rattle.zone.proofs.Laws.Accepted.{conditions_length_lem, count_few, hour_tested, temps_length}
 pub use Rattle.zone.proofs.Laws.Answers.{answered_no, answered_yes, hour_no, hour_yes, update_no, update_yes}
 pub use Rattle.zone.proofs.Laws.Decoded.{floats_length}
 pub use Rattle.zone.proofs.Laws.Element.{nodes_few}
@@ -14,6 +14,7 @@ pub use Rattle.zone.proofs.Laws.Limits.{limits_back, limits_length_lem, same_lim
 pub use Rattle.std.proofs.lemmas.List.{drop-replicate as drop_replicate}
 pub use Rattle.zone.proofs.Laws.NextHour.{next_then}
 pub use Rattle.zone.proofs.Laws.NextKept.{next_kept}
+pub use Rattle.zone.proofs.Laws.RateTwice.{fixed_append, length_same as length_twice, twice_append}
 pub use Rattle.zone.proofs.Laws.Refusals.{because}
 pub use Rattle.zone.proofs.Laws.RoundTrip.{row_back}
 pub use Rattle.zone.proofs.Laws.StructuredHead.{head_as_tested, head_fails, head_judged, head_passes, head_then_test, structured_counts, structured_few, structured_within}

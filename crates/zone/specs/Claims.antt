@@ -3,6 +3,7 @@ pub mod HeadRefusals
 pub mod Head
 pub mod DemandClaims
 pub mod Why
+pub mod FixedRate
 pub mod StartUpClaims
 pub mod StateClaims
 pub mod Versions

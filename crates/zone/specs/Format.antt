@@ -4,5 +4,6 @@ pub mod ElementLayout
 pub mod Decode
 pub mod Head
 pub mod Conditions
+pub mod FixedRate
 pub mod Encode
 pub mod Limits

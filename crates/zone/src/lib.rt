@@ -12,7 +12,7 @@ pub use calls::start_up::{init_node_temps, start_up_lent};
 pub use calls::state::{Demand, Load, Reason, Reply, State};
 pub use check::versions::{has_limits, hour_version};
 pub use check::zone_tests::zone_test;
-pub use format::conditions::AirChangesPerHourArgument;
+pub use format::conditions::{AirChangesPerHourArgument, FixedRate};
 pub use format::head::read_head;
 pub use format::limits::{Limits, read_limits};
 pub use format::temperatures::read_temperatures;

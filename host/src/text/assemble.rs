@@ -3,9 +3,10 @@ use super::faults::Faults;
 use super::heading::{Column, Headed};
 use super::open::Open;
 use super::plan::{Constant, Plan};
+use super::rates;
 use super::what::{Key, What};
 use crate::conditions::{AirChangesPerHour, Conditions, ElementHour, NO_CONTROL};
-use crate::names::RATES;
+use crate::names::TEXT_RATES;
 
 /// A field that was read. `None` is empty, or bad and told.
 pub(crate) type Field = Option<Constant>;
@@ -34,11 +35,14 @@ impl Source {
     }
 }
 
+/// A column and a constant of a rate, as far as there are some.
+type Rate = (Option<usize>, Option<f64>);
+
 /// Where all values of an hour come from.
 pub(crate) struct Assembly {
     hour: [Option<Source>; 12],
-    /// A column and a constant of each rate: which of them counts is seen in each line.
-    rates: [(Option<usize>, Option<f64>); 3],
+    /// Which of them counts is seen in each line.
+    rates: [Rate; TEXT_RATES.len()],
     elements: Vec<([Option<Source>; 5], Option<Source>)>,
 }
 
@@ -90,39 +94,14 @@ impl Assembly {
         Conditions::of_values(hour, ach, elements)
     }
 
-    /// The rates of a line. What stands in it goes before the constants: a fixed rate, or one or both of
-    /// the two others, of which a constant may complete the pair.
+    /// The rates of a line.
     fn ach(&self, fields: &[Field]) -> Result<AirChangesPerHour, String> {
         let given = self.rates.map(|(column, _)| match column.map(|place| fields[place]) {
             Some(Some(Constant::Number(rate))) => Some(rate),
             _ => None,
         });
-        let constant = self.rates.map(|(_, constant)| constant);
-        let pair = |target: Option<f64>, open: Option<f64>| {
-            let (ach_target, ach_windows_open) = (target?, open?);
-            Some(AirChangesPerHour::TargetAndWindowsOpen { ach_target, ach_windows_open })
-        };
-        let fixed = |rate: f64| AirChangesPerHour::Cooling { ach_cooling: rate };
-        let names = [RATES[0].name, RATES[1].name, RATES[2].name];
-        match given {
-            [Some(_), Some(_), _] | [Some(_), _, Some(_)] => {
-                Err(format!("{} is given together with {} or {}", names[0], names[1], names[2]))
-            }
-            [Some(rate), None, None] => Ok(fixed(rate)),
-            [None, None, None] => match (constant[0], pair(constant[1], constant[2])) {
-                (Some(rate), None) => Ok(fixed(rate)),
-                (None, Some(pair)) => Ok(pair),
-                _ => Err(which_rate(&names)),
-            },
-            [None, target, open] => {
-                pair(target.or(constant[1]), open.or(constant[2])).ok_or(which_rate(&names))
-            }
-        }
+        rates::read(given, self.rates.map(|(_, constant)| constant))
     }
-}
-
-fn which_rate(names: &[&str; 3]) -> String {
-    format!("either {} or both {} and {} are needed", names[0], names[1], names[2])
 }
 
 /// Looks for sources.
@@ -189,7 +168,7 @@ impl Find<'_> {
         }
     }
 
-    fn rate(&self, j: usize) -> (Option<usize>, Option<f64>) {
+    fn rate(&self, j: usize) -> Rate {
         let constant = match self.plan.constant(What::Rate(j), None) {
             Some(Constant::Number(rate)) => Some(rate),
             _ => None,
@@ -197,13 +176,11 @@ impl Find<'_> {
         (self.column(What::Rate(j), None), constant)
     }
 
-    /// Where neither rate can come from anywhere, that is told once and not in every line.
-    fn some_rate(&mut self, rates: &[(Option<usize>, Option<f64>); 3]) {
-        let [fixed, target, open] =
-            rates.map(|(column, constant)| column.is_some() || constant.is_some());
-        if !(fixed || target && open) {
-            let names = [RATES[0].name, RATES[1].name, RATES[2].name];
-            self.faults.add(self.place, which_rate(&names));
+    /// Where no rates can come from anywhere, that is told once and not in every line.
+    fn some_rate(&mut self, found: &[Rate; TEXT_RATES.len()]) {
+        let given = found.map(|(column, constant)| column.is_some() || constant.is_some());
+        if !rates::are_enough(given) {
+            self.faults.add(self.place, rates::needed());
         }
     }
 }

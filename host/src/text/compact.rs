@@ -1,10 +1,12 @@
 //! Hours as short text: what stays the same goes to the house file, what all elements share to one
 //! column.
-use super::hours_text::{rates, write_columns};
+use super::hours_text::write_columns;
 use super::open::Open;
 use super::plan::{Constant, Plan};
+use super::rates::{written, BOTH, FIXED, OPEN, TARGET};
 use super::what::{Key, What};
 use crate::conditions::Conditions;
+use crate::names::TEXT_RATES;
 
 /// The values of a column, hour by hour, as bits; `None` where an hour has no such rate.
 type Series = Vec<Option<u64>>;
@@ -37,16 +39,17 @@ impl Short {
         }
     }
 
-    /// Where both kinds of rate occur, columns say which of them an hour has.
+    /// Where rates of several kinds occur, columns say which of them an hour has.
     fn add_rates(&mut self, hours: &[Conditions]) {
-        let all: Vec<Series> = (0..3).map(|j| series(hours, What::Rate(j), 0)).collect();
+        let all: Vec<Series> =
+            (0..TEXT_RATES.len()).map(|j| series(hours, What::Rate(j), 0)).collect();
         let occurs = |series: &Series| series.iter().any(Option::is_some);
-        let both = occurs(&all[0]) && occurs(&all[1]);
+        let kinds = [BOTH, TARGET, FIXED].into_iter().filter(|j| occurs(&all[*j])).count();
         for (j, series) in all.iter().enumerate().filter(|(_, series)| occurs(series)) {
             let key = Key { what: What::Rate(j), element: None };
-            match j {
-                0 | 1 if both => self.columns.push(key),
-                _ => self.add(key, &series.iter().copied().filter(Option::is_some).collect()),
+            match j == OPEN || kinds == 1 {
+                true => self.add(key, &series.iter().copied().filter(Option::is_some).collect()),
+                false => self.columns.push(key),
             }
         }
     }
@@ -83,7 +86,7 @@ impl Short {
 fn series(hours: &[Conditions], what: What, element: usize) -> Series {
     let value = |hour: &Conditions| match what {
         What::Hour(place) => Some(hour.values()[place].to_bits()),
-        What::Rate(place) => rates(hour)[place].map(f64::to_bits),
+        What::Rate(place) => written(&hour.ach)[place].map(f64::to_bits),
         What::Element(place) => Some(hour.elements[element].values()[place].to_bits()),
         What::Open => Some(hour.elements[element].open as u64),
     };

@@ -42,8 +42,7 @@ pub fn read_hours(
     let mut hours = vec![];
     let mut count = 0;
     while let Some((line, record)) = lines.next() {
-        // A spreadsheet may leave lines of commas behind.
-        if record.iter().all(<[u8]>::is_empty) {
+        if is_empty(record) {
             continue;
         }
         table.line = line;
@@ -63,6 +62,23 @@ pub fn read_hours(
         faults.add(place, "there is no hour below the heading");
     }
     (faults.count() == before).then_some(hours)
+}
+
+/// The line of each hour of a CSV text, as an editor counts, from 1.
+pub fn hour_lines(text: &[u8]) -> Vec<usize> {
+    let mut lines = CsvLines::new(text);
+    let (mut found, _heading) = (vec![], lines.next().is_some());
+    while let Some((line, record)) = lines.next() {
+        if !is_empty(record) {
+            found.push(line);
+        }
+    }
+    found
+}
+
+/// A spreadsheet may leave lines of commas behind.
+fn is_empty(record: &ByteRecord) -> bool {
+    record.iter().all(<[u8]>::is_empty)
 }
 
 /// The rows below the heading.

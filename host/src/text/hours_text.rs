@@ -3,19 +3,23 @@ use super::heading::NUMBER;
 use super::number::{cell, short};
 use super::open::words;
 use super::plan::Plan;
+use super::rates::{written, FIXED};
 use super::what::{Key, What};
 use crate::conditions::{AirChangesPerHour, Conditions};
 use crate::entry::Entry;
 use crate::limits::HeldLimit;
 use csv::Writer;
 
-/// The CSV text of hours, every value in a column of its own. The first has this number.
+/// The CSV text of hours, every value in a column of its own. The first has this number. There is a column for a
+/// fixed rate only where an hour has one.
 pub fn write_hours(hours: &[Conditions], plan: &Plan, first: usize) -> String {
-    write_columns(hours, plan, &all_columns(plan), first)
+    let fixed = hours.iter().any(|hour| matches!(hour.ach, AirChangesPerHour::Cooling { .. }));
+    write_columns(hours, plan, &all_columns(plan, fixed), first)
 }
 
-fn all_columns(plan: &Plan) -> Vec<Key> {
+fn all_columns(plan: &Plan, fixed: bool) -> Vec<Key> {
     let of_hour = What::all().filter(|what| !what.of_element());
+    let of_hour = of_hour.filter(|what| fixed || *what != What::Rate(FIXED));
     let mut keys: Vec<Key> = of_hour.map(|what| Key { what, element: None }).collect();
     for element in 0..plan.names.len() {
         for what in What::all_of_element() {
@@ -56,23 +60,13 @@ fn cell_of(hour: &Conditions, key: Key) -> String {
     let element = || hour.elements.get(key.element.unwrap_or(0));
     let value = match key.what {
         What::Hour(place) => Some(hour.values()[place]),
-        What::Rate(place) => rates(hour)[place],
+        What::Rate(place) => written(&hour.ach)[place],
         What::Element(place) => element().map(|element| element.values()[place]),
         What::Open => return element().map_or(String::new(), |element| words(element.open)),
     };
     match (key.what.named(), value) {
         (Some(named), Some(value)) => cell(named, value),
         _ => String::new(),
-    }
-}
-
-/// The three rates, where an hour has them.
-pub(crate) fn rates(hour: &Conditions) -> [Option<f64>; 3] {
-    match hour.ach {
-        AirChangesPerHour::Cooling { ach_cooling } => [Some(ach_cooling), None, None],
-        AirChangesPerHour::TargetAndWindowsOpen { ach_target, ach_windows_open } => {
-            [None, Some(ach_target), Some(ach_windows_open)]
-        }
     }
 }
 

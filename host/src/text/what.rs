@@ -1,5 +1,5 @@
 //! Which value of an hour is meant.
-use crate::names::{Named, ELEMENT_HOUR, HOUR, RATES};
+use crate::names::{Named, ELEMENT_HOUR, HOUR, TEXT_RATES};
 
 /// The name of the open treatments.
 pub(crate) const OPEN: &str = "open";
@@ -17,7 +17,7 @@ impl What {
     pub(crate) fn of_name(name: &str) -> Option<Self> {
         let place = |names: &[Named]| names.iter().position(|n| n.name == name);
         let of_hour = || place(&HOUR).map(Self::Hour);
-        let of_rates = || place(&RATES).map(Self::Rate);
+        let of_rates = || place(&TEXT_RATES).map(Self::Rate);
         let of_element = || place(&ELEMENT_HOUR).map(Self::Element);
         let open = || (name == OPEN).then_some(Self::Open);
         of_hour().or_else(of_rates).or_else(of_element).or_else(open)
@@ -31,7 +31,7 @@ impl What {
     pub(crate) fn named(self) -> Option<&'static Named> {
         match self {
             Self::Hour(place) => Some(&HOUR[place]),
-            Self::Rate(place) => Some(&RATES[place]),
+            Self::Rate(place) => Some(&TEXT_RATES[place]),
             Self::Element(place) => Some(&ELEMENT_HOUR[place]),
             Self::Open => None,
         }
@@ -44,7 +44,7 @@ impl What {
 
     pub(crate) fn all() -> impl Iterator<Item = Self> {
         let of_hour = (0..HOUR.len()).map(Self::Hour);
-        of_hour.chain((0..RATES.len()).map(Self::Rate)).chain(Self::all_of_element())
+        of_hour.chain((0..TEXT_RATES.len()).map(Self::Rate)).chain(Self::all_of_element())
     }
 
     pub(crate) fn all_of_element() -> impl Iterator<Item = Self> {

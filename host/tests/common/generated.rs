@@ -131,7 +131,8 @@ impl Chance {
         }
     }
 
-    /// Conditions that the engine accepts for a head.
+    /// Conditions for a head that books hold and `why` takes: half of them have a fixed rate, which the other calls
+    /// refuse.
     pub fn hour(&mut self, head: &Head) -> Conditions {
         let temp_setpnt_heat = self.number(-273.15, 100.0);
         let ach = match self.below(2) {

@@ -239,6 +239,20 @@ pub fn weather(file: &[u8], line: u64) -> (u32, [f64; WEATHER]) {
     (answer, values)
 }
 
+/// A book converted to `lent.buf`.
+pub fn convert(bytes: &[u8], lent: &mut Lent) -> u32 {
+    unsafe {
+        hem_convert(
+            bytes.as_ptr(),
+            bytes.len(),
+            lent.buf.as_mut_ptr(),
+            lent.buf.len(),
+            &mut lent.count,
+            &mut lent.used,
+        )
+    }
+}
+
 pub fn take_up(bytes: &[u8], lent: &mut Lent) -> u32 {
     unsafe {
         hem_take_up(

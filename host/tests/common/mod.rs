@@ -123,6 +123,14 @@ impl Answer {
         );
     }
 
+    /// A refusal that lists faults: its lines.
+    #[track_caller]
+    pub fn listed(self) -> Vec<String> {
+        let errors = self.errors();
+        assert_eq!((self.0.status.code(), self.0.stdout.len()), (Some(1), 0), "{errors}");
+        errors.lines().map(String::from).collect()
+    }
+
     pub fn errors(&self) -> String {
         String::from_utf8(self.0.stderr.clone()).unwrap()
     }

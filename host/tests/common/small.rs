@@ -1,4 +1,5 @@
 //! A small house and three hours of it, as text.
+#![allow(dead_code)] // Each file of tests uses a part of this.
 use hem_zone::text::{read_house, Faults, Plan};
 
 /// A wall and a window with two treatments.
@@ -52,7 +53,7 @@ open = "all"
 "#;
 
 pub const HOURS: &str = "\
-time,temp_ext_air,gains_internal,gains_solar,frac_convective_heat,frac_convective_cool,temp_setpnt_heat,temp_setpnt_cool,avg_air_supply_temp,ach_cooling,temp_ext,wall.temp_ext,i_sol_dir,i_sol_dif,open,hour
+time,temp_ext_air,gains_internal,gains_solar,frac_convective_heat,frac_convective_cool,temp_setpnt_heat,temp_setpnt_cool,avg_air_supply_temp,rate,temp_ext,wall.temp_ext,i_sol_dir,i_sol_dif,open,hour
 1 Jan,20,100,0,1,1,20,none,20,0.5,20,18,0,0,all,1
 1 Jan,21,100,0,1,1,20,24,20,0.5,20,18,0,0,1,2
 1 Jan,22,100,0,1,1,20,24,20,0.5,20,18,0,0,none,3

@@ -153,20 +153,31 @@ pub fn load_of(demand: &Demand) -> Load {
 // ---- the engine's answer beside it ----
 
 /// How often each reason was met, from 1, beside each load, from 0; each refusal by its number; the hours that
-/// an update refused with 9; and of each reason the hours in each basis, and those with a target rate above
+/// an update refused with 9; those with a fixed rate; and of each reason the hours in each basis, and those with a target rate above
 /// that of the windows.
 #[derive(Debug, Default)]
 pub struct Met {
     pub pairs: [[usize; 3]; 6],
     pub refused: [usize; 15],
     pub not_worked: usize,
+    pub fixed: usize,
     pub bases: [[usize; 2]; 6],
     pub target_above: [usize; 6],
 }
 
-/// Lays the engine's answer beside the demand, and the reason beside the one worked out here.
+/// Lays the engine's answer beside the demand, and the reason beside the one worked out here. Of an hour with a
+/// fixed rate the engine's answer is that of the rate twice, with which the other calls take it.
 #[track_caller]
 pub fn look(asked: &Asked, met: &mut Met) {
+    if asked.hour.has_fixed_rate() {
+        let twice = Asked { hour: asked.hour.with_rate_twice(), ..*asked };
+        let why = |asked: &Asked| asked.zone.why(asked.before, &asked.hour);
+        assert_eq!(why(asked), why(&twice), "{:?} {:?}", asked.head, asked.hour);
+        let refusal = asked.zone.space_heat_cool_demand(asked.before, &asked.hour).unwrap_err();
+        assert_eq!(refusal.number(), 8);
+        met.fixed += 1;
+        return look(&twice, met);
+    }
     let demand = asked.zone.space_heat_cool_demand(asked.before, &asked.hour);
     let why = asked.zone.why(asked.before, &asked.hour);
     let (demand, why) = match (demand, why) {

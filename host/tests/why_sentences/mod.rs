@@ -1,7 +1,11 @@
 //! Books whose hours are asked why, and what the sentences on them have to say.
 #![allow(dead_code)] // Each file of tests uses a part of this.
+#[path = "../common/fixed_rate.rs"]
+mod fixed_rate;
+
 use crate::common::Folder;
 use crate::worked::Asked;
+use fixed_rate::with_fixed_rates;
 use hem_zone::samples::hour_p;
 use hem_zone::{
     AirChangesPerHour, Book, Conditions, Demand, Entry, Head, Load, RateReason, Rule, State, Why,
@@ -31,7 +35,7 @@ pub fn with_book(name: &str, head: &Head, hours: &[Conditions]) -> (Folder, Book
     with_rule(name, head, hours, ENTRY_VERSION_2)
 }
 
-/// The same by a rule.
+/// The same by a rule. An hour with a fixed rate is held as an older book has it.
 pub fn with_rule(
     name: &str,
     head: &Head,
@@ -39,12 +43,15 @@ pub fn with_rule(
     rule: impl Into<Rule>,
 ) -> (Folder, Book) {
     let (folder, rule) = (Folder::new(name), rule.into());
-    let mut book = Book::begin(head).unwrap();
+    let (mut book, mut fixed) = (Book::begin(head).unwrap(), vec![]);
     for hour in hours {
-        let _ = book.append(hour, rule);
+        if book.append(&hour.with_rate_twice(), rule).is_ok() && hour.has_fixed_rate() {
+            fixed.push(book.hours() - 1);
+        }
     }
-    folder.write("p.book", book.bytes());
-    (folder, book)
+    let bytes = with_fixed_rates(&book, fixed);
+    folder.write("p.book", &bytes);
+    (folder, Book::take_up(&bytes).unwrap())
 }
 
 /// The sentence on an hour, from 1, behind its name.

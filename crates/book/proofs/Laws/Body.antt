@@ -12,6 +12,7 @@ use Rattle.zone.specs.Calls.Hour.{has_limits, hour_step}
 use Rattle.zone.specs.Record.BuildingElement.{standard_coefficients}
 use Rattle.zone.specs.Format.Limits.{power_limits_size, limits_bytes, limits_in}
 use Rattle.zone.specs.declared.record.zone_record.Zone.{Zone}
+use Rattle.zone.specs.declared.format.conditions.FixedRate.{FixedRate}
 use Rattle.zone.specs.declared.format.limits.Limits.{Limits}
 use Rattle.zone.specs.declared.calls.state.State.{State}
 use Rattle.zone.proofs.Promise.{limits_back, limits_length_lem, same_limits}
@@ -29,10 +30,10 @@ module _ (version : ℕ) (i j : List ℕ) (l : length j ≡ limits_length versio
   limits_are = ap (λ (n : ℕ). limits_in (drop n (i ++ j))) front ∙ ap limits_in (drop_at i j (length i) refl)
 
   -- an hour of the body is one of its parts, with the limits that j holds where the version has any
-  pub by_parts : (z : Zone) (s : State) (l : Limits) → (has_limits version ≡ true → limits_in j ≡ l)
-      → hour_step standard_coefficients z version (body_limits version (i ++ j)) s (body_conditions version (i ++ j)) ≡ hour_step standard_coefficients z version l s i
-  by_parts z s l holds =
-      (λ t. hour_step standard_coefficients z version (limits_are t) s (conditions_are t)) ∙ same_limits standard_coefficients z version (limits_in j) l s i holds
+  pub by_parts : (fixed : FixedRate) (z : Zone) (s : State) (l : Limits) → (has_limits version ≡ true → limits_in j ≡ l)
+      → hour_step fixed standard_coefficients z version (body_limits version (i ++ j)) s (body_conditions version (i ++ j)) ≡ hour_step fixed standard_coefficients z version l s i
+  by_parts fixed z s l holds =
+      (λ t. hour_step fixed standard_coefficients z version (limits_are t) s (conditions_are t)) ∙ same_limits fixed standard_coefficients z version (limits_in j) l s i holds
 
 -- those of a call
 pub part_length : (version : ℕ) (l : Limits) → length (limits_part version l) ≡ limits_length version

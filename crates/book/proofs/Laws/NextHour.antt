@@ -19,6 +19,7 @@ use Rattle.zone.specs.Calls.Answers.{reply_in}
 use Rattle.zone.proofs.Promise.{and_true, next_then, ok_inj, ok_not_refused}
 use Rattle.zone.specs.Calls.Hour.{hour_version, has_limits}
 use Rattle.zone.specs.Format.Limits.{limits_in}
+use Rattle.zone.specs.declared.format.conditions.FixedRate.{FixedRate}
 use Rattle.zone.specs.declared.format.limits.Limits.{Limits}
 use lib.Dec.{leb}
 use lib.ListN.{length}
@@ -43,29 +44,29 @@ module _ (s : State) where
   next_yes (refused m k) x e a f = ok_not_refused a m k (sym (ap answered f) ∙ ap (λ (y : Result Demand × State). y.0) e)
 
 -- the body is the conditions i and the limits' bytes j; l is what the zone is given, the limits in j where the version has any
-module _ (z : Zone) (tested : zone_test z ≡ ok tt) (s : Carried) (version : ℕ) (follows : may_follow s.last_version version ≡ true)
+module _ (fixed : FixedRate) (z : Zone) (tested : zone_test z ≡ ok tt) (s : Carried) (version : ℕ) (follows : may_follow s.last_version version ≡ true)
     (i j : List ℕ) (long : length j ≡ limits_length version) (l : Limits) (holds : has_limits version ≡ true → limits_in j ≡ l) (x : Reply Demand)
-    (e : reply_in x ≡ next_hour_reply s.state (next_hour standard_coefficients z version l s.state i)) where
+    (e : reply_in x ≡ next_hour_reply s.state (next_hour fixed standard_coefficients z version l s.state i)) where
   known : hour_version version ≡ true
   known = (and_true (hour_version version) (leb s.last_version version) follows).0
 
-  pub step_refused : (r : Refusal) → x.answer ≡ Err r → (count : ℕ) → hour_entry z count s (hour version (i ++ j)) ≡ refused (number_of r) (index_of r)
+  pub step_refused : (r : Refusal) → x.answer ≡ Err r → (count : ℕ) → hour_entry fixed z count s (hour version (i ++ j)) ≡ refused (number_of r) (index_of r)
   unfolding hour_entry
   step_refused r f count =
-      rw (follows, by_parts version i j long z s.state l holds)
-      (next_then standard_coefficients z version l s.state i tested known (λ d after. ok (record { bytes = entry_of z version (i ++ j) d after; after = carried after version }))
-      ∙ rw (next_no s.state (next_hour standard_coefficients z version l s.state i) x e r f))
+      rw (follows, by_parts version i j long fixed z s.state l holds)
+      (next_then fixed standard_coefficients z version l s.state i tested known (λ d after. ok (record { bytes = entry_of z version (i ++ j) d after; after = carried after version }))
+      ∙ rw (next_no s.state (next_hour fixed standard_coefficients z version l s.state i) x e r f))
 
   -- what the hour step gives, as an entry
   pub step_given : (d : Demand) → x.answer ≡ Ok d → (count : ℕ)
-      → hour_entry z count s (hour version (i ++ j)) ≡ ok (record { bytes = entry_of z version (i ++ j) d x.state; after = carried x.state version })
+      → hour_entry fixed z count s (hour version (i ++ j)) ≡ ok (record { bytes = entry_of z version (i ++ j) d x.state; after = carried x.state version })
   unfolding hour_entry
   step_given d f count =
-      rw (follows, by_parts version i j long z s.state l holds)
-      (next_then standard_coefficients z version l s.state i tested known (λ y after. ok (record { bytes = entry_of z version (i ++ j) y after; after = carried after version }))
-      ∙ rw (next_yes s.state (next_hour standard_coefficients z version l s.state i) x e d f))
+      rw (follows, by_parts version i j long fixed z s.state l holds)
+      (next_then fixed standard_coefficients z version l s.state i tested known (λ y after. ok (record { bytes = entry_of z version (i ++ j) y after; after = carried after version }))
+      ∙ rw (next_yes s.state (next_hour fixed standard_coefficients z version l s.state i) x e d f))
 
 -- a version that may not follow
-pub step_not_next : (z : Zone) (s : Carried) (version : ℕ) → may_follow s.last_version version ≡ false → (i : List ℕ) (k : ℕ) → hour_entry z k s (hour version i) ≡ refused false_entry k
+pub step_not_next : (fixed : FixedRate) (z : Zone) (s : Carried) (version : ℕ) → may_follow s.last_version version ≡ false → (i : List ℕ) (k : ℕ) → hour_entry fixed z k s (hour version i) ≡ refused false_entry k
 unfolding hour_entry
-step_not_next z s version p i k = rw p
+step_not_next fixed z s version p i k = rw p

@@ -15,6 +15,8 @@ use Rattle.zone.specs.Format.Encode.{row_bytes}
 use Rattle.zone.specs.Inner.Temperatures.{most_nodes, temperatures_from}
 use Rattle.zone.specs.Calls.Hour.{HourResult}
 use Rattle.zone.specs.declared.record.zone_record.Zone.{Zone}
+use Rattle.zone.specs.declared.format.conditions.FixedRate.{FixedRate}
+use Rattle.zone.specs.declared.format.conditions.FixedRate.TheVariants.{StillTaken}
 use Rattle.zone.proofs.Promise.{ok_inj, drop_replicate, hour_fits, hour_behind, hour_nodes, row_back, take_fits, temps_length, count_few, node_count_few, length_row}
 use Rattle.book.specs.Model.Interface.{Written}
 use Rattle.book.specs.Model.Plain.{entries_of}
@@ -46,9 +48,9 @@ no_temperatures : (z : Zone) → drop (node_count z) (replicate most_nodes zero6
 no_temperatures z = drop_replicate (node_count z) most_nodes zero64
 
 -- an entry holds the state after its hour: every temperature is one that eight bytes spell
-module _ (z : Zone) (k : ℕ) (s : Carried) (version : ℕ) (i : List ℕ) (e : Written Carried) (p : hour_entry z k s (hour version i) ≡ ok e) where
-  abbrev made : HourEntered z s version i e
-  made = step_hour z k s version i e p
+module _ (fixed : FixedRate) (z : Zone) (k : ℕ) (s : Carried) (version : ℕ) (i : List ℕ) (e : Written Carried) (p : hour_entry fixed z k s (hour version i) ≡ ok e) where
+  abbrev made : HourEntered fixed z s version i e
+  made = step_hour fixed z k s version i e p
 
   abbrev N : ℕ
   N = node_count z
@@ -60,10 +62,10 @@ module _ (z : Zone) (k : ℕ) (s : Carried) (version : ℕ) (i : List ℕ) (e : 
   kept = take N r.state.temps
 
   few : N ≤ most_nodes
-  few = node_count_few z (count_few standard_coefficients z s.state version (body_limits version i) (body_conditions version i) r made.stepped)
+  few = node_count_few z (count_few standard_coefficients z s.state fixed version (body_limits version i) (body_conditions version i) r made.stepped)
 
   long : length kept ≡ N
-  long = length-take-le N r.state.temps (omega (arith, few, temps_length standard_coefficients z s.state version (body_limits version i) (body_conditions version i) r made.stepped))
+  long = length-take-le N r.state.temps (omega (arith, few, temps_length standard_coefficients z s.state fixed version (body_limits version i) (body_conditions version i) r made.stepped))
 
   -- the bytes before the temperatures
   abbrev front : List ℕ
@@ -85,15 +87,15 @@ module _ (z : Zone) (k : ℕ) (s : Carried) (version : ℕ) (i : List ℕ) (e : 
       ap (λ (n : ℕ). floats_at (drop n (front ++ row_bytes kept)) 0 N) at
       ∙ ap (λ (bs : List ℕ). floats_at bs 0 N) (drop_at front (row_bytes kept) (length front) refl ∙ sym (append-nil (row_bytes kept)))
       ∙ ap (λ (n : ℕ). floats_at (row_bytes kept ++ []) 0 n) (sym long)
-      ∙ row_back [] kept [] 0 refl (take_fits N r.state.temps (hour_fits standard_coefficients z version (body_limits version i) s.state (body_conditions version i) r made.stepped))
+      ∙ row_back [] kept [] 0 refl (take_fits N r.state.temps (hour_fits fixed standard_coefficients z version (body_limits version i) s.state (body_conditions version i) r made.stepped))
 
   whole_state : state_in z (front ++ row_bytes kept) ≡ r.state
   unfolding read_temperatures
   whole_state =
       let l = length-append front (row_bytes kept) in
-      let behind = hour_behind standard_coefficients z version (body_limits version i) s.state (body_conditions version i) r made.stepped in
+      let behind = hour_behind fixed standard_coefficients z version (body_limits version i) s.state (body_conditions version i) r made.stepped in
       rw (le-leb (float_size * N) (length (front ++ row_bytes kept)) (omega (arith, l, size)), reads, no_temperatures z)
-      (λ t. record { nodes = sym (hour_nodes standard_coefficients z version (body_limits version i) s.state (body_conditions version i) r made.stepped) t; temps = sym behind t })
+      (λ t. record { nodes = sym (hour_nodes fixed standard_coefficients z version (body_limits version i) s.state (body_conditions version i) r made.stepped) t; temps = sym behind t })
 
   pub step_state : state_in z e.bytes ≡ e.after.state
   step_state =
@@ -107,4 +109,4 @@ states_read z k s [] es h = rw (sym (ok_inj h)) refl
 states_read z k s (hour version i ∷ is) es h =
     let a = entries_cons year_interface z k s (hour version i) is es h in
     subst (λ x. map (λ c. (state_in z c).temps) (bytes_of x) ≡ map (λ y. y.after.state.temps) x) a.joined
-    (λ t. (step_state z k s version i a.e a.stepped t).temps ∷ states_read z (k + 1) a.e.after is a.others a.rest t)
+    (λ t. (step_state StillTaken z k s version i a.e a.stepped t).temps ∷ states_read z (k + 1) a.e.after is a.others a.rest t)

@@ -7,14 +7,14 @@ use native.Mathlib.Nat.{zero-add}
 use native.Mathlib.Omega.{arith}
 use lib.ListN.{length, take, drop, length-map}
 use lib.Seq.{drop_at}
-use Rattle.zone.specs.Promise.{Result, ok, refused}
+use Rattle.zone.specs.Promise.{Result, ok, refused, bind}
 use Rattle.zone.proofs.Promise.{ok_inj, ok_not_refused}
 use Rattle.zone.specs.Format.Head.{ReadHead}
 use Rattle.book.specs.Model.Interface.{Interface}
 use Rattle.book.proofs.Model.InterfaceLaws.{Laws}
 use Rattle.book.specs.Model.Calls.{BookState, whole_entries, check_entries, take_up_res}
 use Rattle.book.specs.Model.Plain.{entry_bytes, last_state, entries_of, used_bytes, own_book_state, WellFormed}
-use Rattle.book.specs.Model.PlainTakeUp.{take_up_plain, contents_in}
+use Rattle.book.specs.Model.PlainTakeUp.{take_up_plain, contents_held, contents_in}
 use Rattle.book.proofs.Model.Laws.Entries.{Entries, bytes_of, length_bytes_of, entries_cons}
 use Rattle.book.proofs.Model.Laws.Decode.{whole_none, whole_next}
 use Rattle.book.proofs.Model.Laws.Checking.{check_accepted, check_bad}
@@ -62,23 +62,23 @@ module _ (L : Interface) (W : Laws L) where
         same = J.same;
       }
 
-  pub contents_refused : (bytes : List ℕ) (c j : ℕ) → take_up_res L bytes ≡ refused c j → contents_in L bytes ≡ refused c j
-  unfolding take_up_res contents_in take_up_plain
-  contents_refused bytes c j = go (L.head_of bytes) refl
+  pub plain_refused : (bytes : List ℕ) (c j : ℕ) → take_up_res L bytes ≡ refused c j → take_up_plain L bytes ≡ refused c j
+  unfolding take_up_res take_up_plain
+  plain_refused bytes c j = go (L.head_of bytes) refl
     where
       go₃ : (z : L.Zone) (n : ℕ) (s : L.State) → L.head_of bytes ≡ ok (record { zone = z; length = n }) → L.start_up z ≡ ok s
-          → (x : Result (BookState L.State)) → check_entries L z 0 s n (whole_entries L z (drop n bytes)) ≡ x → take_up_res L bytes ≡ refused c j → contents_in L bytes ≡ refused c j
+          → (x : Result (BookState L.State)) → check_entries L z 0 s n (whole_entries L z (drop n bytes)) ≡ x → take_up_res L bytes ≡ refused c j → take_up_plain L bytes ≡ refused c j
       go₃ z n s e f (ok v) t h = ok_not_refused v c j (sym (rw (e, f) t) ∙ h)
       go₃ z n s e f (refused a b) t h =
           let B = check_bad L z 0 s n (whole_entries L z (drop n bytes)) a b (omega arith) t in
           rw (e, f, tests_bad L W z s (drop n bytes) a b B) (as_refusal a b c j (sym t ∙ (rw (e, f) at h)))
 
       go₂ : (z : L.Zone) (n : ℕ) → L.head_of bytes ≡ ok (record { zone = z; length = n }) → (x : Result L.State) → L.start_up z ≡ x
-          → take_up_res L bytes ≡ refused c j → contents_in L bytes ≡ refused c j
+          → take_up_res L bytes ≡ refused c j → take_up_plain L bytes ≡ refused c j
       go₂ z n e (refused a b) f h = rw (e, f) (as_refusal a b c j (rw (e, f) at h))
       go₂ z n e (ok s) f h = go₃ z n s e f (check_entries L z 0 s n (whole_entries L z (drop n bytes))) refl h
 
-      go : (x : Result (ReadHead L.Zone)) → L.head_of bytes ≡ x → take_up_res L bytes ≡ refused c j → contents_in L bytes ≡ refused c j
+      go : (x : Result (ReadHead L.Zone)) → L.head_of bytes ≡ x → take_up_res L bytes ≡ refused c j → take_up_plain L bytes ≡ refused c j
       go (refused a b) e h = rw e (as_refusal a b c j (rw e at h))
       go (ok x) e h = go₂ x.zone x.length e (L.start_up x.zone) refl h
 
@@ -121,3 +121,7 @@ module _ (L : Interface) (W : Laws L) where
       let T = contents_taken bytes z (length head) s _ head_is S.start_is accepted in
       let same : T.es ≡ es = ok_inj (sym T.entries_are ∙ ap (λ x. entries_of L z 0 s (map (L.item_of z) x)) read ∙ ap (entries_of L z 0 s) w.1 ∙ S.entries_are) in
       T.contents ∙ ap (λ x. ok (record { zone = z; start = s; entries = x })) same
+
+  pub contents_refused : (bytes : List ℕ) (c j : ℕ) → take_up_res L bytes ≡ refused c j → contents_in L bytes ≡ refused c j
+  unfolding contents_in
+  contents_refused bytes c j h = ap (λ x. bind x (contents_held L)) (plain_refused bytes c j h)

@@ -62,7 +62,7 @@ module _ (L : Interface) where
   AllAccepted [] = Unit {0}
   AllAccepted (e ∷ es) = ((v : BookState L.State) × (e.answer ≡ some (accepted v))) × AllAccepted es
 
-  -- each append has room for its entry, and accepts its item wherever the hour step does
+  -- each append has room for its entry, and accepts its item wherever the hour step does (of an item that is still judged true but no longer taken it does not)
   abbrev pub HaveRoom : List (Entry L) → List (L.Item × List ℕ) → Type 0
   HaveRoom es [] = Unit {0}
   HaveRoom [] (p ∷ ps) = Unit {0}
@@ -101,7 +101,7 @@ module _ (L : Interface) where
     pub held_again : (at : ℕ) → length head ≤ at → at ≤ length (used_bytes L head S.contents)
         → (ps : List (L.Item × List ℕ)) → kept_by at head is S ++ map (λ p. p.0) ps ≡ is → AllAccepted (plain_run L (book head (kept_by at head is S)) (appends_of ps))
         → plain_after L (book head is) (call_cut at ∷ appends_of ps) ≡ book head is
-    -- and they are accepted anew where each has room.
+    -- and they are accepted anew where each has room and is one that appends still take.
     pub accepted_anew : (at : ℕ) → length head ≤ at → at ≤ length (used_bytes L head S.contents)
         → (ps : List (L.Item × List ℕ)) → kept_by at head is S ++ map (λ p. p.0) ps ≡ is → HaveRoom (drop (length (kept_by at head is S)) S.contents.entries) ps
         → AllAccepted (plain_run L (book head (kept_by at head is S)) (appends_of ps))

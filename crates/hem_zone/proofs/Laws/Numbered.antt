@@ -1,18 +1,18 @@
--- Every refusal of the papers has a number from 1 to 23 and an index of at most 8,783: family by family.
+-- Every refusal of the papers has a number from 1 to 24 and an index of at most 8,783: family by family.
 use Prim.Native.Nat.{ℕ, ◌≤◌}
 use borrow.Author.Rules.{rules}
 use Rattle.zone.specs.Promise.{SolveRefusal, solve_divisor, solve_temperature}
 use Rattle.zone.specs.Claims.HeadRefusals as Head
 use Rattle.zone.specs.Claims.Refusals as Zone
 use Rattle.book.specs.Refusals as Book
-use Rattle.tools.specs.Refusals.{QuestionRefusal, question_take_up, question_invalid}
+use Rattle.tools.specs.Refusals.{QuestionRefusal, question_take_up, question_invalid, ConvertRefusal, convert_take_up, convert_version_1, convert_buffer_short}
 use Rattle.weather.specs.Refusals.{WeatherRefusal, weather_absent, weather_invalid, weather_missing}
 use Rattle.hem_zone.specs.Claims.{AfterHead, of_head, of_call}
 
 -- a refusal of the papers
 pub record Numbered (number index : ℕ) : Type 0 where
   pub from_1 : 1 ≤ number
-  pub to_23 : number ≤ 23
+  pub to_24 : number ≤ 24
   pub few : index ≤ 8783
 
 solve_numbered : (n i : ℕ) → SolveRefusal n i → Numbered n i
@@ -91,6 +91,11 @@ take_up_numbered n i (Book.take_up_false_entry entry h) = search rules
 pub question_numbered : (n i : ℕ) → QuestionRefusal n i → Numbered n i
 question_numbered n i (question_take_up p) = take_up_numbered n i p
 question_numbered n i question_invalid = search rules
+
+pub convert_numbered : (n i : ℕ) → ConvertRefusal n i → Numbered n i
+convert_numbered n i (convert_take_up p) = take_up_numbered n i p
+convert_numbered n i convert_version_1 = search rules
+convert_numbered n i convert_buffer_short = search rules
 
 pub weather_numbered : (n i : ℕ) → WeatherRefusal n i → Numbered n i
 weather_numbered n i weather_absent = search rules

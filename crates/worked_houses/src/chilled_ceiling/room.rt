@@ -56,8 +56,8 @@ pub fn head() -> [u8; HEAD] {
 }
 
 // An hour with this temperature outside, sun on the elements and gains inside; the target of the rates is that of open windows.
-fn conditions(outside: f64, sun: f64, gains: f64) -> [u8; CONDITIONS] {
-    let hour = Hour {
+fn hour_of(outside: f64, sun: f64, gains: f64) -> Hour {
+    Hour {
         external: outside,
         internal_gains: gains,
         solar_gains: sun,
@@ -67,14 +67,21 @@ fn conditions(outside: f64, sun: f64, gains: f64) -> [u8; CONDITIONS] {
         rates: Rates::TargetAndWindowsOpen(0.5, 0.5),
         part: part(outside, sun),
         ..Hour::of(HEATING_SETPOINT, COOLING_SETPOINT)
-    };
-    hour.bytes()
+    }
+}
+
+pub fn warm() -> Hour {
+    hour_of(32.0, 400.0, 300.0)
+}
+
+pub fn cold() -> Hour {
+    hour_of(0.0, 0.0, 50.0)
 }
 
 pub fn warm_hour() -> [u8; CONDITIONS] {
-    conditions(32.0, 400.0, 300.0)
+    warm().bytes()
 }
 
 pub fn cold_hour() -> [u8; CONDITIONS] {
-    conditions(0.0, 0.0, 50.0)
+    cold().bytes()
 }

@@ -62,12 +62,12 @@ pub fn start() -> State {
     }
 }
 
-// With these heating and cooling setpoints; all power by convection, and nothing from other systems, if nothing else is said.
+// With these heating and cooling setpoints, target and windows open both 0; all power by convection, and nothing from other systems, if nothing else is said.
 pub fn hour_of(heat: f64, cool: f64) -> Hour {
     Hour {
         external: 20.0,
         supply: 20.0,
-        rates: Rates::Cooling(0.0),
+        rates: Rates::TargetAndWindowsOpen(0.0, 0.0),
         part: PART,
         ..Hour::of(heat, cool)
     }

@@ -13,14 +13,14 @@ use crate::zone_read::ZoneRead;
 use book::BookState;
 use std::io;
 
-const LONG_ENTRY: usize = 232;
+pub const LONG_ENTRY: usize = 232;
 
 // The eight hours, two of version 1, three of version 2, three of version 3, and a rest too short for an entry.
-const USED: usize = HEAD + 5 * ENTRY + 3 * LONG_ENTRY;
+pub const USED: usize = HEAD + 5 * ENTRY + 3 * LONG_ENTRY;
 
 const REST: usize = 4;
 
-const ROOM: usize = USED + REST;
+pub const ROOM: usize = USED + REST;
 
 // The last byte of the air's temperature after hour 3.
 const DAMAGED: usize = HEAD + 4 * ENTRY - 1;
@@ -198,11 +198,16 @@ fn print_frozen(rt: &impl Print, zone: &ZoneRead) -> io::Result<()> {
     nearest(rt, "  20, start-up's own", &book, 20.0, Ok(Some(1)))
 }
 
-fn print_whole(rt: &impl Print, book: &[u8; ROOM]) -> io::Result<()> {
-    println!(rt; "eight hours of versions 1, 2 and 3 with 4 bytes behind them")?;
+// Of the eight hours.
+pub fn print_answers(rt: &impl Print, book: &[u8]) -> io::Result<()> {
     print_above(rt, book)?;
     print_within(rt, book)?;
-    print_nearest(rt, book)?;
+    print_nearest(rt, book)
+}
+
+fn print_whole(rt: &impl Print, book: &[u8; ROOM]) -> io::Result<()> {
+    println!(rt; "eight hours of versions 1, 2 and 3 with 4 bytes behind them")?;
+    print_answers(rt, book)?;
     print_each(rt, book, TURNED_AWAY.at(0))?;
     print_cuts(rt, book)
 }
@@ -214,11 +219,16 @@ fn print_damaged(rt: &impl Print, book: &[u8]) -> io::Result<()> {
     print_each(rt, book, false_entry)
 }
 
+pub fn eight_hours(zone: &ZoneRead) -> [u8; ROOM] {
+    let mut book = [0; ROOM];
+    write_hours(zone, &EIGHT, &mut book);
+    book
+}
+
 pub fn print_questions(rt: &impl Print) -> anyhow::Result<()> {
     let head = HOUSE_P.head();
     let zone = ZoneRead::read(&head)?;
-    let mut book = [0; ROOM];
-    write_hours(&zone, &EIGHT, &mut book);
+    let mut book = eight_hours(&zone);
     print_whole(rt, &book)?;
     book[DAMAGED] = 1;
     print_damaged(rt, &book)?;

@@ -86,10 +86,20 @@ pub fn print_house(rt: &impl Print) -> anyhow::Result<()> {
     let head = head();
     let zone = ZoneRead::read(&head)?;
     let weather = weather_of(File::of_fields(["2.0", "96", "48"]).bytes(), 1)?;
-    let conditions = in_weather(hour_of(20.0, 24.0), weather).conditions();
+    let hour = in_weather(hour_of(20.0, 24.0), weather);
+    let conditions = hour.conditions();
+    let fixed = hour.with_fixed_rate(0.0).conditions();
     println!(rt; "the hour of 2.0, 96 and 48")?;
     print_versions(rt, &zone, &conditions)?;
     let expected = Ok(Because(Reason::NoChoice, Load::Heating));
     why(rt, "  reason", &zone, start(), &conditions, expected)?;
+    why(
+        rt,
+        "  with a fixed rate of 0",
+        &zone,
+        start(),
+        &fixed,
+        expected,
+    )?;
     print_accepted(rt, &zone)
 }

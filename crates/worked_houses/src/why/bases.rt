@@ -13,6 +13,7 @@ fn print_warm_surface(rt: &impl Print) -> anyhow::Result<()> {
     let lower = hour_of(18.0, 22.0, 20.0);
     let between = hour_of(18.0, 25.0, 26.0);
     let fixed = hour_of(18.0, 28.0, 23.0).with_fixed_rate(0.0);
+    let twice = fixed.with_rate_twice();
     println!(rt; "surface at 35 and air at 19; setpoints of heating, cooling and ventilation")?;
     for (asked, basis, hour, reason, load) in [
         (
@@ -62,6 +63,14 @@ fn print_warm_surface(rt: &impl Print) -> anyhow::Result<()> {
             "  by operative temperature",
             Operative,
             fixed,
+            NoChoice,
+            Cooling,
+        ),
+        ("  18/28/23, 0 and 0, by air", Air, twice, NoChoice, Neither),
+        (
+            "  by operative temperature",
+            Operative,
+            twice,
             NoChoice,
             Cooling,
         ),

@@ -20,6 +20,12 @@ fn print_no_choice_first(rt: &impl Print) -> anyhow::Result<()> {
                 Cooling,
             ),
             (
+                "  and the same, 0 and 0",
+                hour_of(18.0, 25.0, NO_CONTROL).with_rates(0.0, 0.0),
+                NoChoice,
+                Cooling,
+            ),
+            (
                 "  and not above setpoint, 2 and 2",
                 hour_of(18.0, 25.0, 21.0).with_rates(2.0, 2.0),
                 NoChoice,
@@ -30,6 +36,14 @@ fn print_no_choice_first(rt: &impl Print) -> anyhow::Result<()> {
                 hour_of(18.0, 25.0, 23.0)
                     .with_supply(30.0)
                     .with_fixed_rate(0.0),
+                NoChoice,
+                Cooling,
+            ),
+            (
+                "  and the same, 0 and 0",
+                hour_of(18.0, 25.0, 23.0)
+                    .with_supply(30.0)
+                    .with_rates(0.0, 0.0),
                 NoChoice,
                 Cooling,
             ),

@@ -1,7 +1,9 @@
 // The first four reasons, which no rate has to be found for, with each load that can stand beside them.
+use crate::bytes::Hour;
 use crate::why::answers::print_hours;
 use crate::why::room::{Room, hour_of};
 use crate::zone_read::NO_CONTROL;
+use zone::AirChangesPerHourArgument as Rates;
 use zone::Load::{Cooling, Heating, Neither};
 use zone::Reason::{
     NoChoice, NotAboveSupply, NotAboveVentilationSetpoint, WindowsDoNotCool, WindowsEnough,
@@ -9,32 +11,39 @@ use zone::Reason::{
 
 const BELOW_27: f64 = 26.999999999999996;
 
-fn print_no_choice(rt: &impl Print) -> anyhow::Result<()> {
+// Free is 27. No call takes a fixed rate any more, but why such an hour is what it is is still told, and is the same as where target and windows open both
+// are the rate.
+fn print_at_0(rt: &impl Print, title: &str, rates: Rates) -> anyhow::Result<()> {
+    let hour = |heat, cool, vent| Hour {
+        rates,
+        ..hour_of(heat, cool, vent)
+    };
     print_hours(
         rt,
-        "a fixed rate of 0: free 27",
+        title,
         Room::warm(),
         &[
             (
                 "  setpoints 18/25",
-                hour_of(18.0, 25.0, 23.0).with_fixed_rate(0.0),
+                hour(18.0, 25.0, 23.0),
                 NoChoice,
                 Cooling,
             ),
-            (
-                "  18/28",
-                hour_of(18.0, 28.0, 23.0).with_fixed_rate(0.0),
-                NoChoice,
-                Neither,
-            ),
+            ("  18/28", hour(18.0, 28.0, 23.0), NoChoice, Neither),
             (
                 "  28/30, ventilation 30",
-                hour_of(28.0, 30.0, 30.0).with_fixed_rate(0.0),
+                hour(28.0, 30.0, 30.0),
                 NoChoice,
                 Heating,
             ),
         ],
-    )?;
+    )
+}
+
+fn print_no_choice(rt: &impl Print) -> anyhow::Result<()> {
+    print_at_0(rt, "a fixed rate of 0: free 27", Rates::Cooling(0.0))?;
+    let twice = Rates::TargetAndWindowsOpen(0.0, 0.0);
+    print_at_0(rt, "target and windows open 0: free 27", twice)?;
     print_hours(
         rt,
         "target and windows open 4: free 19",
@@ -84,6 +93,12 @@ fn print_zeros(rt: &impl Print) -> anyhow::Result<()> {
             (
                 "  -0.0, fixed",
                 hour_of(18.0, 25.0, 23.0).with_fixed_rate(-0.0),
+                NoChoice,
+                Cooling,
+            ),
+            (
+                "  -0.0 and -0.0",
+                hour_of(18.0, 25.0, 23.0).with_rates(-0.0, -0.0),
                 NoChoice,
                 Cooling,
             ),

@@ -1,4 +1,5 @@
-// Hours that the demand refuses, each asked for its demand and for its reason: the same number and index, before any reason.
+// Hours that the demand refuses, each asked for its demand and for its reason: the same number and index, before any reason. A fixed rate the demand refuses
+// by itself, 8, and the reason's refusals are those that they were.
 use crate::bytes::{CONDITIONS, Hour};
 use crate::refusal::{Answer, Cause, Refusal};
 use crate::table::row;
@@ -20,6 +21,28 @@ const SECOND_RATE: usize = 105;
 
 const EXTERNAL: usize = 113;
 
+// What the demand refuses, and what the reason does.
+#[derive(Clone, Copy)]
+struct Expected {
+    demand: Refusal,
+    reason: Refusal,
+}
+
+fn print_each(
+    rt: &impl Print,
+    title: &str,
+    zone: &ZoneRead,
+    before: State,
+    conditions: &[u8],
+    expected: Expected,
+) -> io::Result<()> {
+    let Expected { demand, reason } = expected;
+    let came = zone.demand(before, conditions).map(|_| "a demand");
+    println!(rt; "{title}")?;
+    row(rt, "  demand", Answer(came), Answer(Err(demand)))?;
+    why(rt, "  reason", zone, before, conditions, Err(reason))
+}
+
 fn print_both(
     rt: &impl Print,
     title: &str,
@@ -28,10 +51,11 @@ fn print_both(
     conditions: &[u8],
     expected: Refusal,
 ) -> io::Result<()> {
-    let demand = zone.demand(before, conditions).map(|_| "a demand");
-    println!(rt; "{title}")?;
-    row(rt, "  demand", Answer(demand), Answer(Err(expected)))?;
-    why(rt, "  reason", zone, before, conditions, Err(expected))
+    let both = Expected {
+        demand: expected,
+        reason: expected,
+    };
+    print_each(rt, title, zone, before, conditions, both)
 }
 
 // A room with these bytes as its conditions.
@@ -159,35 +183,50 @@ fn print_state_and_conditions(rt: &impl Print) -> anyhow::Result<()> {
     print_bytes(rt)
 }
 
-// Each with a fixed rate too, where there is no choice whatever the temperatures are.
+// An hour without a choice of rates: with this rate twice, and with the fixed rate, which the demand refuses before it looks at anything else of the hour.
+fn print_no_choice(
+    rt: &impl Print,
+    title: &str,
+    room: Room,
+    hour: Hour,
+    rate: f64,
+    cause: Cause,
+) -> anyhow::Result<()> {
+    let twice = hour.with_rates(rate, rate).conditions();
+    let fixed = hour.with_fixed_rate(rate).conditions();
+    let reason = cause.at(0);
+    let apart = Expected {
+        demand: Cause::ConditionsCode.at(0),
+        reason,
+    };
+    let head = room.head();
+    let zone = ZoneRead::read(&head)?;
+    print_both(rt, title, &zone, room.before(), &twice, reason)?;
+    let title = "with a fixed rate";
+    print_each(rt, title, &zone, room.before(), &fixed, apart)?;
+    Ok(())
+}
+
+// Each with rates that leave no choice too, whatever the temperatures are.
 fn print_setpoints(rt: &impl Print) -> anyhow::Result<()> {
     let warm = Room::warm();
-    let crossed = hour_of(26.0, 25.0, 26.0);
-    let vent_below = hour_of(24.0, 25.0, 23.0);
-    print_hours(
-        rt,
-        &[
-            ("setpoints 26/25", warm, crossed, Cause::CoolingBelowHeating),
-            (
-                "with a fixed rate",
-                warm,
-                crossed.with_fixed_rate(0.0),
-                Cause::CoolingBelowHeating,
-            ),
-            (
-                "24/25, ventilation 23",
-                warm,
-                vent_below,
-                Cause::VentilationBelowHeating,
-            ),
-            (
-                "with a fixed rate",
-                warm,
-                vent_below.with_fixed_rate(0.0),
-                Cause::VentilationBelowHeating,
-            ),
-        ],
-    )
+    let same = "with target and windows open 0";
+    for (title, hour, cause) in [
+        (
+            "setpoints 26/25",
+            hour_of(26.0, 25.0, 26.0),
+            Cause::CoolingBelowHeating,
+        ),
+        (
+            "24/25, ventilation 23",
+            hour_of(24.0, 25.0, 23.0),
+            Cause::VentilationBelowHeating,
+        ),
+    ] {
+        print_hours(rt, &[(title, warm, hour, cause)])?;
+        print_no_choice(rt, same, warm, hour, 0.0, cause)?;
+    }
+    Ok(())
 }
 
 // A surface that holds nothing and hardly any useful area: beside 2.5 W/K no capacity is left, and gains have no place to go.
@@ -215,27 +254,27 @@ fn print_solves(rt: &impl Print) -> anyhow::Result<()> {
     )
 }
 
-// Hardly any useful area: the greatest heating and cooling do not move the temperature. With a fixed rate of 1 free is 21.
+// Hardly any useful area: the greatest heating and cooling do not move the temperature. With a rate of 1 free is 21.
 fn print_no_effect(rt: &impl Print) -> anyhow::Result<()> {
     let room = Room {
         useful_area: 1e-12,
         ..Room::warm()
     };
+    for (title, hour) in [
+        (
+            "heating without effect: no choice of rates",
+            hour_of(22.0, 25.0, 23.0),
+        ),
+        (
+            "cooling without effect: no choice of rates",
+            hour_of(18.0, 20.0, 23.0),
+        ),
+    ] {
+        print_no_choice(rt, title, room, hour, 1.0, Cause::NoEffect)?;
+    }
     print_hours(
         rt,
         &[
-            (
-                "heating without effect: no choice of rates",
-                room,
-                hour_of(22.0, 25.0, 23.0).with_fixed_rate(1.0),
-                Cause::NoEffect,
-            ),
-            (
-                "cooling without effect: no choice of rates",
-                room,
-                hour_of(18.0, 20.0, 23.0).with_fixed_rate(1.0),
-                Cause::NoEffect,
-            ),
             (
                 "free not above ventilation setpoint",
                 room,

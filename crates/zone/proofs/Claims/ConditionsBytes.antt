@@ -1,7 +1,7 @@
 -- Accepted conditions determine their bytes.
 use Prim.Native.Nat.{ℕ, suc, zero, ◌+◌, ◌*◌, ◌-◌, ◌≤◌}
 use mathlib.Core.Path.{◌≡◌, refl, sym, ap, ◌∙◌}
-use mathlib.Core.Bool.{Bool, true, false, cond, ◌&&◌}
+use mathlib.Core.Bool.{Bool, true, false, cond, ◌&&◌, true≢false}
 use mathlib.Core.List.{List, [], ◌∷◌, ◌++◌, map}
 use native.Mathlib.Omega.{arith}
 use borrow.Author.Tests.{eqb-true}
@@ -13,7 +13,7 @@ use Rattle.solver.specs.Result.{ok, require_at}
 use Rattle.solver.proofs.Laws.Result.{bind_ok, require_ok}
 use Rattle.zone.specs.Record.Numbers.{conditions_value}
 use Rattle.zone.specs.Format.Layout.{open_byte, element_hour_size, rate_code, first_rate, second_rate, first_element_hour, conditions_length}
-use Rattle.zone.specs.Format.Bytes.{Bytes, num_at, float_at}
+use Rattle.zone.specs.Format.Bytes.{Bytes, num_at, float_at, float_size}
 use Rattle.zone.specs.Format.Decode.{floats_at, element_hour_at, no_element_hour}
 use Rattle.zone.specs.Check.Ranges.{hour_length_range, temperature_range, gains_range, fraction_range}
 use Rattle.zone.specs.Check.Ranges.{heating_setpoint_range, setpoint_range, rate_range, irradiance_range}
@@ -25,6 +25,8 @@ use Rattle.zone.specs.Claims.Encode.{element_hour_bytes, element_hours_bytes, ac
 use Rattle.zone.specs.declared.record.zone_record.Zone.{Zone}
 use Rattle.zone.specs.declared.format.conditions.Conditions.{Conditions}
 use Rattle.zone.specs.declared.format.conditions.AirChangesPerHourArgument.TheVariants.{Cooling, TargetAndWindowsOpen}
+use Rattle.zone.specs.declared.format.conditions.FixedRate.{FixedRate}
+use Rattle.zone.specs.declared.format.conditions.FixedRate.TheVariants.{Retired, StillTaken}
 use Rattle.solver.proofs.Laws.Tests.{and_true}
 use Rattle.zone.proofs.Laws.RoundTrip.{Numbers, part, part_add, part_one, number_part, float_part, row_part}
 use Rattle.zone.proofs.Laws.Numbers.{hour_length_number, temperature_number, gains_number, fraction_number}
@@ -117,7 +119,7 @@ module _ (s : List ℕ) (b : Bytes s) where
         float_part s b second_rate (omega arith) (rate_number (float_at s second_rate) r.1),
       )
 
-  rates_part : first_element_hour ≤ length s → rate_code_valid s ≡ true → ach_args_in_range (ach_args_at s rate_code) ≡ true
+  rates_part : first_element_hour ≤ length s → rate_code_valid StillTaken s ≡ true → ach_args_in_range (ach_args_at s rate_code) ≡ true
       → ach_args_bytes (ach_args_at s rate_code) ≡ part s rate_code (1 + 8 * 2)
   rates_part h g e =
       rates_by (eqb (get_or s rate_code 0) 0) refl h g e
@@ -183,7 +185,7 @@ row : (s : List ℕ) (n : ℕ) (b : Bytes s) → hour_and_gains_in_range (condit
 unfolding floats_at
 row s n b i p h = row_part s b 0 12 (omega arith) (front_numbers s n i p)
 
-whole : (s : List ℕ) (n : ℕ) → Bytes s → length s ≡ conditions_length n → rate_code_valid s ≡ true
+whole : (s : List ℕ) (n : ℕ) → Bytes s → length s ≡ conditions_length n → rate_code_valid StillTaken s ≡ true
     → hour_and_gains_in_range (conditions_at s n) ≡ true → setpoints_in_range (conditions_at s n) ≡ true → ach_args_in_range (conditions_at s n).ach_args ≡ true
     → all_required element_hour_in_range conditions_value (take n (conditions_at s n).elements) 1 ≡ ok tt
     → conditions_bytes n (conditions_at s n) ≡ s
@@ -197,7 +199,7 @@ whole s n b h g i p r e =
     ∙ sym (part_add s 0 rate_code (1 + 8 * 2 + element_hour_size * n))
     ∙ take_all (rate_code + (1 + 8 * 2 + element_hour_size * n)) s (omega arith))
 
-bytes_of : (s : List ℕ) (n : ℕ) → Bytes s → length s ≡ conditions_length n → rate_code_valid s ≡ true → conditions_test n (conditions_at s n) ≡ ok tt
+bytes_of : (s : List ℕ) (n : ℕ) → Bytes s → length s ≡ conditions_length n → rate_code_valid StillTaken s ≡ true → conditions_test n (conditions_at s n) ≡ ok tt
     → conditions_bytes n (conditions_at s n) ≡ s
 unfolding conditions_test
 bytes_of s n b h g e =
@@ -208,14 +210,23 @@ bytes_of s n b h g e =
     let t2 = and_true (hour_and_gains_in_range c) (setpoints_in_range c) t3.0 in
     whole s n b h g t2.0 t2.1 t3.1 x.2
 
+-- a code that is good for a call is good for an hour that is judged
+still_taken : (fixed : FixedRate) (bs : List ℕ) → rate_code_valid fixed bs ≡ true → rate_code_valid StillTaken bs ≡ true
+still_taken StillTaken bs h = h
+still_taken Retired bs h = go (eqb (get_or bs rate_code 0) 0) h
+  where
+    go : (b : Bool) → cond b false (eqb (get_or bs rate_code 0) 1) ≡ true → cond b (eqb (num_at bs second_rate float_size) 0) (eqb (get_or bs rate_code 0) 1) ≡ true
+    go true h = absurd (true≢false (sym h))
+    go false h = h
+
 -- accepted conditions are the bytes of what they decode to
-pub conditions_bytes_lem : (z : Zone) (bs : List ℕ) (c : Conditions) → Bytes bs → conditions_of z bs ≡ ok c → bs ≡ conditions_bytes z.count c
-conditions_bytes_lem z bs c b e =
-    let a = accepted z bs c e in
+pub conditions_bytes_lem : (fixed : FixedRate) (z : Zone) (bs : List ℕ) (c : Conditions) → Bytes bs → conditions_of fixed z bs ≡ ok c → bs ≡ conditions_bytes z.count c
+conditions_bytes_lem fixed z bs c b e =
+    let a = accepted fixed z bs c e in
     let ts = map (λ e. e.treatments) z.building_elements in
     let v : conditions_test z.count (conditions_at bs z.count) ≡ ok tt = rw (← a.decoded) a.values in
-    sym (ap (conditions_bytes z.count) a.decoded ∙ bytes_of bs z.count b a.size (and_true (rate_code_valid bs) (open_bits_valid bs (take z.count ts) first_element_hour) a.code).0 v)
+    sym (ap (conditions_bytes z.count) a.decoded ∙ bytes_of bs z.count b a.size (still_taken fixed bs (and_true (rate_code_valid fixed bs) (open_bits_valid bs (take z.count ts) first_element_hour) a.code).0) v)
 
 -- so no two byte strings that a zone accepts decode to the same conditions
-pub conditions_injective : (z : Zone) (a b : List ℕ) (c : Conditions) → Bytes a → Bytes b → conditions_of z a ≡ ok c → conditions_of z b ≡ ok c → a ≡ b
-conditions_injective z a b c ba bb ea eb = conditions_bytes_lem z a c ba ea ∙ sym (conditions_bytes_lem z b c bb eb)
+pub conditions_injective : (fixed : FixedRate) (z : Zone) (a b : List ℕ) (c : Conditions) → Bytes a → Bytes b → conditions_of fixed z a ≡ ok c → conditions_of fixed z b ≡ ok c → a ≡ b
+conditions_injective fixed z a b c ba bb ea eb = conditions_bytes_lem fixed z a c ba ea ∙ sym (conditions_bytes_lem fixed z b c bb eb)

@@ -20,6 +20,7 @@ use Rattle.zone.specs.declared.record.building_element.HeatFlowDirection.TheVari
 use Rattle.zone.specs.declared.record.building_element.Element.{Element}
 use Rattle.zone.specs.declared.record.zone_record.Zone.{Zone}
 use Rattle.zone.specs.declared.format.conditions.Conditions.{Conditions}
+use Rattle.zone.specs.declared.format.conditions.FixedRate.TheVariants.{Retired}
 use Rattle.zone.specs.declared.physics.balance.HeatBalance.{HeatBalance}
 use Rattle.zone.specs.declared.calls.state.State.{State}
 use Rattle.zone.specs.Record.Numbers as Number
@@ -232,14 +233,14 @@ module _ (z : Zone) (s : State) (h : Conditions) (gains fraction ach : Float) wh
 pub update_by_direction : (z : Zone) → UpdateByDirection z
 unfolding update_temperatures tested
 update_by_direction z s bytes gains fraction ach r e =
-    let h = bind_ok (tested z s bytes) _ r e in
+    let h = bind_ok (tested Retired z s bytes) _ r e in
     let w = bind_ok (require (gains_range gains && fraction_range fraction && rate_range ach) Number.conditions_value) _ r h.2 in
     let u = bind_ok (zone_test z) _ h.0 h.1 in
     step_by_direction z s h.0 gains fraction ach u.0 u.1 r w.2
 
 pub hour_by_direction : (z : Zone) → HourByDirection z
 unfolding tested
-hour_by_direction z version l s bytes r e =
-    let m = hour_made standard_coefficients z s version l bytes r e in
+hour_by_direction z fixed version l s bytes r e =
+    let m = hour_made standard_coefficients z s fixed version l bytes r e in
     let u = bind_ok (zone_test z) _ m.conditions m.tests in
     step_by_direction z s m.conditions m.gains m.fraction r.demand.ach_cooling u.0 u.1 (r.state, r.balance) m.stepped

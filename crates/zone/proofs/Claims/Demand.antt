@@ -44,11 +44,11 @@ demand_signs c z t h d e =
 module _ (c : Coefficients) (z : Zone) where
   pub demand_call_signs : DemandCallSigns c z
   unfolding demand
-  demand_call_signs s bytes d e =
-      let h = bind_ok (tested z s bytes) _ d e in
+  demand_call_signs fixed s bytes d e =
+      let h = bind_ok (tested fixed z s bytes) _ d e in
       demand_signs c z (slots_of z s) h.0 d h.2
 
   pub hour_call_signs : HourCallSigns c z
-  hour_call_signs version l s bytes r e =
-      let h = hour_made c z s version l bytes r e in
+  hour_call_signs fixed version l s bytes r e =
+      let h = hour_made c z s fixed version l bytes r e in
       demand_signs c z (slots_of z s) h.conditions r.demand h.answered

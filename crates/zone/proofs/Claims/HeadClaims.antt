@@ -6,6 +6,7 @@ use Rattle.solver.specs.Result.{ok}
 use Rattle.zone.specs.Format.Head.{ReadHead, head_of}
 use Rattle.zone.specs.Claims.Head.{HeadClaims, AcceptedHead, ZoneClaims, ConditionsClaims}
 use Rattle.zone.specs.declared.record.zone_record.Zone.{Zone}
+use Rattle.zone.specs.declared.format.conditions.FixedRate.{FixedRate}
 use Rattle.zone.proofs.Claims.HeadAlike.{head_alike}
 use Rattle.zone.proofs.Claims.Head.{head_within, head_then, head_tested, head_as_record, head_length_lem, zone_count}
 use Rattle.zone.proofs.Claims.HeadBytes.{head_bytes_lem, head_injective}
@@ -30,11 +31,11 @@ head_claims = record { accepted = accepted_head; alike = λ a b n m ha hb s. hea
 pub zone_claims : (z : Zone) → ZoneClaims z
 zone_claims z = record { refusals = zone_refusals z; count = zone_count z }
 
-pub conditions_claims : (z : Zone) (bs : List ℕ) → ConditionsClaims z bs
-conditions_claims z bs =
+pub conditions_claims : (fixed : FixedRate) (z : Zone) (bs : List ℕ) → ConditionsClaims fixed z bs
+conditions_claims fixed z bs =
     record {
-      refusals = conditions_refusals z bs;
-      size = conditions_length_lem z bs;
-      bytes = conditions_bytes_lem z bs;
-      injective = λ c other. conditions_injective z bs other c;
+      refusals = conditions_refusals fixed z bs;
+      size = conditions_length_lem fixed z bs;
+      bytes = conditions_bytes_lem fixed z bs;
+      injective = λ c other. conditions_injective fixed z bs other c;
     }

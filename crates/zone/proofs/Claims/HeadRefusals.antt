@@ -14,6 +14,7 @@ use Rattle.zone.specs.declared.record.building_element.Element.{Element}
 use Rattle.zone.specs.declared.record.zone_record.Zone.{Zone}
 use Rattle.zone.specs.Record.Numbers as Number
 use Rattle.zone.specs.declared.format.conditions.Conditions.{Conditions}
+use Rattle.zone.specs.declared.format.conditions.FixedRate.{FixedRate}
 use Rattle.zone.specs.Format.ElementLayout.{kind_valid_at, size_at}
 use Rattle.zone.specs.Format.Decode.{zone_at}
 use Rattle.zone.specs.Check.ZoneTest.{count_valid, element_treatments_valid, element_hour_in_range, element_in_range, front_in_range, values_test, counts_test, zone_test}
@@ -130,11 +131,11 @@ conditions_test_refuses n c h =
     test_refuses (hour_and_gains_in_range c && setpoints_in_range c && ach_args_in_range c.ach_args) Number.conditions_value 0 _ (conditions_value 0 (omega arith)) λ _.
     required_refuses element_hour_in_range Number.conditions_value conditions_value (take n c.elements) 1 (take_few n c.elements h)
 
-pub conditions_refusals : (z : Zone) (bs : List ℕ) → RefusesOnly ConditionsRefusal (conditions_of z bs)
+pub conditions_refusals : (fixed : FixedRate) (z : Zone) (bs : List ℕ) → RefusesOnly ConditionsRefusal (conditions_of fixed z bs)
 unfolding conditions_of
-conditions_refusals z bs =
+conditions_refusals fixed z bs =
     let n = z.count in
     test_refuses (leb n 24 && eqb (length bs) (conditions_length n)) Number.conditions_size 0 _ conditions_size λ e.
-    test_refuses (rate_code_valid bs && open_bits_valid bs (take n (map (λ (e : Element). e.treatments) z.building_elements)) first_element_hour) Number.conditions_code 0 _ conditions_code λ _.
+    test_refuses (rate_code_valid fixed bs && open_bits_valid bs (take n (map (λ (e : Element). e.treatments) z.building_elements)) first_element_hour) Number.conditions_code 0 _ conditions_code λ _.
     bind_refuses _ (conditions_test_refuses n (conditions_at bs n) (leb-true n 24 (and_true (leb n 24) (eqb (length bs) (conditions_length n)) e).0)) λ _ _.
     accepts (conditions_at bs n)

@@ -101,7 +101,18 @@ computed = tt
 
 pub house_p_lem : HousePClaims
 unfolding computed
-house_p_lem = record { head = refl; start_up = refl; balance = _; hour_1 = λ l. refl; hour_2 = λ l. refl; hour_3 = refl }
+house_p_lem =
+    record {
+      head = refl;
+      start_up = refl;
+      balance = _;
+      hour_1 = λ l. refl;
+      hour_2 = λ l. refl;
+      old_refused = refl;
+      old_hour = λ l. refl;
+      old_twice = refl;
+      hour_3 = refl;
+    }
 
 pub claim : all_hold table ≡ true
 unfolding all_hold computed

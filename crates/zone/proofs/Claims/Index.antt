@@ -11,6 +11,8 @@ use Rattle.solver.proofs.Laws.Refusals.{bind_refuses, cond_refuses, require_refu
 use Rattle.zone.specs.declared.record.building_element.Coefficients.{Coefficients}
 use Rattle.zone.specs.declared.record.building_element.Element.{Element}
 use Rattle.zone.specs.declared.record.zone_record.Zone.{Zone}
+use Rattle.zone.specs.declared.format.conditions.FixedRate.{FixedRate}
+use Rattle.zone.specs.declared.format.conditions.FixedRate.TheVariants.{Retired}
 use Rattle.zone.specs.declared.format.limits.Limits.{Limits}
 use Rattle.zone.specs.declared.calls.state.State.{State}
 use Rattle.zone.specs.Record.BuildingElement.{node_count}
@@ -53,13 +55,13 @@ module _ (z : Zone) where
       test_refuses (front_in_range z) Number.zone_value 0 _ none λ _.
       elements_within z element_in_range Number.zone_value z.building_elements
 
-  conditions_within : (bs : List ℕ) → RefusesOnly (OfZone z) (conditions_of z bs)
+  conditions_within : (fixed : FixedRate) (bs : List ℕ) → RefusesOnly (OfZone z) (conditions_of fixed z bs)
   unfolding conditions_of conditions_test
-  conditions_within bs =
+  conditions_within fixed bs =
       let n = z.count in
       let h = conditions_at bs n in
       test_refuses (leb n 24 && eqb (length bs) (conditions_length n)) Number.conditions_size 0 _ none λ _.
-      test_refuses (rate_code_valid bs && open_bits_valid bs (take n (map (λ (e : Element). e.treatments) z.building_elements)) first_element_hour) Number.conditions_code 0 _ none λ _.
+      test_refuses (rate_code_valid fixed bs && open_bits_valid bs (take n (map (λ (e : Element). e.treatments) z.building_elements)) first_element_hour) Number.conditions_code 0 _ none λ _.
       bind_refuses _
       (test_refuses (hour_and_gains_in_range h && setpoints_in_range h && ach_args_in_range h.ach_args) Number.conditions_value 0 _ none λ _.
       elements_within z element_hour_in_range Number.conditions_value h.elements) λ _ _.
@@ -76,38 +78,38 @@ module _ (z : Zone) where
         bind_refuses _ (bind_refuses _ zone_within λ _ _. state_within) λ _ _.
         accepts _
 
-    tested_hour_within : (bytes : List ℕ) → RefusesOnly (OfZone z) (tested_hour z s bytes)
+    tested_hour_within : (fixed : FixedRate) (bytes : List ℕ) → RefusesOnly (OfZone z) (tested_hour fixed z s bytes)
     unfolding tested_hour
-    tested_hour_within bytes =
+    tested_hour_within fixed bytes =
         bind_refuses _ state_within λ _ _.
-        conditions_within bytes
+        conditions_within fixed bytes
 
-    tested_within : (bytes : List ℕ) → RefusesOnly (OfZone z) (tested z s bytes)
+    tested_within : (fixed : FixedRate) (bytes : List ℕ) → RefusesOnly (OfZone z) (tested fixed z s bytes)
     unfolding tested
-    tested_within bytes =
+    tested_within fixed bytes =
         bind_refuses _ zone_within λ _ _.
-        tested_hour_within bytes
+        tested_hour_within fixed bytes
 
-    tested_step_within : (version : ℕ) (l : Limits) (bytes : List ℕ) → RefusesOnly (OfZone z) (tested_step z version l s bytes)
+    tested_step_within : (fixed : FixedRate) (version : ℕ) (l : Limits) (bytes : List ℕ) → RefusesOnly (OfZone z) (tested_step fixed z version l s bytes)
     unfolding tested_step tested_hour_and_limits
-    tested_step_within version l bytes =
+    tested_step_within fixed version l bytes =
         bind_refuses _ zone_within λ _ _.
         test_refuses (hour_version version) Number.false_entry 0 _ none λ _.
-        bind_refuses _ (tested_hour_within bytes) λ h _.
+        bind_refuses _ (tested_hour_within fixed bytes) λ h _.
         test_refuses (limits_valid version l) Number.limit_value 0 _ none λ _.
         accepts h
 
-    module _ (c : Coefficients) (bytes : List ℕ) where
-      demand_within : RefusesOnly (OfZone z) (demand c z s bytes)
+    module _ (fixed : FixedRate) (c : Coefficients) (bytes : List ℕ) where
+      demand_within : RefusesOnly (OfZone z) (demand fixed c z s bytes)
       unfolding demand
       demand_within =
-          bind_refuses _ (tested_within bytes) λ h _.
+          bind_refuses _ (tested_within fixed bytes) λ h _.
           demand_refuses solve_none c z (slots_of z s) h none (λ _. none) none
 
-      hour_within : (version : ℕ) (l : Limits) → RefusesOnly (OfZone z) (hour_step c z version l s bytes)
+      hour_within : (version : ℕ) (l : Limits) → RefusesOnly (OfZone z) (hour_step fixed c z version l s bytes)
       unfolding hour_step
       hour_within version l =
-          bind_refuses _ (tested_step_within version l bytes) λ h _.
+          bind_refuses _ (tested_step_within fixed version l bytes) λ h _.
           bind_refuses _ (demand_refuses solve_none c z (slots_of z s) h none (λ _. none) none) λ d _.
           bind_refuses _ (step_refuses solve_none c z s h _ _ _) λ r _.
           accepts _
@@ -115,7 +117,7 @@ module _ (z : Zone) where
       update_within : (gains fraction ach : Float) → RefusesOnly (OfZone z) (update_temperatures c z s bytes gains fraction ach)
       unfolding update_temperatures
       update_within gains fraction ach =
-          bind_refuses _ (tested_within bytes) λ h _.
+          bind_refuses _ (tested_within Retired bytes) λ h _.
           test_refuses (gains_range gains && fraction_range fraction && rate_range ach) Number.conditions_value 0 _ none λ _.
           step_refuses solve_none c z s h gains fraction ach
 
@@ -137,8 +139,8 @@ pub indices_of_zone : (c : Coefficients) (z : Zone) → IndicesOfZone c z
 indices_of_zone c z =
     record {
       operatives = operative_within z;
-      demands = λ s bytes. demand_within z s c bytes;
-      hour_steps = λ version l s bytes. hour_within z s c bytes version l;
-      updates = λ s bytes gains fraction ach. update_within z s c bytes gains fraction ach;
+      demands = λ fixed s bytes. demand_within z s fixed c bytes;
+      hour_steps = λ fixed version l s bytes. hour_within z s fixed c bytes version l;
+      updates = λ s bytes gains fraction ach. update_within z s Retired c bytes gains fraction ach;
       start_up = start_up_within z c;
     }

@@ -11,6 +11,8 @@ use Rattle.solver.proofs.Laws.Refusals.{bind_refuses, refuses_also}
 use Rattle.zone.specs.declared.record.building_element.Coefficients.{Coefficients}
 use Rattle.zone.specs.declared.record.zone_record.Zone.{Zone}
 use Rattle.zone.specs.declared.format.conditions.Conditions.{Conditions}
+use Rattle.zone.specs.declared.format.conditions.FixedRate.{FixedRate}
+use Rattle.zone.specs.declared.format.conditions.FixedRate.TheVariants.{Retired}
 use Rattle.zone.specs.declared.format.limits.Limits.{Limits}
 use Rattle.zone.specs.declared.calls.state.State.{State}
 use Rattle.zone.specs.Record.Numbers as Number
@@ -56,40 +58,40 @@ by_equation x (refuses p) = refuses (p, refl)
 Below10 : (number index : ℕ) → Type 0
 Below10 number index = number < 10
 
-module _ (z : Zone) (s : State) (bytes : List ℕ) where
-  tests_below : RefusesOnly Below10 (tested z s bytes)
+module _ (fixed : FixedRate) (z : Zone) (s : State) (bytes : List ℕ) where
+  tests_below : RefusesOnly Below10 (tested fixed z s bytes)
   unfolding Below10
-  tests_below = Laws.tested_refuses (λ n i p. let l = zone_below n i p in omega arith) (omega arith) conditions_below z s bytes
+  tests_below = Laws.tested_refuses fixed (λ n i p. let l = zone_below n i p in omega arith) (omega arith) conditions_below z s bytes
 
   tests_then : {A : Type 0} {P : Conditions → ℕ → ℕ → Type 0} (f : Conditions → Result A) → ((h : Conditions) → RefusesOnly (P h) (f h))
-      → RefusesOnly (AfterTests z s bytes P) (bind (tested z s bytes) f)
+      → RefusesOnly (AfterTests fixed z s bytes P) (bind (tested fixed z s bytes) f)
   unfolding Below10
   tests_then f q =
-      bind_refuses f (refuses_also (λ n i p. in_tests p.1 p.0) (by_equation (tested z s bytes) tests_below)) λ h e.
+      bind_refuses f (refuses_also (λ n i p. in_tests p.1 p.0) (by_equation (tested fixed z s bytes) tests_below)) λ h e.
       refuses_also (λ n i p. after e p) (q h)
 
 module _ (c : Coefficients) (z : Zone) where
   pub demand_reasons : DemandReasons c z
   unfolding demand
-  demand_reasons s bytes = tests_then z s bytes _ λ h. Laws.demand_reasons c z (slots_of z s) h
+  demand_reasons fixed s bytes = tests_then fixed z s bytes _ λ h. Laws.demand_reasons c z (slots_of z s) h
 
-  module _ (version : ℕ) (l : Limits) (s : State) (bytes : List ℕ) where
+  module _ (fixed : FixedRate) (version : ℕ) (l : Limits) (s : State) (bytes : List ℕ) where
     -- of a zone and a version that pass they are the demand's
-    hour_tests : zone_test z ≡ ok tt → hour_version version ≡ true → RefusesOnly (HourStepReason c z version l s bytes) (tested_hour z s bytes)
+    hour_tests : zone_test z ≡ ok tt → hour_version version ≡ true → RefusesOnly (HourStepReason c z fixed version l s bytes) (tested_hour fixed z s bytes)
     unfolding tested Below10
     hour_tests a k =
-        subst (RefusesOnly (HourStepReason c z version l s bytes)) (rw a refl)
-        (refuses_also (λ n i p. of_version a k (in_tests p.1 p.0)) (by_equation (tested z s bytes) (tests_below z s bytes)))
+        subst (RefusesOnly (HourStepReason c z fixed version l s bytes)) (rw a refl)
+        (refuses_also (λ n i p. of_version a k (in_tests p.1 p.0)) (by_equation (tested fixed z s bytes) (tests_below fixed z s bytes)))
 
     -- then the limits'
-    limits_tests : zone_test z ≡ ok tt → hour_version version ≡ true → RefusesOnly (HourStepReason c z version l s bytes) (tested_hour_and_limits z version l s bytes)
+    limits_tests : zone_test z ≡ ok tt → hour_version version ≡ true → RefusesOnly (HourStepReason c z fixed version l s bytes) (tested_hour_and_limits fixed z version l s bytes)
     unfolding tested_hour_and_limits tested
     limits_tests a k =
         bind_refuses _ (hour_tests a k) λ h e.
         Laws.because (limits_valid version l) Number.limit_value 0 _ (λ q. of_version a k (after {h = h} (rw a e) (by_limit_value (invalid_limits version l q).0 (invalid_limits version l q).1))) λ _.
         accepts h
 
-    step_tests : RefusesOnly (HourStepReason c z version l s bytes) (tested_step z version l s bytes)
+    step_tests : RefusesOnly (HourStepReason c z fixed version l s bytes) (tested_step fixed z version l s bytes)
     unfolding tested_step
     step_tests =
         bind_refuses _ (refuses_also (λ n i p. in_hour_zone p.1 (zone_below n i p.0)) (by_equation (zone_test z) (zone_refusals z))) λ _ a.
@@ -98,9 +100,9 @@ module _ (c : Coefficients) (z : Zone) where
 
   pub hour_reasons : HourReasons c z
   unfolding hour_step step
-  hour_reasons version l s bytes =
-      bind_refuses _ (step_tests version l s bytes) λ h e.
-      let p = step_passed z version l s bytes h e in
+  hour_reasons fixed version l s bytes =
+      bind_refuses _ (step_tests fixed version l s bytes) λ h e.
+      let p = step_passed fixed z version l s bytes h e in
       refuses_also (λ n i q. of_version p.zone p.known (after p.tests q)) (
       bind_refuses _ (refuses_also (λ n i q. asked p.limits q) (Laws.demand_reasons c z (slots_of z s) h)) λ d e.
       bind_refuses _ (bind_refuses _ (refuses_also (λ n i q. met p.limits e q) (Laws.solve_reasons c z (slots_of z s) h _ _ _)) λ t _. accepts _) λ r _.
@@ -109,7 +111,7 @@ module _ (c : Coefficients) (z : Zone) where
   pub update_reasons : UpdateReasons c z
   unfolding update_temperatures step
   update_reasons s bytes gains fraction ach =
-      tests_then z s bytes _ λ h.
+      tests_then Retired z s bytes _ λ h.
       Laws.because (gains_range gains && fraction_range fraction && rate_range ach) Number.conditions_value 0 _ by_conditions_value λ k.
       bind_refuses _ (refuses_also (λ n i p. in_step k p) (Laws.solve_reasons c z (slots_of z s) h gains fraction ach)) λ t _. accepts _
 

@@ -12,6 +12,8 @@ use Rattle.solver.proofs.Laws.Refusals.{bind_refuses, cond_refuses, test_refuses
 use Rattle.zone.specs.declared.record.building_element.Coefficients.{Coefficients}
 use Rattle.zone.specs.declared.record.zone_record.Zone.{Zone}
 use Rattle.zone.specs.declared.format.conditions.Conditions.{Conditions}
+use Rattle.zone.specs.declared.format.conditions.FixedRate.{FixedRate}
+use Rattle.zone.specs.declared.format.conditions.FixedRate.TheVariants.{Retired}
 use Rattle.zone.specs.declared.format.limits.Limits.{Limits}
 use Rattle.zone.specs.Check.Ranges.{gains_range, fraction_range, rate_range}
 use Rattle.zone.proofs.Claims.HeadRefusals.{zone_below, conditions_below, zone_refusals}
@@ -74,28 +76,22 @@ demand_below number index (demand_solve p) = omega (arith, solve_below number in
 demand_below number index demand_no_effect = omega arith
 
 module _ (c : Coefficients) (z : Zone) where
-  module _ (s : State) (bytes : List ℕ) where
-    demand_tested : RefusesOnly DemandRefusal (tested z s bytes)
-    demand_tested = tested_refuses (λ n i p. demand_zone p) demand_state_invalid (λ n i p. demand_conditions p) z s bytes
+  module _ (fixed : FixedRate) (s : State) (bytes : List ℕ) where
+    demand_tested : RefusesOnly DemandRefusal (tested fixed z s bytes)
+    demand_tested = tested_refuses fixed (λ n i p. demand_zone p) demand_state_invalid (λ n i p. demand_conditions p) z s bytes
 
     demand_asked : (h : Conditions) → RefusesOnly DemandRefusal (space_heat_cool_demand c z (slots_of z s) h)
     demand_asked h = demand_refuses (λ n i p. demand_solve p) c z (slots_of z s) h demand_no_effect (λ _. demand_cooling_below_heating) demand_ventilation_below_heating
 
-    pub operative_refusals : RefusesOnly OperativeRefusal (operative z s)
-    unfolding operative
-    operative_refusals =
-        bind_refuses _ (before_refuses (λ n i p. operative_zone p) operative_state_invalid z s) λ _ _.
-        accepts _
-
-    pub demand_refusals : RefusesOnly DemandRefusal (demand c z s bytes)
+    pub demand_refusals : RefusesOnly DemandRefusal (demand fixed c z s bytes)
     unfolding demand
     demand_refusals =
         bind_refuses _ demand_tested λ h _.
         demand_asked h
 
     -- after its tests an hour step has the demand's
-    step_after_tests : {P : ℕ → ℕ → Type 0} → ((n i : ℕ) → DemandRefusal n i → P n i) → (version : ℕ) (l : Limits) → RefusesOnly P (tested_step z version l s bytes)
-        → RefusesOnly P (hour_step c z version l s bytes)
+    step_after_tests : {P : ℕ → ℕ → Type 0} → ((n i : ℕ) → DemandRefusal n i → P n i) → (version : ℕ) (l : Limits) → RefusesOnly P (tested_step fixed z version l s bytes)
+        → RefusesOnly P (hour_step fixed c z version l s bytes)
     unfolding hour_step
     step_after_tests also version l tests =
         bind_refuses _ tests λ h _.
@@ -103,21 +99,28 @@ module _ (c : Coefficients) (z : Zone) where
         bind_refuses _ (step_refuses (λ n i p. also n i (demand_solve p)) c z s h _ _ _) λ r _.
         accepts _
 
-    pub hour_step_refusals : (version : ℕ) (l : Limits) → RefusesOnly HourRefusal (hour_step c z version l s bytes)
+    pub hour_step_refusals : (version : ℕ) (l : Limits) → RefusesOnly HourRefusal (hour_step fixed c z version l s bytes)
     hour_step_refusals version l =
         step_after_tests (λ n i p. hour_known (hour_demand p)) version l
-        (tested_step_refuses z version l s bytes (λ n i p. hour_known (hour_demand (demand_zone p))) (λ _. hour_false_entry) (hour_known (hour_demand demand_state_invalid)) (λ n i p. hour_known (hour_demand (demand_conditions p))) (hour_known hour_limit_value))
+        (tested_step_refuses fixed z version l s bytes (λ n i p. hour_known (hour_demand (demand_zone p))) (λ _. hour_false_entry) (hour_known (hour_demand demand_state_invalid)) (λ n i p. hour_known (hour_demand (demand_conditions p))) (hour_known hour_limit_value))
 
     -- of a version that hours have it has no 18
-    pub known_step_refusals : (version : ℕ) (l : Limits) → hour_version version ≡ true → RefusesOnly KnownHourRefusal (hour_step c z version l s bytes)
+    pub known_step_refusals : (version : ℕ) (l : Limits) → hour_version version ≡ true → RefusesOnly KnownHourRefusal (hour_step fixed c z version l s bytes)
     known_step_refusals version l k =
         step_after_tests (λ n i p. hour_demand p) version l
-        (tested_step_refuses z version l s bytes (λ n i p. hour_demand (demand_zone p)) (λ f. absurd (let x : ◌≡◌ {A = ℕ} 0 1 = cc in omega arith)) (hour_demand demand_state_invalid) (λ n i p. hour_demand (demand_conditions p)) hour_limit_value)
+        (tested_step_refuses fixed z version l s bytes (λ n i p. hour_demand (demand_zone p)) (λ f. absurd (let x : ◌≡◌ {A = ℕ} 0 1 = cc in omega arith)) (hour_demand demand_state_invalid) (λ n i p. hour_demand (demand_conditions p)) hour_limit_value)
+
+  module _ (s : State) (bytes : List ℕ) where
+    pub operative_refusals : RefusesOnly OperativeRefusal (operative z s)
+    unfolding operative
+    operative_refusals =
+        bind_refuses _ (before_refuses (λ n i p. operative_zone p) operative_state_invalid z s) λ _ _.
+        accepts _
 
     pub update_refusals : (gains fraction ach : Float) → RefusesOnly UpdateRefusal (update_temperatures c z s bytes gains fraction ach)
     unfolding update_temperatures
     update_refusals gains fraction ach =
-        bind_refuses _ (tested_refuses (λ n i p. update_zone p) update_state_invalid (λ n i p. update_conditions p) z s bytes) λ h _.
+        bind_refuses _ (tested_refuses Retired (λ n i p. update_zone p) update_state_invalid (λ n i p. update_conditions p) z s bytes) λ h _.
         test_refuses (gains_range gains && fraction_range fraction && rate_range ach) Number.conditions_value 0 _ update_conditions_value λ _.
         step_refuses (λ n i p. update_solve p) c z s h gains fraction ach
 
@@ -151,7 +154,7 @@ call_refusals c z =
     record {
       operatives = λ s. operative_refusals c z s [];
       demands = demand_refusals c z;
-      hour_steps = λ version l s bytes. hour_step_refusals c z s bytes version l;
+      hour_steps = λ fixed version l s bytes. hour_step_refusals c z fixed s bytes version l;
       updates = update_refusals c z;
       start_ups = start_up_refusals c z;
     }

@@ -12,6 +12,8 @@ use Rattle.zone.specs.declared.record.building_element.Coefficients.{Coefficient
 use Rattle.zone.specs.declared.record.zone_record.Zone.{Zone}
 use Rattle.zone.specs.declared.calls.state.State.{State}
 use Rattle.zone.specs.declared.format.conditions.Conditions.{Conditions}
+use Rattle.zone.specs.declared.format.conditions.FixedRate.{FixedRate}
+use Rattle.zone.specs.declared.format.conditions.FixedRate.TheVariants.{Retired}
 use Rattle.zone.specs.Check.Ranges.{area_range, coefficient_range, limit_range, gains_range, fraction_range, rate_range, temperature_range, heating_setpoint_range, setpoint_range}
 use Rattle.zone.specs.Check.ZoneTest.{front_in_range, values_test, counts_test, zone_test}
 use Rattle.zone.specs.Hour.Demand.{delta_t, space_heat_cool_demand}
@@ -36,9 +38,9 @@ both_tested z s u p q = rw p q
 
 module _ (c : Coefficients) (z : Zone) where
   -- after a step under conditions that passed the tests
-  step_tested : (s : State) (bytes : List ℕ) (h : Conditions) (after : State) → tested z s bytes ≡ ok h → StepMade c z (slots_of z s) h after → zone_and_state_test z after ≡ ok tt
+  step_tested : (fixed : FixedRate) (s : State) (bytes : List ℕ) (h : Conditions) (after : State) → tested fixed z s bytes ≡ ok h → StepMade c z (slots_of z s) h after → zone_and_state_test z after ≡ ok tt
   unfolding tested
-  step_tested s bytes h after e m =
+  step_tested fixed s bytes h after e m =
       let u = bind_ok (zone_test z) _ h e in
       let kept = step_within c z (slots_of z s) h (delta_t h) m.gains m.fraction m.ach m.temps m.solved in
       both_tested z after u.0 u.1 (subst (λ (x : State). state_test z x ≡ ok tt) m.state (state_tested z m.temps kept (zone_count z u.1).1))
@@ -46,14 +48,14 @@ module _ (c : Coefficients) (z : Zone) where
   pub update_state_tested : UpdateStateTested c z
   unfolding update_temperatures
   update_state_tested s bytes gains fraction ach r e =
-      let h = bind_ok (tested z s bytes) _ r e in
+      let h = bind_ok (tested Retired z s bytes) _ r e in
       let w = bind_ok (require (gains_range gains && fraction_range fraction && rate_range ach) Number.conditions_value) _ r h.2 in
-      step_tested s bytes h.0 r.0 h.1 (step_made c z s h.0 gains fraction ach r w.2)
+      step_tested Retired s bytes h.0 r.0 h.1 (step_made c z s h.0 gains fraction ach r w.2)
 
   pub hour_state_tested : HourStateTested c z
-  hour_state_tested version l s bytes r e =
-      let m = hour_made c z s version l bytes r e in
-      step_tested s bytes m.conditions r.state m.tests (hour_met c z s version l bytes r e)
+  hour_state_tested fixed version l s bytes r e =
+      let m = hour_made c z s fixed version l bytes r e in
+      step_tested fixed s bytes m.conditions r.state m.tests (hour_met c z s fixed version l bytes r e)
 
   -- start-up: the temperatures that settle are those before the first pass, or what a pass gave
   passed_within : {n : ℕ} {t u : List Float} → Within z.count (zone_two_nodes z) t → Unsettled c z n t u → Within z.count (zone_two_nodes z) u

@@ -10,6 +10,7 @@ use Rattle.solver.proofs.Laws.Result.{bind_ok, bind_is, ok_inj, ok_not_refused}
 use Rattle.zone.specs.declared.record.building_element.Coefficients.{Coefficients}
 use Rattle.zone.specs.declared.record.zone_record.Zone.{Zone}
 use Rattle.zone.specs.declared.format.conditions.Conditions.{Conditions}
+use Rattle.zone.specs.declared.format.conditions.FixedRate.TheVariants.{StillTaken}
 use Rattle.zone.specs.declared.calls.state.State.{State}
 use Rattle.zone.specs.declared.calls.state.Demand.{Demand}
 use Rattle.zone.specs.declared.calls.state.Reason.{Reason}
@@ -38,7 +39,7 @@ module _ (c : Coefficients) (z : Zone) where
   pub why_answers : WhyAnswers c z
   unfolding why why_of demand
   why_answers s bytes reason load e =
-      let h = bind_ok (tested z s bytes) _ (reason, load) e in
+      let h = bind_ok (tested StillTaken z s bytes) _ (reason, load) e in
       let d = bind_ok (space_heat_cool_demand c z (slots_of z s) h.0) _ (reason, load) h.2 in
       let r = bind_ok (reason_for c z (slots_of z s) h.0 h.0.ach_args) _ (reason, load) d.2 in
       let n = named_of c z (slots_of z s) h.0 d.0 d.1 in
@@ -48,7 +49,7 @@ module _ (c : Coefficients) (z : Zone) where
         conditions = h.0;
         tests = h.1;
         demanded = d.0;
-        asked = bind_is (tested z s bytes) _ h.0 _ h.1 d.1;
+        asked = bind_is (tested StillTaken z s bytes) _ h.0 _ h.1 d.1;
         earliest = subst (Earliest (Holds c z (slots_of z s) h.0) reasons) same n.earliest;
         rate = subst (RateTold c z (slots_of z s) h.0 d.0) same (rate_told (slots_of z s) h.0 d.0 n);
         load_told = subst (LoadTold d.0) beside (load_told c z (slots_of z s) h.0 d.0 d.1);
@@ -72,9 +73,9 @@ module _ (c : Coefficients) (z : Zone) where
 
   pub why_refuses : WhyRefuses c z
   unfolding why demand
-  why_refuses s bytes n i = go (tested z s bytes) refl
+  why_refuses s bytes n i = go (tested StillTaken z s bytes) refl
     where
-      go : (x : Result Conditions) → tested z s bytes ≡ x → (why c z s bytes ≡ refused n i) ↔ (demand c z s bytes ≡ refused n i)
+      go : (x : Result Conditions) → tested StillTaken z s bytes ≡ x → (why c z s bytes ≡ refused n i) ↔ (demand StillTaken c z s bytes ≡ refused n i)
       go (ok h) e = rw e (named_alike (slots_of z s) h n i)
       go (refused m k) e = rw e (refused_alike m k n i, refused_alike m k n i)
 
@@ -91,4 +92,4 @@ module _ (c : Coefficients) (z : Zone) where
 
       go : (x : Result (Reason × Load)) → why c z s bytes ≡ x → RefusesOnly DemandRefusal x
       go (ok a) e = accepts a
-      go (refused n i) e = refuses (of_demand n i (demand c z s bytes) (demand_refusals c z s bytes) ((why_refuses s bytes n i).0 e))
+      go (refused n i) e = refuses (of_demand n i (demand StillTaken c z s bytes) (demand_refusals c z StillTaken s bytes) ((why_refuses s bytes n i).0 e))

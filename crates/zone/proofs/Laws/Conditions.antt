@@ -16,6 +16,7 @@ use Rattle.zone.specs.Format.Conditions.{rate_code_valid, open_bits_valid, condi
 use Rattle.zone.specs.Inner.Format.{tested_at}
 use Rattle.zone.specs.declared.record.building_element.Element.{Element}
 use Rattle.zone.specs.declared.record.zone_record.Zone.{Zone}
+use Rattle.zone.specs.declared.format.conditions.FixedRate.{FixedRate}
 
 abbrev treatments : List Element → List ℕ
 treatments = map (λ (e : Element). e.treatments)
@@ -40,21 +41,21 @@ module _ (z : Zone) where
   treatments_are : take z.count (map (λ (e : Element). e.treatments) z.building_elements) ≡ treatments_of
   treatments_are = take-map (λ (e : Element). e.treatments) z.count z.building_elements
 
-  module _ (s : List ℕ) where
-    pub too_many : 24 < z.count → conditions_of z s ≡ refused conditions_size 0
+  module _ (fixed : FixedRate) (s : List ℕ) where
+    pub too_many : 24 < z.count → conditions_of fixed z s ≡ refused conditions_size 0
     unfolding conditions_of
     too_many h = rw (lt-leb z.count 24 h)
 
     module _ (h : z.count ≤ 24) where
-      pub wrong_size : (length s ≡ conditions_length z.count → ⊥) → conditions_of z s ≡ refused conditions_size 0
+      pub wrong_size : (length s ≡ conditions_length z.count → ⊥) → conditions_of fixed z s ≡ refused conditions_size 0
       unfolding conditions_of
       wrong_size e = rw (le-leb z.count 24 h, ne_eqb (length s) (conditions_length z.count) e)
 
       module _ (e : length s ≡ conditions_length z.count) where
-        pub wrong_code : (rate_code_valid s && open_bits_valid s treatments_of first_element_hour) ≡ false → conditions_of z s ≡ refused conditions_code 0
+        pub wrong_code : (rate_code_valid fixed s && open_bits_valid s treatments_of first_element_hour) ≡ false → conditions_of fixed z s ≡ refused conditions_code 0
         unfolding conditions_of
         wrong_code b = rw (le-leb z.count 24 h, eq-eqb (length s) (conditions_length z.count) e, treatments_are, b)
 
-        pub right_code : (rate_code_valid s && open_bits_valid s treatments_of first_element_hour) ≡ true → conditions_of z s ≡ tested_at s z.count
+        pub right_code : (rate_code_valid fixed s && open_bits_valid s treatments_of first_element_hour) ≡ true → conditions_of fixed z s ≡ tested_at s z.count
         unfolding conditions_of tested_at
         right_code b = rw (le-leb z.count 24 h, eq-eqb (length s) (conditions_length z.count) e, treatments_are, b)

@@ -19,6 +19,7 @@ use Rattle.zone.specs.declared.record.building_element.Element.{Element}
 use Rattle.zone.specs.declared.record.building_element.ElementHour.{ElementHour}
 use Rattle.zone.specs.declared.record.zone_record.Zone.{Zone}
 use Rattle.zone.specs.declared.format.conditions.Conditions.{Conditions}
+use Rattle.zone.specs.declared.format.conditions.FixedRate.{FixedRate}
 use Rattle.zone.specs.declared.format.limits.Limits.{Limits}
 use Rattle.zone.specs.declared.calls.state.State.{State}
 use Rattle.zone.specs.Record.BuildingElement.{is_two_nodes, node_count}
@@ -103,9 +104,9 @@ nodes_fit count two_nodes s h =
 
 -- ---- an accepted hour step
 
-module _ (c : Coefficients) (z : Zone) (version : ℕ) (l : Limits) (s : State) (bytes : List ℕ) (r : HourResult) (e : hour_step c z version l s bytes ≡ ok r) where
-  made : StepMade c z (slots_of z s) (hour_made c z s version l bytes r e).conditions r.state
-  made = hour_met c z s version l bytes r e
+module _ (fixed : FixedRate) (c : Coefficients) (z : Zone) (version : ℕ) (l : Limits) (s : State) (bytes : List ℕ) (r : HourResult) (e : hour_step fixed c z version l s bytes ≡ ok r) where
+  made : StepMade c z (slots_of z s) (hour_made c z s fixed version l bytes r e).conditions r.state
+  made = hour_met c z s fixed version l bytes r e
 
   -- every temperature after it can be written as an f64 and read back
   pub hour_fits : AllFit r.state.temps
@@ -125,7 +126,7 @@ module _ (c : Coefficients) (z : Zone) (version : ℕ) (l : Limits) (s : State) 
   hour_behind =
       let two = zone_two_nodes z in
       let there = elements_there c z (slots_of z s) _ _ _ _ _ made.temps made.solved in
-      let count = node_count_is z there (count_few c z s version l bytes r e) in
+      let count = node_count_is z there (count_few c z s fixed version l bytes r e) in
       subst (λ (x : State). x.temps ≡ take (node_count z) x.temps ++ replicate (121 - node_count z) zero64) made.state
       (tail_same (to_nodes z.count two made.temps) (node_count z) 121 zero64 nan (to_nodes_length two z.count made.temps)
       (λ q h k. to_nodes_behind two z.count made.temps q (omega arith) k))

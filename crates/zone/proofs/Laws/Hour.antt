@@ -10,6 +10,7 @@ use Rattle.solver.specs.Result.{Result, ok, refused, bind}
 use Rattle.zone.specs.declared.record.refusal.Refusal.{Refusal}
 use Rattle.zone.specs.declared.record.zone_record.Zone.{Zone}
 use Rattle.zone.specs.declared.format.conditions.Conditions.{Conditions}
+use Rattle.zone.specs.declared.format.conditions.FixedRate.{FixedRate}
 use Rattle.zone.specs.Record.BuildingElement.{standard_coefficients}
 use Rattle.zone.specs.Physics.HeatBalance.{heat_balance}
 use Rattle.zone.specs.declared.calls.state.State.{State}
@@ -37,34 +38,34 @@ demand_solved_lem z t h before = go (space_heat_cool_demand standard_coefficient
     go (refused n i) = refl
 
 -- the hour step
-module _ (z : Zone) (r : Rule) (s : State) (bytes : List ℕ) (h : Conditions) (read : tested_step z r.version r.limits s bytes ≡ ok h) (t : List Float) (t_is : t ≡ slots_of z s) (before : List Float) where
-  hour_solved_lem : hour_step standard_coefficients z r.version r.limits s bytes ≡ bind (demand_solved z t h (WithGains r) before) (stepped z r t h)
+module _ (fixed : FixedRate) (z : Zone) (r : Rule) (s : State) (bytes : List ℕ) (h : Conditions) (read : tested_step fixed z r.version r.limits s bytes ≡ ok h) (t : List Float) (t_is : t ≡ slots_of z s) (before : List Float) where
+  hour_solved_lem : hour_step fixed standard_coefficients z r.version r.limits s bytes ≡ bind (demand_solved z t h (WithGains r) before) (stepped z r t h)
   unfolding hour_step step demand_solved
   hour_solved_lem = go (space_heat_cool_demand standard_coefficients z t h) refl
     where
       last : (d : Demand) → space_heat_cool_demand standard_coefficients z t h ≡ ok d → (y : Result (List Float))
           → temperatures_with standard_coefficients z t h (gains_heat_cool h +ᶠ delivered_by r.version r.limits h d) (convective_share r.version h (delivered_by r.version r.limits h d) (gains_heat_cool h +ᶠ delivered_by r.version r.limits h d)) d.ach_cooling ≡ y
-          → hour_step standard_coefficients z r.version r.limits s bytes ≡ bind (demand_solved z t h (WithGains r) before) (stepped z r t h)
+          → hour_step fixed standard_coefficients z r.version r.limits s bytes ≡ bind (demand_solved z t h (WithGains r) before) (stepped z r t h)
       last d p (ok after) q = rw (read, ← t_is, p, q) refl
       last d p (refused n i) q = rw (read, ← t_is, p, q) refl
 
-      go : (x : Result Demand) → space_heat_cool_demand standard_coefficients z t h ≡ x → hour_step standard_coefficients z r.version r.limits s bytes ≡ bind (demand_solved z t h (WithGains r) before) (stepped z r t h)
+      go : (x : Result Demand) → space_heat_cool_demand standard_coefficients z t h ≡ x → hour_step fixed standard_coefficients z r.version r.limits s bytes ≡ bind (demand_solved z t h (WithGains r) before) (stepped z r t h)
       go (ok d) p = last d p _ refl
       go (refused n i) p = rw (read, ← t_is, p) refl
 
 -- the same without the heat balance
-module _ (z : Zone) (r : Rule) (s : State) (bytes : List ℕ) (h : Conditions) (read : tested_hour_and_limits z r.version r.limits s bytes ≡ ok h) (t : List Float) (t_is : t ≡ slots_of z s) (before : List Float) where
-  pub next_solved : next_hour standard_coefficients z r.version r.limits s bytes ≡ solved_next z (demand_solved z t h (WithGains r) before)
+module _ (fixed : FixedRate) (z : Zone) (r : Rule) (s : State) (bytes : List ℕ) (h : Conditions) (read : tested_hour_and_limits fixed z r.version r.limits s bytes ≡ ok h) (t : List Float) (t_is : t ≡ slots_of z s) (before : List Float) where
+  pub next_solved : next_hour fixed standard_coefficients z r.version r.limits s bytes ≡ solved_next z (demand_solved z t h (WithGains r) before)
   unfolding next_hour demand_solved
   next_solved = go (space_heat_cool_demand standard_coefficients z t h) refl
     where
       last : (d : Demand) → space_heat_cool_demand standard_coefficients z t h ≡ ok d → (y : Result (List Float))
           → temperatures_with standard_coefficients z t h (gains_heat_cool h +ᶠ delivered_by r.version r.limits h d) (convective_share r.version h (delivered_by r.version r.limits h d) (gains_heat_cool h +ᶠ delivered_by r.version r.limits h d)) d.ach_cooling ≡ y
-          → next_hour standard_coefficients z r.version r.limits s bytes ≡ solved_next z (demand_solved z t h (WithGains r) before)
+          → next_hour fixed standard_coefficients z r.version r.limits s bytes ≡ solved_next z (demand_solved z t h (WithGains r) before)
       last d p (ok after) q = rw (read, ← t_is, p, q) refl
       last d p (refused n i) q = rw (read, ← t_is, p, q) refl
 
-      go : (x : Result Demand) → space_heat_cool_demand standard_coefficients z t h ≡ x → next_hour standard_coefficients z r.version r.limits s bytes ≡ solved_next z (demand_solved z t h (WithGains r) before)
+      go : (x : Result Demand) → space_heat_cool_demand standard_coefficients z t h ≡ x → next_hour fixed standard_coefficients z r.version r.limits s bytes ≡ solved_next z (demand_solved z t h (WithGains r) before)
       go (ok d) p = last d p _ refl
       go (refused n i) p = rw (read, ← t_is, p) refl
 
@@ -77,19 +78,19 @@ demand_answered z t h before (Ok d) after e = rw (demand_solved_lem z t h before
 demand_answered z t h before (Err n) after e = rw (demand_solved_lem z t h before, ← e) refl
 
 -- of an hour step
-pub hour_untested : (z : Zone) (r : Rule) (s : State) (bytes : List ℕ) (n i : ℕ) → refused n i ≡ tested_step z r.version r.limits s bytes
-    → refused n i ≡ hour_step standard_coefficients z r.version r.limits s bytes
+pub hour_untested : (fixed : FixedRate) (z : Zone) (r : Rule) (s : State) (bytes : List ℕ) (n i : ℕ) → refused n i ≡ tested_step fixed z r.version r.limits s bytes
+    → refused n i ≡ hour_step fixed standard_coefficients z r.version r.limits s bytes
 unfolding hour_step
-hour_untested z r s bytes n i e = rw (← e) refl
+hour_untested fixed z r s bytes n i e = rw (← e) refl
 
-module _ (z : Zone) (r : Rule) (s : State) (bytes : List ℕ) (h : Conditions) (read : ok h ≡ tested_step z r.version r.limits s bytes)
+module _ (fixed : FixedRate) (z : Zone) (r : Rule) (s : State) (bytes : List ℕ) (h : Conditions) (read : ok h ≡ tested_step fixed z r.version r.limits s bytes)
     (t before : List Float) (t_is : t ≡ slots_of z s) where
-  pub hour_refused : (n i : ℕ) → refused n i ≡ demand_solved z t h (WithGains r) before → refused n i ≡ hour_step standard_coefficients z r.version r.limits s bytes
-  hour_refused n i e = rw (hour_solved_lem z r s bytes h (sym read) t t_is before, ← e) refl
+  pub hour_refused : (n i : ℕ) → refused n i ≡ demand_solved z t h (WithGains r) before → refused n i ≡ hour_step fixed standard_coefficients z r.version r.limits s bytes
+  hour_refused n i e = rw (hour_solved_lem fixed z r s bytes h (sym read) t t_is before, ← e) refl
 
   pub hour_accepted : (d : Demand) (after : List Float) → ok (d, after) ≡ demand_solved z t h (WithGains r) before
-      → ok (record { demand = d; state = state_of z after; balance = step_balance z t h r d after }) ≡ hour_step standard_coefficients z r.version r.limits s bytes
-  hour_accepted d after e = rw (hour_solved_lem z r s bytes h (sym read) t t_is before, ← e) refl
+      → ok (record { demand = d; state = state_of z after; balance = step_balance z t h r d after }) ≡ hour_step fixed standard_coefficients z r.version r.limits s bytes
+  hour_accepted d after e = rw (hour_solved_lem fixed z r s bytes h (sym read) t t_is before, ← e) refl
 
 -- of one time step
 module _ (z : Zone) (s : State) (h : Conditions) (g : HeatCoolGains) (ach : Float) (t : List Float) (t_is : t ≡ slots_of z s) where

@@ -8,6 +8,7 @@ use lib.ListN.{length}
 use lib.Ieee.{binary64, to_bits, fits}
 use Rattle.zone.specs.declared.record.building_element.Coefficients.{Coefficients}
 use Rattle.zone.specs.declared.record.zone_record.Zone.{Zone}
+use Rattle.zone.specs.declared.format.conditions.FixedRate.{FixedRate}
 use Rattle.zone.specs.declared.format.limits.Limits.{Limits}
 use Rattle.zone.specs.declared.calls.state.State.{State}
 use Rattle.zone.specs.Format.Bytes.{float_size}
@@ -29,11 +30,11 @@ limits_back l h c =
     rw (limits_length_lem l) (λ i. record { heating = first i; cooling = second i })
 
 -- two hours whose limits differ are one where the version has none
-pub same_limits : (c : Coefficients) (z : Zone) (version : ℕ) (l l' : Limits) (s : State) (bytes : List ℕ) → (has_limits version ≡ true → l ≡ l')
-    → hour_step c z version l s bytes ≡ hour_step c z version l' s bytes
+pub same_limits : (fixed : FixedRate) (c : Coefficients) (z : Zone) (version : ℕ) (l l' : Limits) (s : State) (bytes : List ℕ) → (has_limits version ≡ true → l ≡ l')
+    → hour_step fixed c z version l s bytes ≡ hour_step fixed c z version l' s bytes
 unfolding hour_step tested_step tested_hour_and_limits delivered_by
-same_limits c z version l l' s bytes f = go (has_limits version) refl
+same_limits fixed c z version l l' s bytes f = go (has_limits version) refl
   where
-    go : (b : Bool) → has_limits version ≡ b → hour_step c z version l s bytes ≡ hour_step c z version l' s bytes
-    go true e = ap (λ x. hour_step c z version x s bytes) (f e)
+    go : (b : Bool) → has_limits version ≡ b → hour_step fixed c z version l s bytes ≡ hour_step fixed c z version l' s bytes
+    go true e = ap (λ x. hour_step fixed c z version x s bytes) (f e)
     go false e = rw e refl

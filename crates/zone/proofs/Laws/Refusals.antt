@@ -22,6 +22,7 @@ use Rattle.zone.specs.declared.format.conditions.Conditions.{Conditions}
 use Rattle.zone.specs.declared.format.limits.Limits.{Limits}
 use Rattle.zone.specs.declared.format.conditions.AirChangesPerHourArgument.{AirChangesPerHourArgument}
 use Rattle.zone.specs.declared.format.conditions.AirChangesPerHourArgument.TheVariants.{Cooling, TargetAndWindowsOpen}
+use Rattle.zone.specs.declared.format.conditions.FixedRate.{FixedRate}
 use Rattle.zone.specs.Record.BuildingElement.{node_count}
 use Rattle.zone.specs.Claims.HeadRefusals.{ZoneRefusal, ConditionsRefusal}
 use Rattle.zone.proofs.Claims.HeadRefusals.{zone_refusals, conditions_refusals}
@@ -54,32 +55,32 @@ module _ {P : ℕ → ℕ → Type 0} where
       require_refuses (eqb s.nodes (node_count z) && all_within_state_bound (take s.nodes s.temps)) Number.state_invalid 0 six
 
   -- the state's, and the conditions' 7, 8, 9
-  tested_hour_refuses : P Number.state_invalid 0 → ((n i : ℕ) → ConditionsRefusal n i → P n i) → (z : Zone) (s : State) (bytes : List ℕ) → RefusesOnly P (tested_hour z s bytes)
+  tested_hour_refuses : (fixed : FixedRate) → P Number.state_invalid 0 → ((n i : ℕ) → ConditionsRefusal n i → P n i) → (z : Zone) (s : State) (bytes : List ℕ) → RefusesOnly P (tested_hour fixed z s bytes)
   unfolding tested_hour state_test
-  tested_hour_refuses six conditions z s bytes =
+  tested_hour_refuses fixed six conditions z s bytes =
       test_refuses (eqb s.nodes (node_count z) && all_within_state_bound (take s.nodes s.temps)) Number.state_invalid 0 _ six λ _.
-      refuses_also conditions (conditions_refusals z bytes)
+      refuses_also conditions (conditions_refusals fixed z bytes)
 
   -- before them the zone's
   pub tested_refuses :
-      ((n i : ℕ) → ZoneRefusal n i → P n i) → P Number.state_invalid 0 → ((n i : ℕ) → ConditionsRefusal n i → P n i)
-      → (z : Zone) (s : State) (bytes : List ℕ) → RefusesOnly P (tested z s bytes)
+      (fixed : FixedRate) → ((n i : ℕ) → ZoneRefusal n i → P n i) → P Number.state_invalid 0 → ((n i : ℕ) → ConditionsRefusal n i → P n i)
+      → (z : Zone) (s : State) (bytes : List ℕ) → RefusesOnly P (tested fixed z s bytes)
   unfolding tested
-  tested_refuses zone six conditions z s bytes =
+  tested_refuses fixed zone six conditions z s bytes =
       bind_refuses _ (refuses_also zone (zone_refusals z)) λ _ _.
-      tested_hour_refuses six conditions z s bytes
+      tested_hour_refuses fixed six conditions z s bytes
 
   -- and of an hour step the version's 18 and the limits' 19; a version that hours have has no 18
   pub tested_step_refuses :
-      (z : Zone) (version : ℕ) (l : Limits) (s : State) (bytes : List ℕ)
+      (fixed : FixedRate) (z : Zone) (version : ℕ) (l : Limits) (s : State) (bytes : List ℕ)
       → ((n i : ℕ) → ZoneRefusal n i → P n i) → (hour_version version ≡ false → P Number.false_entry 0) → P Number.state_invalid 0
       → ((n i : ℕ) → ConditionsRefusal n i → P n i) → P Number.limit_value 0
-      → RefusesOnly P (tested_step z version l s bytes)
+      → RefusesOnly P (tested_step fixed z version l s bytes)
   unfolding tested_step tested_hour_and_limits
-  tested_step_refuses z version l s bytes zone eighteen six conditions nineteen =
+  tested_step_refuses fixed z version l s bytes zone eighteen six conditions nineteen =
       bind_refuses _ (refuses_also zone (zone_refusals z)) λ _ _.
       because (hour_version version) Number.false_entry 0 _ eighteen λ _.
-      bind_refuses _ (tested_hour_refuses six conditions z s bytes) λ h _.
+      bind_refuses _ (tested_hour_refuses fixed six conditions z s bytes) λ h _.
       test_refuses (limits_valid version l) Number.limit_value 0 _ nineteen λ _.
       accepts h
 

@@ -17,6 +17,7 @@ use Rattle.zone.specs.Format.Head.{ReadHead, elements_end, structure_of, head_of
 use Rattle.zone.specs.Inner.Head.{structured_head}
 use Rattle.zone.specs.declared.record.building_element.Coefficients.{Coefficients}
 use Rattle.zone.specs.declared.record.zone_record.Zone.{Zone}
+use Rattle.zone.specs.declared.format.conditions.FixedRate.{FixedRate}
 use Rattle.zone.specs.declared.format.limits.Limits.{Limits}
 use Rattle.zone.specs.declared.calls.state.State.{State}
 use Rattle.zone.specs.Calls.State.{zone_and_state_test, operative}
@@ -137,17 +138,17 @@ module _ (z : Zone) (a b : ℕ) (e : zone_test z ≡ refused a b) where
     start_up_judges = rw e
 
     module _ (s : State) (bytes : List ℕ) where
-      pub demand_judges : demand c z s bytes ≡ refused a b
+      pub demand_judges : (fixed : FixedRate) → demand fixed c z s bytes ≡ refused a b
       unfolding demand tested
-      demand_judges = rw e
+      demand_judges fixed = rw e
 
       pub why_judges : why c z s bytes ≡ refused a b
       unfolding why tested
       why_judges = rw e
 
-      pub hour_judges : (version : ℕ) (l : Limits) → hour_step c z version l s bytes ≡ refused a b
+      pub hour_judges : (fixed : FixedRate) (version : ℕ) (l : Limits) → hour_step fixed c z version l s bytes ≡ refused a b
       unfolding hour_step tested_step
-      hour_judges version l = rw e
+      hour_judges fixed version l = rw e
 
       pub update_judges : (gains fraction ach : Float) → update_temperatures c z s bytes gains fraction ach ≡ refused a b
       unfolding update_temperatures tested

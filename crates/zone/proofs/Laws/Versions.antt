@@ -12,6 +12,7 @@ use Rattle.solver.proofs.Laws.Result.{bind_ok, require_ok}
 use Rattle.solver.proofs.Laws.Tests.{and_true}
 use Rattle.zone.specs.declared.record.zone_record.Zone.{Zone}
 use Rattle.zone.specs.declared.format.conditions.Conditions.{Conditions}
+use Rattle.zone.specs.declared.format.conditions.FixedRate.{FixedRate}
 use Rattle.zone.specs.declared.format.limits.Limits.{Limits}
 use Rattle.zone.specs.declared.calls.state.State.{State}
 use Rattle.zone.specs.Record.Numbers.{false_entry, limit_value}
@@ -31,18 +32,18 @@ hour_version_not (suc (suc zero)) a b c = absurd (b refl)
 hour_version_not (suc (suc (suc zero))) a b c = absurd (c refl)
 hour_version_not (suc (suc (suc (suc n)))) a b c = rw (le-leb 1 (suc (suc (suc (suc n)))) (omega arith), lt-leb (suc (suc (suc (suc n)))) 3 (omega arith)) refl
 
-module _ (z : Zone) (version : ℕ) (l : Limits) (s : State) (bytes : List ℕ) where
+module _ (fixed : FixedRate) (z : Zone) (version : ℕ) (l : Limits) (s : State) (bytes : List ℕ) where
   -- where the limits pass, the tests of an hour are those of a demand
-  pub limits_on : limits_valid version l ≡ true → tested_hour_and_limits z version l s bytes ≡ tested_hour z s bytes
+  pub limits_on : limits_valid version l ≡ true → tested_hour_and_limits fixed z version l s bytes ≡ tested_hour fixed z s bytes
   unfolding tested_hour_and_limits
-  limits_on k = go (tested_hour z s bytes) refl
+  limits_on k = go (tested_hour fixed z s bytes) refl
     where
-      go : (x : Result Conditions) → tested_hour z s bytes ≡ x → tested_hour_and_limits z version l s bytes ≡ tested_hour z s bytes
+      go : (x : Result Conditions) → tested_hour fixed z s bytes ≡ x → tested_hour_and_limits fixed z version l s bytes ≡ tested_hour fixed z s bytes
       go (ok h) e = rw (e, k) refl
       go (refused n i) e = rw e refl
 
   -- with a version that hours have, an hour step's
-  pub step_known : hour_version version ≡ true → limits_valid version l ≡ true → tested_step z version l s bytes ≡ tested z s bytes
+  pub step_known : hour_version version ≡ true → limits_valid version l ≡ true → tested_step fixed z version l s bytes ≡ tested fixed z s bytes
   unfolding tested_step tested
   step_known k p = rw (k, limits_on p) refl
 
@@ -51,16 +52,16 @@ module _ (z : Zone) (version : ℕ) (l : Limits) (s : State) (bytes : List ℕ) 
     pub zone : zone_test z ≡ ok tt
     pub known : hour_version version ≡ true
     pub limits : limits_valid version l ≡ true
-    pub tests : tested z s bytes ≡ ok h
+    pub tests : tested fixed z s bytes ≡ ok h
 
-  pub limits_passed : (h : Conditions) → tested_hour_and_limits z version l s bytes ≡ ok h → limits_valid version l ≡ true
+  pub limits_passed : (h : Conditions) → tested_hour_and_limits fixed z version l s bytes ≡ ok h → limits_valid version l ≡ true
   unfolding tested_hour_and_limits
   limits_passed h e =
-      let u = bind_ok (tested_hour z s bytes) _ h e in
+      let u = bind_ok (tested_hour fixed z s bytes) _ h e in
       let v = bind_ok (require (limits_valid version l) limit_value) _ h u.2 in
       require_ok (limits_valid version l) limit_value 0 v.0 v.1
 
-  pub step_passed : (h : Conditions) → tested_step z version l s bytes ≡ ok h → StepPassed h
+  pub step_passed : (h : Conditions) → tested_step fixed z version l s bytes ≡ ok h → StepPassed h
   unfolding tested_step
   step_passed h e =
       let u = bind_ok (zone_test z) _ h e in

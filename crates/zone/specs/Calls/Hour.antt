@@ -6,6 +6,8 @@ use Rattle.solver.specs.Result.{Result, ok, bind, require}
 use Rattle.zone.specs.declared.record.building_element.Coefficients.{Coefficients}
 use Rattle.zone.specs.declared.record.zone_record.Zone.{Zone}
 use Rattle.zone.specs.declared.format.conditions.Conditions.{Conditions}
+use Rattle.zone.specs.declared.format.conditions.FixedRate.{FixedRate}
+use Rattle.zone.specs.declared.format.conditions.FixedRate.TheVariants.{Retired}
 use Rattle.zone.specs.declared.format.limits.Limits.{Limits}
 use Rattle.zone.specs.Record.Numbers.{conditions_value, false_entry, limit_value}
 use Rattle.zone.specs.Check.ZoneTest.{zone_test}
@@ -19,17 +21,17 @@ use Rattle.zone.specs.declared.calls.state.Demand.{Demand}
 use Rattle.zone.specs.Calls.State.{state_test, slots_of, state_of}
 use Rattle.zone.specs.Hour.Demand.{delta_t, gains_heat_cool, share_or_zero, space_heat_cool_demand}
 
--- the tests that demand, update and hour step share: 6, then the conditions' 7, 8, 9
-unfoldable pub tested_hour : Zone → State → List ℕ → Result Conditions
-tested_hour z s bytes =
+-- the tests that demand, update and hour step share: 6, then the conditions' 7, 8, 9; `fixed` says whether code 0 is one of the 8s
+unfoldable pub tested_hour : FixedRate → Zone → State → List ℕ → Result Conditions
+tested_hour fixed z s bytes =
     bind (state_test z s) λ _.
-    conditions_of z bytes
+    conditions_of fixed z bytes
 
 -- those of demand and update: before them the zone's 4, 5
-unfoldable pub tested : Zone → State → List ℕ → Result Conditions
-tested z s bytes =
+unfoldable pub tested : FixedRate → Zone → State → List ℕ → Result Conditions
+tested fixed z s bytes =
     bind (zone_test z) λ _.
-    tested_hour z s bytes
+    tested_hour fixed z s bytes
 
 -- one time step: the new state and the heat balance
 unfoldable pub step : Coefficients → Zone → State → Conditions → (gains fraction ach : Float) → Result (State × HeatBalance)
@@ -41,14 +43,14 @@ step c z s h gains fraction ach =
 -- `update_temperatures`: its own gains, fraction and rate are tested in 9, after the conditions, index 0; then the step
 unfoldable pub update_temperatures : Coefficients → Zone → State → List ℕ → (gains fraction ach : Float) → Result (State × HeatBalance)
 update_temperatures c z s bytes gains fraction ach =
-    bind (tested z s bytes) λ h.
+    bind (tested Retired z s bytes) λ h.
     bind (require (gains_range gains && fraction_range fraction && rate_range ach) conditions_value) λ _.
     step c z s h gains fraction ach
 
 -- demand, from a state and the conditions' bytes
-unfoldable pub demand : Coefficients → Zone → State → List ℕ → Result Demand
-demand c z s bytes =
-    bind (tested z s bytes) λ h.
+unfoldable pub demand : FixedRate → Coefficients → Zone → State → List ℕ → Result Demand
+demand fixed c z s bytes =
+    bind (tested fixed z s bytes) λ h.
     space_heat_cool_demand c z (slots_of z s) h
 
 -- ---- hour step (document 01, and document 02 (a), (b)): the demand is met, by the rule of the entry version that the call names
@@ -78,18 +80,18 @@ abbrev pub limits_valid : (version : ℕ) → Limits → Bool
 limits_valid version l = cond (has_limits version) (power_limits_range l) true
 
 -- "Turned away: 19, a limit out of range, after 9"
-unfoldable pub tested_hour_and_limits : Zone → (version : ℕ) → Limits → State → List ℕ → Result Conditions
-tested_hour_and_limits z version l s bytes =
-    bind (tested_hour z s bytes) λ h.
+unfoldable pub tested_hour_and_limits : FixedRate → Zone → (version : ℕ) → Limits → State → List ℕ → Result Conditions
+tested_hour_and_limits fixed z version l s bytes =
+    bind (tested_hour fixed z s bytes) λ h.
     bind (require (limits_valid version l) limit_value) λ _.
     ok h
 
 -- "An hour step alone names one too; an unknown one is 18, index 0, before 6": after the zone's 4, 5
-unfoldable pub tested_step : Zone → (version : ℕ) → Limits → State → List ℕ → Result Conditions
-tested_step z version l s bytes =
+unfoldable pub tested_step : FixedRate → Zone → (version : ℕ) → Limits → State → List ℕ → Result Conditions
+tested_step fixed z version l s bytes =
     bind (zone_test z) λ _.
     bind (require (hour_version version) false_entry) λ _.
-    tested_hour_and_limits z version l s bytes
+    tested_hour_and_limits fixed z version l s bytes
 
 -- delivered W, with no limit
 unfoldable pub delivered : Conditions → Demand → Float
@@ -121,10 +123,10 @@ pub record HourResult : Type 0 where
   pub state : State
   pub balance : HeatBalance
 
--- "demand is reported uncut"
-unfoldable pub hour_step : Coefficients → Zone → (version : ℕ) → Limits → State → List ℕ → Result HourResult
-hour_step c z version l s bytes =
-    bind (tested_step z version l s bytes) λ h.
+-- "demand is reported uncut". A call's hour step has the fixed rate retired; an entry is "judged by what the hour step would write without this refusal"
+unfoldable pub hour_step : FixedRate → Coefficients → Zone → (version : ℕ) → Limits → State → List ℕ → Result HourResult
+hour_step fixed c z version l s bytes =
+    bind (tested_step fixed z version l s bytes) λ h.
     bind (space_heat_cool_demand c z (slots_of z s) h) λ d.
     let w = delivered_by version l h d in
     let g = gains_heat_cool h +ᶠ w in

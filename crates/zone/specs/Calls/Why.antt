@@ -8,6 +8,7 @@ use Rattle.solver.specs.Closeness.{close_in_windows_test}
 use Rattle.zone.specs.declared.record.building_element.Coefficients.{Coefficients}
 use Rattle.zone.specs.declared.record.zone_record.Zone.{Zone}
 use Rattle.zone.specs.declared.format.conditions.Conditions.{Conditions}
+use Rattle.zone.specs.declared.format.conditions.FixedRate.TheVariants.{StillTaken}
 use Rattle.zone.specs.declared.format.conditions.AirChangesPerHourArgument.{AirChangesPerHourArgument}
 use Rattle.zone.specs.declared.format.conditions.AirChangesPerHourArgument.TheVariants.{Cooling, TargetAndWindowsOpen}
 use Rattle.zone.specs.declared.calls.state.State.{State}
@@ -52,8 +53,8 @@ module _ (c : Coefficients) (z : Zone) (t : List Float) (h : Conditions) where
       bind (reason_for h.ach_args) λ reason.
       ok (reason, load_of d)
 
--- from a state and the conditions' bytes: the demand's tests first
+-- from a state and the conditions' bytes: the demand's tests first, "and the tool of (e) answers for code 0 as before"
 unfoldable pub why : Coefficients → Zone → State → List ℕ → Result (Reason × Load)
 why c z s bytes =
-    bind (tested z s bytes) λ h.
+    bind (tested StillTaken z s bytes) λ h.
     why_of c z (slots_of z s) h

@@ -9,6 +9,7 @@ use Rattle.solver.specs.Result.{ok}
 use Rattle.zone.specs.declared.record.building_element.HeatFlowDirection.{HeatFlowDirection}
 use Rattle.zone.specs.declared.record.building_element.HeatFlowDirection.TheVariants.{Horizontal, Upwards, Downwards}
 use Rattle.zone.specs.declared.record.zone_record.Zone.{Zone}
+use Rattle.zone.specs.declared.format.conditions.FixedRate.{FixedRate}
 use Rattle.zone.specs.declared.format.limits.Limits.{Limits}
 use Rattle.zone.specs.declared.physics.balance.HeatBalance.{HeatBalance}
 use Rattle.zone.specs.declared.physics.balance.HeatBalanceInternalBoundary.{HeatBalanceInternalBoundary}
@@ -73,5 +74,5 @@ UpdateByDirection z = (s : State) (bytes : List ℕ) (gains fraction ach : Float
     → update_temperatures standard_coefficients z s bytes gains fraction ach ≡ ok r → ByDirection z s r.0 r.1.internal_boundary
 
 abbrev pub HourByDirection : Zone → Type 0
-HourByDirection z = (version : ℕ) (l : Limits) (s : State) (bytes : List ℕ) (r : HourResult)
-    → hour_step standard_coefficients z version l s bytes ≡ ok r → ByDirection z s r.state r.balance.internal_boundary
+HourByDirection z = (fixed : FixedRate) (version : ℕ) (l : Limits) (s : State) (bytes : List ℕ) (r : HourResult)
+    → hour_step fixed standard_coefficients z version l s bytes ≡ ok r → ByDirection z s r.state r.balance.internal_boundary

@@ -5,6 +5,7 @@ use Rattle.solver.specs.F64.{zero64}
 use Rattle.solver.specs.Result.{ok}
 use Rattle.zone.specs.declared.record.building_element.Coefficients.{Coefficients}
 use Rattle.zone.specs.declared.record.zone_record.Zone.{Zone}
+use Rattle.zone.specs.declared.format.conditions.FixedRate.{FixedRate}
 use Rattle.zone.specs.declared.format.limits.Limits.{Limits}
 use Rattle.zone.specs.declared.calls.state.State.{State}
 use Rattle.zone.specs.declared.calls.state.Demand.{Demand}
@@ -17,7 +18,7 @@ pub record Signs (d : Demand) : Type 0 where
 
 -- "heating ≥ 0, cooling ≤ 0": of every accepted demand, and of that in every accepted hour step
 abbrev pub DemandCallSigns : Coefficients → Zone → Type 0
-DemandCallSigns c z = (s : State) (bytes : List ℕ) (d : Demand) → demand c z s bytes ≡ ok d → Signs d
+DemandCallSigns c z = (fixed : FixedRate) (s : State) (bytes : List ℕ) (d : Demand) → demand fixed c z s bytes ≡ ok d → Signs d
 
 abbrev pub HourCallSigns : Coefficients → Zone → Type 0
-HourCallSigns c z = (version : ℕ) (l : Limits) (s : State) (bytes : List ℕ) (r : HourResult) → hour_step c z version l s bytes ≡ ok r → Signs r.demand
+HourCallSigns c z = (fixed : FixedRate) (version : ℕ) (l : Limits) (s : State) (bytes : List ℕ) (r : HourResult) → hour_step fixed c z version l s bytes ≡ ok r → Signs r.demand

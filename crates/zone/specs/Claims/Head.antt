@@ -14,6 +14,7 @@ use Rattle.zone.specs.Claims.Encode.{head_bytes, conditions_bytes}
 use Rattle.zone.specs.Claims.HeadRefusals.{HeadRefusal, ZoneRefusal, ConditionsRefusal}
 use Rattle.zone.specs.declared.record.zone_record.Zone.{Zone}
 use Rattle.zone.specs.declared.format.conditions.Conditions.{Conditions}
+use Rattle.zone.specs.declared.format.conditions.FixedRate.{FixedRate}
 
 -- "an index for 4, 5, 9 (element from 1, 0 if none)": of a refused head 0, or that of an element which its count byte counts, once basis and count are right
 pub data OfHead (bs : List ℕ) : (number index : ℕ) → Type 0 where
@@ -47,11 +48,11 @@ pub record ZoneClaims (z : Zone) : Type 0 where
   pub refusals : RefusesOnly ZoneRefusal (zone_test z)
   pub count : zone_test z ≡ ok tt → (1 ≤ z.count) × (z.count ≤ 24)
 
-pub record ConditionsClaims (z : Zone) (bs : List ℕ) : Type 0 where
-  pub refusals : RefusesOnly ConditionsRefusal (conditions_of z bs)
+pub record ConditionsClaims (fixed : FixedRate) (z : Zone) (bs : List ℕ) : Type 0 where
+  pub refusals : RefusesOnly ConditionsRefusal (conditions_of fixed z bs)
   -- "113 + 41n bytes"
-  pub size : (c : Conditions) → conditions_of z bs ≡ ok c → length bs ≡ conditions_length z.count
+  pub size : (c : Conditions) → conditions_of fixed z bs ≡ ok c → length bs ≡ conditions_length z.count
   -- accepted ones are the bytes of what they are read as,
-  pub bytes : (c : Conditions) → Bytes bs → conditions_of z bs ≡ ok c → bs ≡ conditions_bytes z.count c
+  pub bytes : (c : Conditions) → Bytes bs → conditions_of fixed z bs ≡ ok c → bs ≡ conditions_bytes z.count c
   -- so no two are read as the same
-  pub injective : (c : Conditions) (other : List ℕ) → Bytes bs → Bytes other → conditions_of z bs ≡ ok c → conditions_of z other ≡ ok c → bs ≡ other
+  pub injective : (c : Conditions) (other : List ℕ) → Bytes bs → Bytes other → conditions_of fixed z bs ≡ ok c → conditions_of fixed z other ≡ ok c → bs ≡ other

@@ -22,7 +22,7 @@ pub data ZoneRefusal : (number index : ℕ) → Type 0 where
 pub data ConditionsRefusal : (number index : ℕ) → Type 0 where
   -- "conditions of wrong size"
   conditions_size : ConditionsRefusal Number.conditions_size 0
-  -- "rate code, for code 0 a second float not all zero bits, or open bit past the treatments"
+  -- "rate code, for code 0 a second float not all zero bits, or open bit past the treatments"; of a call's hour code 0 is such a rate code
   conditions_code : ConditionsRefusal Number.conditions_code 0
   -- "first value out of range"
   conditions_value : (i : ℕ) → i ≤ 24 → ConditionsRefusal Number.conditions_value i

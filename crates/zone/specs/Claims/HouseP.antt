@@ -7,15 +7,18 @@ use Rattle.std.specs.Float.Ieee.{neg, of_bits, to_bits}
 use Rattle.solver.specs.F64.{decimal, zero64, one64}
 use Rattle.solver.specs.Result.{Result, ok, refused}
 use Rattle.zone.specs.Record.BuildingElement.{standard_coefficients, is_direction, surface_convection}
+use Rattle.zone.specs.Record.Numbers.{conditions_code}
 use Rattle.zone.specs.Format.Decode.{zone_at}
 use Rattle.zone.specs.Format.Head.{head_of}
 use Rattle.zone.specs.Format.Encode.{row_bytes}
+use Rattle.zone.specs.Format.FixedRate.{rate_twice}
 use Rattle.zone.specs.Physics.Ventilation.{ach_req_to_reach_temperature}
 use Rattle.zone.specs.Calls.Hour.{power_limits_range, update_temperatures, demand, HourResult, hour_step}
 use Rattle.zone.specs.Calls.StartUp.{init_node_temps}
 use Rattle.zone.specs.declared.record.building_element.HeatFlowDirection.{HeatFlowDirection}
 use Rattle.zone.specs.declared.record.building_element.HeatFlowDirection.TheVariants.{Horizontal, Upwards, Downwards}
 use Rattle.zone.specs.declared.record.zone_record.Zone.{Zone}
+use Rattle.zone.specs.declared.format.conditions.FixedRate.TheVariants.{Retired, StillTaken}
 use Rattle.zone.specs.declared.format.limits.Limits.{Limits}
 use Rattle.zone.specs.declared.physics.balance.HeatBalance.{HeatBalance}
 use Rattle.zone.specs.declared.calls.state.State.{State}
@@ -49,14 +52,22 @@ house_p = zone_at head_of_p
 abbrev singular : Zone
 singular = zone_at (head zero64 zero64 zero64 (decimal 1 20))
 
--- the hour: length, external, no gains, fractions 1, setpoints, no ventilation control, supply, no gains; fixed rate 0
-abbrev hour : (heat cool : Float) → List ℕ
-hour heat cool =
+-- the hour: length, external, no gains, fractions 1, setpoints, no ventilation control, supply, no gains; both rates 0
+abbrev hour_by : (rate_code : ℕ) → (heat cool : Float) → List ℕ
+hour_by rate_code heat cool =
     row_bytes (one64 ∷ decimal 20 0 ∷ zero64 ∷ zero64 ∷ one64 ∷ one64 ∷ heat ∷ cool ∷ no_control ∷ decimal 20 0 ∷ zero64 ∷ zero64 ∷ [])
-    ++ (0 ∷ (row_bytes (zero64 ∷ zero64 ∷ []) ++ part))
+    ++ (rate_code ∷ (row_bytes (zero64 ∷ zero64 ∷ []) ++ part))
+
+-- "House P then has target and windows open both 0"
+abbrev hour : (heat cool : Float) → List ℕ
+hour heat cool = hour_by 1 heat cool
 
 abbrev pub hour_of_p : List ℕ
 hour_of_p = hour (decimal 20 0) (decimal 24 0)
+
+-- the same as it was written before, with the fixed rate 0
+abbrev pub old_hour_of_p : List ℕ
+old_hour_of_p = hour_by 0 (decimal 20 0) (decimal 24 0)
 
 abbrev pub twenty : State
 twenty = record { nodes = 3; temps = decimal 20 0 ∷ decimal 20 0 ∷ decimal 20 0 ∷ replicate 118 zero64 }
@@ -70,10 +81,14 @@ pub record HousePClaims : Type 0 where
   pub head : head_of head_of_p ≡ ok (record { zone = house_p; length = 180 })
   pub start_up : init_node_temps standard_coefficients house_p ≡ ok twenty
   pub balance : HeatBalance
-  pub hour_1 : (l : Limits) → hour_step standard_coefficients house_p 1 l twenty hour_of_p ≡ ok (record { demand = no_demand; state = twenty; balance = balance })
-  pub hour_2 : (l : Limits) → hour_step standard_coefficients house_p 2 l twenty hour_of_p ≡ ok (record { demand = no_demand; state = twenty; balance = balance })
+  pub hour_1 : (l : Limits) → hour_step Retired standard_coefficients house_p 1 l twenty hour_of_p ≡ ok (record { demand = no_demand; state = twenty; balance = balance })
+  pub hour_2 : (l : Limits) → hour_step Retired standard_coefficients house_p 2 l twenty hour_of_p ≡ ok (record { demand = no_demand; state = twenty; balance = balance })
   -- a delivered 0 is beyond no limit, nor beyond a limit of 0
-  pub hour_3 : hour_step standard_coefficients house_p 3 (record { heating = zero64; cooling = zero64 }) twenty hour_of_p ≡ ok (record { demand = no_demand; state = twenty; balance = balance })
+  pub hour_3 : hour_step Retired standard_coefficients house_p 3 (record { heating = zero64; cooling = zero64 }) twenty hour_of_p ≡ ok (record { demand = no_demand; state = twenty; balance = balance })
+  -- a call refuses the old hour, under 8; where it is written already it is judged as before; and with its rate twice it is the hour
+  pub old_refused : demand Retired standard_coefficients house_p twenty old_hour_of_p ≡ refused conditions_code 0
+  pub old_hour : (l : Limits) → hour_step StillTaken standard_coefficients house_p 1 l twenty old_hour_of_p ≡ ok (record { demand = no_demand; state = twenty; balance = balance })
+  pub old_twice : rate_twice old_hour_of_p ≡ hour_of_p
 
 -- ---- the table
 
@@ -98,7 +113,7 @@ plant heating cooling = record { heating = heating; cooling = cooling }
 
 -- an hour step of version 3: the demand, and the three temperatures after it
 abbrev limited_hour : Limits → (heat cool : Float) → Result HourResult
-limited_hour l heat cool = hour_step standard_coefficients house_p 3 l twenty (hour heat cool)
+limited_hour l heat cool = hour_step Retired standard_coefficients house_p 3 l twenty (hour heat cool)
 
 abbrev ends_at : (heating cooling outer inner air : Float) → Result HourResult → Bool
 ends_at heating cooling outer inner air (ok r) =
@@ -116,7 +131,7 @@ updated z = update_temperatures standard_coefficients z twenty hour_of_p zero64 
 
 -- demand at setpoints
 abbrev asked : Zone → (heat cool : Float) → Result Demand
-asked z heat cool = demand standard_coefficients z twenty (hour heat cool)
+asked z heat cool = demand Retired standard_coefficients z twenty (hour heat cool)
 
 -- h_ci and the direction of heat flow at a pitch, where air and surface have one temperature
 abbrev convection_is : (pitch : Float) → HeatFlowDirection → (h_ci : Float) → Bool

@@ -13,6 +13,8 @@ use Rattle.zone.specs.declared.record.zone_record.Zone.{Zone}
 use Rattle.zone.specs.declared.format.conditions.Conditions.{Conditions}
 use Rattle.zone.specs.declared.format.limits.Limits.{Limits}
 use Rattle.zone.specs.declared.format.conditions.AirChangesPerHourArgument.TheVariants.{TargetAndWindowsOpen}
+use Rattle.zone.specs.declared.format.conditions.FixedRate.{FixedRate}
+use Rattle.zone.specs.declared.format.conditions.FixedRate.TheVariants.{Retired}
 use Rattle.zone.specs.declared.calls.state.State.{State}
 use Rattle.zone.specs.declared.calls.state.Demand.{Demand}
 use Rattle.zone.specs.declared.hour.windows.VentilationChoice.{VentilationChoice}
@@ -100,13 +102,13 @@ module _ (c : Coefficients) (z : Zone) (t : List Float) (h : Conditions) where
         → close_in_demand (control_temperature z upper -ᶠ v.temp_free) zero64 ≡ true → DemandReason no_effect 0
 
 -- 4 to 9 from the tests of zone, state and conditions, or what P says of the conditions that they let through
-pub data AfterTests (z : Zone) (s : State) (bytes : List ℕ) (P : Conditions → (number index : ℕ) → Type 0) : (number index : ℕ) → Type 0 where
-  in_tests : {number index : ℕ} → tested z s bytes ≡ refused number index → number < 10 → AfterTests z s bytes P number index
-  after : {h : Conditions} {number index : ℕ} → tested z s bytes ≡ ok h → P h number index → AfterTests z s bytes P number index
+pub data AfterTests (fixed : FixedRate) (z : Zone) (s : State) (bytes : List ℕ) (P : Conditions → (number index : ℕ) → Type 0) : (number index : ℕ) → Type 0 where
+  in_tests : {number index : ℕ} → tested fixed z s bytes ≡ refused number index → number < 10 → AfterTests fixed z s bytes P number index
+  after : {h : Conditions} {number index : ℕ} → tested fixed z s bytes ≡ ok h → P h number index → AfterTests fixed z s bytes P number index
 
 module _ (c : Coefficients) (z : Zone) where
   abbrev pub DemandReasons : Type 0
-  DemandReasons = (s : State) (bytes : List ℕ) → RefusesOnly (AfterTests z s bytes (DemandReason c z (slots_of z s))) (demand c z s bytes)
+  DemandReasons = (fixed : FixedRate) (s : State) (bytes : List ℕ) → RefusesOnly (AfterTests fixed z s bytes (DemandReason c z (slots_of z s))) (demand fixed c z s bytes)
 
   -- the limits', then the demand's, or those of the solve that meets it
   pub data HourReason (version : ℕ) (l : Limits) (s : State) (h : Conditions) : (number index : ℕ) → Type 0 where
@@ -119,14 +121,14 @@ module _ (c : Coefficients) (z : Zone) where
         → HourReason version l s h number index
 
   -- "An hour step alone names one too; an unknown one is 18, index 0, before 6": between the zone's 4, 5 and all others
-  pub data HourStepReason (version : ℕ) (l : Limits) (s : State) (bytes : List ℕ) : (number index : ℕ) → Type 0 where
-    in_hour_zone : {number index : ℕ} → zone_test z ≡ refused number index → number < 6 → HourStepReason version l s bytes number index
-    by_false_entry : zone_test z ≡ ok tt → hour_version version ≡ false → HourStepReason version l s bytes false_entry 0
-    of_version : {number index : ℕ} → zone_test z ≡ ok tt → hour_version version ≡ true → AfterTests z s bytes (HourReason version l s) number index
-        → HourStepReason version l s bytes number index
+  pub data HourStepReason (fixed : FixedRate) (version : ℕ) (l : Limits) (s : State) (bytes : List ℕ) : (number index : ℕ) → Type 0 where
+    in_hour_zone : {number index : ℕ} → zone_test z ≡ refused number index → number < 6 → HourStepReason fixed version l s bytes number index
+    by_false_entry : zone_test z ≡ ok tt → hour_version version ≡ false → HourStepReason fixed version l s bytes false_entry 0
+    of_version : {number index : ℕ} → zone_test z ≡ ok tt → hour_version version ≡ true → AfterTests fixed z s bytes (HourReason version l s) number index
+        → HourStepReason fixed version l s bytes number index
 
   abbrev pub HourReasons : Type 0
-  HourReasons = (version : ℕ) (l : Limits) (s : State) (bytes : List ℕ) → RefusesOnly (HourStepReason version l s bytes) (hour_step c z version l s bytes)
+  HourReasons = (fixed : FixedRate) (version : ℕ) (l : Limits) (s : State) (bytes : List ℕ) → RefusesOnly (HourStepReason fixed version l s bytes) (hour_step fixed c z version l s bytes)
 
   -- "its own gains, fraction and rate tested in 9 after the conditions, index 0, then 12, 13"
   pub data UpdateReason (s : State) (gains fraction ach : Float) (h : Conditions) : (number index : ℕ) → Type 0 where
@@ -136,7 +138,7 @@ module _ (c : Coefficients) (z : Zone) where
 
   abbrev pub UpdateReasons : Type 0
   UpdateReasons = (s : State) (bytes : List ℕ) (gains fraction ach : Float)
-      → RefusesOnly (AfterTests z s bytes (UpdateReason s gains fraction ach)) (update_temperatures c z s bytes gains fraction ach)
+      → RefusesOnly (AfterTests Retired z s bytes (UpdateReason s gains fraction ach)) (update_temperatures c z s bytes gains fraction ach)
 
   -- 4, 5 from the zone's tests; where these accept, those of a pass before the limit, after passes that did not settle; or the limit
   pub data StartUpReason : (number index : ℕ) → Type 0 where

@@ -3,6 +3,7 @@ use Rattle.std.specs.Prelude.{ℕ, ◌≤◌, List, Float}
 use Rattle.solver.specs.Refusals.{RefusesOnly, SolveRefusal}
 use Rattle.zone.specs.declared.record.building_element.Coefficients.{Coefficients}
 use Rattle.zone.specs.declared.record.zone_record.Zone.{Zone}
+use Rattle.zone.specs.declared.format.conditions.FixedRate.{FixedRate}
 use Rattle.zone.specs.declared.format.limits.Limits.{Limits}
 use Rattle.zone.specs.declared.calls.state.State.{State}
 use Rattle.zone.specs.Calls.State.{operative}
@@ -65,15 +66,15 @@ OfZone z number index = index ≤ z.count
 
 pub record IndicesOfZone (c : Coefficients) (z : Zone) : Type 0 where
   pub operatives : (s : State) → RefusesOnly (OfZone z) (operative z s)
-  pub demands : (s : State) (bytes : List ℕ) → RefusesOnly (OfZone z) (demand c z s bytes)
-  pub hour_steps : (version : ℕ) (l : Limits) (s : State) (bytes : List ℕ) → RefusesOnly (OfZone z) (hour_step c z version l s bytes)
+  pub demands : (fixed : FixedRate) (s : State) (bytes : List ℕ) → RefusesOnly (OfZone z) (demand fixed c z s bytes)
+  pub hour_steps : (fixed : FixedRate) (version : ℕ) (l : Limits) (s : State) (bytes : List ℕ) → RefusesOnly (OfZone z) (hour_step fixed c z version l s bytes)
   pub updates : (s : State) (bytes : List ℕ) (gains fraction ach : Float) → RefusesOnly (OfZone z) (update_temperatures c z s bytes gains fraction ach)
   pub start_up : RefusesOnly (OfZone z) (init_node_temps c z)
 
 -- which refusals each call can give, for every input
 pub record CallRefusals (c : Coefficients) (z : Zone) : Type 0 where
   pub operatives : (s : State) → RefusesOnly OperativeRefusal (operative z s)
-  pub demands : (s : State) (bytes : List ℕ) → RefusesOnly DemandRefusal (demand c z s bytes)
-  pub hour_steps : (version : ℕ) (l : Limits) (s : State) (bytes : List ℕ) → RefusesOnly HourRefusal (hour_step c z version l s bytes)
+  pub demands : (fixed : FixedRate) (s : State) (bytes : List ℕ) → RefusesOnly DemandRefusal (demand fixed c z s bytes)
+  pub hour_steps : (fixed : FixedRate) (version : ℕ) (l : Limits) (s : State) (bytes : List ℕ) → RefusesOnly HourRefusal (hour_step fixed c z version l s bytes)
   pub updates : (s : State) (bytes : List ℕ) (gains fraction ach : Float) → RefusesOnly UpdateRefusal (update_temperatures c z s bytes gains fraction ach)
   pub start_ups : RefusesOnly StartUpRefusal (init_node_temps c z)

@@ -3,6 +3,7 @@ use Rattle.std.specs.Prelude.{ℕ, ◌≡◌, List, Float}
 use Rattle.solver.specs.Result.{Result, ok, refused}
 use Rattle.zone.specs.declared.record.building_element.Coefficients.{Coefficients}
 use Rattle.zone.specs.declared.record.zone_record.Zone.{Zone}
+use Rattle.zone.specs.declared.format.conditions.FixedRate.{FixedRate}
 use Rattle.zone.specs.declared.format.limits.Limits.{Limits}
 use Rattle.zone.specs.declared.physics.balance.HeatBalance.{HeatBalance}
 use Rattle.zone.specs.declared.calls.state.State.{State}
@@ -18,7 +19,7 @@ module _ (c : Coefficients) (z : Zone) where
       → update_temperatures c z s bytes gains fraction ach ≡ ok r → zone_and_state_test z r.0 ≡ ok tt
 
   abbrev pub HourStateTested : Type 0
-  HourStateTested = (version : ℕ) (l : Limits) (s : State) (bytes : List ℕ) (r : HourResult) → hour_step c z version l s bytes ≡ ok r → zone_and_state_test z r.state ≡ ok tt
+  HourStateTested = (fixed : FixedRate) (version : ℕ) (l : Limits) (s : State) (bytes : List ℕ) (r : HourResult) → hour_step fixed c z version l s bytes ≡ ok r → zone_and_state_test z r.state ≡ ok tt
 
   abbrev pub StartUpStateTested : Type 0
   StartUpStateTested = (s : State) → init_node_temps c z ≡ ok s → zone_and_state_test z s ≡ ok tt

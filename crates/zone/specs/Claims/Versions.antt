@@ -7,6 +7,7 @@ use Rattle.solver.specs.Result.{Result, ok, refused, bind}
 use Rattle.zone.specs.declared.record.building_element.Coefficients.{Coefficients}
 use Rattle.zone.specs.declared.record.zone_record.Zone.{Zone}
 use Rattle.zone.specs.declared.format.conditions.Conditions.{Conditions}
+use Rattle.zone.specs.declared.format.conditions.FixedRate.{FixedRate}
 use Rattle.zone.specs.declared.format.limits.Limits.{Limits}
 use Rattle.zone.specs.declared.calls.state.State.{State}
 use Rattle.zone.specs.declared.calls.state.Demand.{Demand}
@@ -37,12 +38,12 @@ pub record Within (l : Limits) (w : Float) : Type 0 where
   pub heating : lt l.heating w ≡ false
   pub cooling : lt w (neg l.cooling) ≡ false
 
-module _ (c : Coefficients) (z : Zone) (s : State) (bytes : List ℕ) where
+module _ (fixed : FixedRate) (c : Coefficients) (z : Zone) (s : State) (bytes : List ℕ) where
   -- document 01's hour step, which knows no version: "share = (convective + delivered × the .. fraction) / g, or 0 where g is close to 0". The demand is
   -- reported as it is asked for, whatever becomes of the power.
   unfoldable pub hour_step_with : (power : (w : Float) → Float) (fraction : Conditions → (w : Float) → Float) → Result HourResult
   hour_step_with power fraction =
-      bind (tested z s bytes) λ h.
+      bind (tested fixed z s bytes) λ h.
       bind (space_heat_cool_demand c z (slots_of z s) h) λ d.
       let w = power (delivered h d) in
       let g = gains_heat_cool h +ᶠ w in
@@ -52,21 +53,21 @@ module _ (c : Coefficients) (z : Zone) (s : State) (bytes : List ℕ) where
 
   pub record VersionClaims : Type 0 where
     -- "Version 1 entries keep their own rule": version 1's hour is document 01's, whatever limits are handed in.
-    pub version_1 : (l : Limits) → hour_step c z 1 l s bytes ≡ hour_step_with unlimited heating_fraction
+    pub version_1 : (l : Limits) → hour_step fixed c z 1 l s bytes ≡ hour_step_with unlimited heating_fraction
     -- "From entry version 2 on, delivered power below 0 uses the cooling fraction"
-    pub version_2 : (l : Limits) → hour_step c z 2 l s bytes ≡ hour_step_with unlimited fraction_by_sign
+    pub version_2 : (l : Limits) → hour_step fixed c z 2 l s bytes ≡ hour_step_with unlimited fraction_by_sign
     -- "Entry version 3 adds two floats .. Shares follow version 2": of the power after the limits
-    pub version_3 : (l : Limits) → power_limits_range l ≡ true → hour_step c z 3 l s bytes ≡ hour_step_with (at_most l) fraction_by_sign
+    pub version_3 : (l : Limits) → power_limits_range l ≡ true → hour_step fixed c z 3 l s bytes ≡ hour_step_with (at_most l) fraction_by_sign
     -- "Turned away: 19, a limit out of range, after 9"
-    pub out_of_range : (l : Limits) → power_limits_range l ≡ false → hour_step c z 3 l s bytes ≡ bind (tested z s bytes) (λ _. refused limit_value 0)
+    pub out_of_range : (l : Limits) → power_limits_range l ≡ false → hour_step fixed c z 3 l s bytes ≡ bind (tested fixed z s bytes) (λ _. refused limit_value 0)
     -- "an unknown one is 18, index 0, before 6": after the zone's 4, 5, whatever limits, state and conditions
-    pub unknown : (version : ℕ) (l : Limits) → version ≢ 1 → version ≢ 2 → version ≢ 3 → hour_step c z version l s bytes ≡ bind (zone_test z) (λ _. refused false_entry 0)
+    pub unknown : (version : ℕ) (l : Limits) → version ≢ 1 → version ≢ 2 → version ≢ 3 → hour_step fixed c z version l s bytes ≡ bind (zone_test z) (λ _. refused false_entry 0)
     -- Where an hour has no delivered power below 0, versions 1 and 2 are one, refusals included.
-    pub not_cooled : (l : Limits) → ((h : Conditions) (d : Demand) → tested z s bytes ≡ ok h → demand c z s bytes ≡ ok d → lt (delivered h d) zero64 ≡ false)
-        → hour_step c z 2 l s bytes ≡ hour_step c z 1 l s bytes
+    pub not_cooled : (l : Limits) → ((h : Conditions) (d : Demand) → tested fixed z s bytes ≡ ok h → demand fixed c z s bytes ≡ ok d → lt (delivered h d) zero64 ≡ false)
+        → hour_step fixed c z 2 l s bytes ≡ hour_step fixed c z 1 l s bytes
     -- An hour whose power is within both limits ends as version 2's: temperatures, demand, balance, refusals.
     pub within_limits : (l : Limits) → power_limits_range l ≡ true
-        → ((h : Conditions) (d : Demand) → tested z s bytes ≡ ok h → demand c z s bytes ≡ ok d → Within l (delivered h d))
-        → hour_step c z 3 l s bytes ≡ hour_step c z 2 l s bytes
+        → ((h : Conditions) (d : Demand) → tested fixed z s bytes ≡ ok h → demand fixed c z s bytes ≡ ok d → Within l (delivered h d))
+        → hour_step fixed c z 3 l s bytes ≡ hour_step fixed c z 2 l s bytes
     -- "demand is reported uncut": the demand of an hour knows neither its version nor its limits.
-    pub same_demand : (version : ℕ) (l : Limits) (r : HourResult) → hour_step c z version l s bytes ≡ ok r → demand c z s bytes ≡ ok r.demand
+    pub same_demand : (version : ℕ) (l : Limits) (r : HourResult) → hour_step fixed c z version l s bytes ≡ ok r → demand fixed c z s bytes ≡ ok r.demand

@@ -8,6 +8,7 @@ use Rattle.zone.specs.declared.record.building_element.Coefficients.{Coefficient
 use Rattle.zone.specs.declared.record.zone_record.Zone.{Zone}
 use Rattle.zone.specs.declared.format.conditions.Conditions.{Conditions}
 use Rattle.zone.specs.declared.format.conditions.AirChangesPerHourArgument.TheVariants.{Cooling, TargetAndWindowsOpen}
+use Rattle.zone.specs.declared.format.conditions.FixedRate.TheVariants.{StillTaken}
 use Rattle.zone.specs.declared.calls.state.State.{State}
 use Rattle.zone.specs.declared.calls.state.Demand.{Demand}
 use Rattle.zone.specs.declared.calls.state.Reason.{Reason}
@@ -79,11 +80,12 @@ pub record LoadTold (d : Demand) (load : Load) : Type 0 where
   pub neither : (load ≡ Load.Neither) ↔ ((d.space_heat_demand ≡ zero64) × (d.space_cool_demand ≡ zero64))
 
 module _ (c : Coefficients) (z : Zone) where
+  -- of the demand of an hour with code 0 too, which a call's demand refuses since document 02 (g)
   pub record WhyTold (s : State) (bytes : List ℕ) (reason : Reason) (load : Load) : Type 0 where
     pub conditions : Conditions
-    pub tests : tested z s bytes ≡ ok conditions
+    pub tests : tested StillTaken z s bytes ≡ ok conditions
     pub demanded : Demand
-    pub asked : demand c z s bytes ≡ ok demanded
+    pub asked : demand StillTaken c z s bytes ≡ ok demanded
     pub earliest : Earliest (Holds c z (slots_of z s) conditions) reasons reason
     pub rate : RateTold c z (slots_of z s) conditions demanded reason
     pub load_told : LoadTold demanded load
@@ -92,6 +94,7 @@ module _ (c : Coefficients) (z : Zone) where
   abbrev pub WhyAnswers : Type 0
   WhyAnswers = (s : State) (bytes : List ℕ) (reason : Reason) (load : Load) → why c z s bytes ≡ ok (reason, load) → WhyTold s bytes reason load
 
-  -- "An hour that the demand refuses gets that refusal", and no other hour is refused
+  -- "An hour that the demand refuses gets that refusal", and no other hour is refused. The demand is the one that still takes code 0, "as before"; for any
+  -- other hour it is the call's (OtherHours of FixedRate.antt)
   abbrev pub WhyRefuses : Type 0
-  WhyRefuses = (s : State) (bytes : List ℕ) (number index : ℕ) → (why c z s bytes ≡ refused number index) ↔ (demand c z s bytes ≡ refused number index)
+  WhyRefuses = (s : State) (bytes : List ℕ) (number index : ℕ) → (why c z s bytes ≡ refused number index) ↔ (demand StillTaken c z s bytes ≡ refused number index)

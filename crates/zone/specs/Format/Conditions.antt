@@ -1,5 +1,5 @@
 -- What a byte string is as an hour's conditions, in the order of document 01's refusals 7, 8, 9.
-use Rattle.std.specs.Prelude.{ℕ, suc, zero, ◌+◌, ◌*◌, ◌-◌, Bool, true, cond, ◌&&◌, List, [], ◌∷◌, ◌++◌, map, get_or, length, take, replicate, leb, eqb, Float}
+use Rattle.std.specs.Prelude.{ℕ, suc, zero, ◌+◌, ◌*◌, ◌-◌, Bool, true, false, cond, ◌&&◌, List, [], ◌∷◌, ◌++◌, map, get_or, length, take, replicate, leb, eqb, Float}
 use Rattle.solver.specs.Result.{Result, ok, bind, require}
 use Rattle.zone.specs.Format.Bytes.{num_at, float_at, float_size}
 use Rattle.zone.specs.Format.Decode.{element_hour_at, no_element_hour}
@@ -12,6 +12,8 @@ use Rattle.zone.specs.declared.record.zone_record.Zone.{Zone}
 use Rattle.zone.specs.declared.format.conditions.AirChangesPerHourArgument.{AirChangesPerHourArgument}
 use Rattle.zone.specs.declared.format.conditions.AirChangesPerHourArgument.TheVariants.{Cooling, TargetAndWindowsOpen}
 use Rattle.zone.specs.declared.format.conditions.Conditions.{Conditions}
+use Rattle.zone.specs.declared.format.conditions.FixedRate.{FixedRate}
+use Rattle.zone.specs.declared.format.conditions.FixedRate.TheVariants.{Retired, StillTaken}
 
 -- the rates in the 17 bytes from at on: code 0 fixed, 1 target and open
 abbrev pub ach_args_at : List ℕ → (at : ℕ) → AirChangesPerHourArgument
@@ -43,9 +45,15 @@ conditions_at bs n =
       elements = element_hours_at bs first_element_hour n ++ replicate (24 - n) no_element_hour;
     }
 
--- code 0 with a second float of all zero bits, or code 1
-abbrev pub rate_code_valid : List ℕ → Bool
-rate_code_valid bs = cond (eqb (get_or bs rate_code 0) 0) (eqb (num_at bs second_rate float_size) 0) (eqb (get_or bs rate_code 0) 1)
+-- Code 0: "Entries of every version with code 0 already written are still taken up", "and the tool of (e) answers for code 0 as before. Every other call with it
+-- is refused under 8, in its old place". Where it is taken its second float has all zero bits
+abbrev pub fixed_rate_valid : FixedRate → List ℕ → Bool
+fixed_rate_valid Retired bs = false
+fixed_rate_valid StillTaken bs = eqb (num_at bs second_rate float_size) 0
+
+-- code 0, where it is good, or code 1
+abbrev pub rate_code_valid : FixedRate → List ℕ → Bool
+rate_code_valid fixed bs = cond (eqb (get_or bs rate_code 0) 0) (fixed_rate_valid fixed bs) (eqb (get_or bs rate_code 0) 1)
 
 -- no open bit past the treatments, for the elements whose parts begin at p
 unfoldable pub open_bits_valid : List ℕ → (treatments : List ℕ) → (p : ℕ) → Bool
@@ -84,11 +92,11 @@ conditions_test n c =
     all_required element_hour_in_range conditions_value (take n c.elements) 1
 
 -- an hour's conditions for a zone; no bytes are those of more than 24 elements
-unfoldable pub conditions_of : Zone → (bytes : List ℕ) → Result Conditions
-conditions_of z bs =
+unfoldable pub conditions_of : FixedRate → Zone → (bytes : List ℕ) → Result Conditions
+conditions_of fixed z bs =
     let n = z.count in
     let treatments = take n (map (λ e. e.treatments) z.building_elements) in
     bind (require (leb n 24 && eqb (length bs) (conditions_length n)) conditions_size) λ _.
-    bind (require (rate_code_valid bs && open_bits_valid bs treatments first_element_hour) conditions_code) λ _.
+    bind (require (rate_code_valid fixed bs && open_bits_valid bs treatments first_element_hour) conditions_code) λ _.
     bind (conditions_test n (conditions_at bs n)) λ _.
     ok (conditions_at bs n)

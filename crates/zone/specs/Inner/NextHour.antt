@@ -5,6 +5,7 @@ use Rattle.solver.specs.Result.{Result, ok, refused, bind}
 use Rattle.zone.specs.declared.record.building_element.Coefficients.{Coefficients}
 use Rattle.zone.specs.declared.record.zone_record.Zone.{Zone}
 use Rattle.zone.specs.declared.format.conditions.Conditions.{Conditions}
+use Rattle.zone.specs.declared.format.conditions.FixedRate.{FixedRate}
 use Rattle.zone.specs.declared.format.limits.Limits.{Limits}
 use Rattle.zone.specs.declared.hour.hour.Meeting.TheVariants.{WithGains}
 use Rattle.zone.specs.declared.hour.rule.Rule.{Rule}
@@ -17,9 +18,9 @@ use Rattle.zone.specs.Inner.Hour.{demand_met_of}
 use Rattle.zone.specs.Calls.Hour.{tested_hour_and_limits, delivered_by, convective_share}
 
 -- the hour step of a zone and a version that are tested already, and whose heat balance nobody asks for: the demand, and the state after the hour
-unfoldable pub next_hour : Coefficients → Zone → (version : ℕ) → Limits → State → List ℕ → Result (Demand × State)
-next_hour c z version l s bytes =
-    bind (tested_hour_and_limits z version l s bytes) λ h.
+unfoldable pub next_hour : FixedRate → Coefficients → Zone → (version : ℕ) → Limits → State → List ℕ → Result (Demand × State)
+next_hour fixed c z version l s bytes =
+    bind (tested_hour_and_limits fixed z version l s bytes) λ h.
     bind (space_heat_cool_demand c z (slots_of z s) h) λ d.
     let w = delivered_by version l h d in
     let g = gains_heat_cool h +ᶠ w in
@@ -47,7 +48,7 @@ abbrev pub rule_of : (version : ℕ) → Limits → Rule
 rule_of version l = record { version = version; limits = l }
 
 -- `next_hour` from that
-unfoldable pub next_hour_from : Zone → (version : ℕ) → Limits → State → List ℕ → Held → Result (Demand × State)
-next_hour_from z version l s bytes k =
-    bind (tested_hour_and_limits z version l s bytes) λ h.
+unfoldable pub next_hour_from : FixedRate → Zone → (version : ℕ) → Limits → State → List ℕ → Held → Result (Demand × State)
+next_hour_from fixed z version l s bytes k =
+    bind (tested_hour_and_limits fixed z version l s bytes) λ h.
     solved_next z (demand_met_of (hour_held z (slots_of z s) h k) (WithGains (rule_of version l)) (replicate 121 zero64))

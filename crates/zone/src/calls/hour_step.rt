@@ -4,10 +4,12 @@ ghost use Rattle.zone.specs.Record.BuildingElement.{standard_coefficients};
 ghost use Rattle.zone.specs.Calls.Hour.{demand, hour_step};
 ghost use Rattle.zone.specs.Calls.Answers.{hour_stepped, reply_in, demand_reply, hour_step_reply};
 ghost use Rattle.zone.specs.Answers.{answered};
+ghost use Rattle.zone.specs.declared.format.conditions.FixedRate.TheVariants.{Retired};
 ghost use Rattle.zone.specs.Inner.Hour.{step_balance};
 
 use crate::calls::state::{Demand, Reply, State};
 use crate::check::arguments::{tested, tested_step};
+use crate::format::conditions::FixedRate;
 use crate::format::limits::Limits;
 use crate::hour::hour::Meeting;
 use crate::hour::hour_start::HourStart;
@@ -42,9 +44,9 @@ impl HourStart<'_> {
 impl State {
     #[tactic(auto, using(crate::proofs::Laws::Hour::demand_answered), unfolding(crate::specs::Calls::Hour::demand))]
     fn demand(&self, z: &Zone, conditions: &[u8]) -> Result<Demand, Refusal>
-        ensures { answered result ≡ demand standard_coefficients z.now self.now conditions.now }
+        ensures { answered result ≡ demand Retired standard_coefficients z.now self.now conditions.now }
     {
-        let h = tested(z, self, conditions)?;
+        let h = tested(FixedRate::Retired, z, self, conditions)?;
         let start = HourStart {
             zone: z,
             temp_prev: &self.slots(z),
@@ -55,7 +57,7 @@ impl State {
     }
 
     pub fn space_heat_cool_demand(self, z: &Zone, conditions: &[u8]) -> Reply<Demand>
-        ensures { reply_in result ≡ demand_reply self (demand standard_coefficients z.now self conditions.now) }
+        ensures { reply_in result ≡ demand_reply self (demand Retired standard_coefficients z.now self conditions.now) }
     {
         Reply {
             answer: self.demand(z, conditions),
@@ -71,7 +73,7 @@ impl State {
         conditions: &[u8],
         rule: Rule,
     ) -> Result<(State, (Demand, HeatBalance)), Refusal>
-        ensures { hour_stepped result ≡ hour_step standard_coefficients z.now rule.version rule.limits self.now conditions.now }
+        ensures { hour_stepped result ≡ hour_step Retired standard_coefficients z.now rule.version rule.limits self.now conditions.now }
     {
         let h = tested_step(z, rule, self, conditions)?;
         let start = HourStart {
@@ -94,7 +96,7 @@ impl State {
         version: u64,
         limits: Limits,
     ) -> Reply<(Demand, HeatBalance)>
-        ensures { reply_in result ≡ hour_step_reply self (hour_step standard_coefficients z.now version limits self conditions.now) }
+        ensures { reply_in result ≡ hour_step_reply self (hour_step Retired standard_coefficients z.now version limits self conditions.now) }
     {
         let rule = Rule { version, limits };
         Reply::of(self, self.stepped(z, conditions, rule))

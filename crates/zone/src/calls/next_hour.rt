@@ -9,6 +9,7 @@ ghost use Rattle.zone.specs.Record.BuildingElement.{standard_coefficients};
 
 use crate::calls::state::{Demand, Reply, State};
 use crate::check::arguments::tested_hour_and_limits;
+use crate::format::conditions::FixedRate;
 use crate::format::limits::Limits;
 use crate::hour::hour::Meeting;
 use crate::hour::hour_start::HourStart;
@@ -23,17 +24,18 @@ impl State {
     #[tactic(auto, unfolding(crate::specs::Inner::NextHour::next_hour_from))]
     fn hour_kept(
         &self,
+        fixed: FixedRate,
         z: &Zone,
         conditions: &[u8],
         rule: Rule,
         kept: &mut KeptMatrix,
         after: &mut State,
     ) -> Result<Demand, Refusal>
-        ensures held { held_in kept.new ≡ held_after z.now self.now (tested_hour_and_limits z.now rule.version rule.limits self.now conditions.now) (held_in kept.old) }
-        ensures hour { changed_by result after.new ≡ next_hour_from z.now rule.version rule.limits self.now conditions.now (held_in kept.new) }
+        ensures held { held_in kept.new ≡ held_after z.now self.now (tested_hour_and_limits fixed z.now rule.version rule.limits self.now conditions.now) (held_in kept.old) }
+        ensures hour { changed_by result after.new ≡ next_hour_from fixed z.now rule.version rule.limits self.now conditions.now (held_in kept.new) }
         ensures kept_state { OnErr result (after.new ≡ after.old) }
     {
-        let h = tested_hour_and_limits(z, rule, self, conditions)?;
+        let h = tested_hour_and_limits(fixed, z, rule, self, conditions)?;
         let start = HourStart {
             zone: z,
             temp_prev: &self.slots(z),
@@ -52,32 +54,34 @@ impl State {
     // (next_kept, proofs/Laws/NextKept.antt).
     pub fn next_hour_kept(
         self,
+        fixed: FixedRate,
         z: &Zone,
         conditions: &[u8],
         version: u64,
         limits: Limits,
         kept: &mut KeptMatrix,
     ) -> Reply<Demand>
-        ensures held { held_in kept.new ≡ held_after z.now self (tested_hour_and_limits z.now version limits self conditions.now) (held_in kept.old) }
-        ensures hour { reply_in result ≡ next_hour_reply self (next_hour_from z.now version limits self conditions.now (held_in kept.new)) }
+        ensures held { held_in kept.new ≡ held_after z.now self (tested_hour_and_limits fixed z.now version limits self conditions.now) (held_in kept.old) }
+        ensures hour { reply_in result ≡ next_hour_reply self (next_hour_from fixed z.now version limits self conditions.now (held_in kept.new)) }
     {
         let mut state = self;
         let rule = Rule { version, limits };
-        let answer = self.hour_kept(z, conditions, rule, kept, &mut state);
+        let answer = self.hour_kept(fixed, z, conditions, rule, kept, &mut state);
         Reply { answer, state }
     }
 
     // An hour alone.
     pub fn next_hour(
         self,
+        fixed: FixedRate,
         z: &Zone,
         conditions: &[u8],
         version: u64,
         limits: Limits,
     ) -> Reply<Demand>
-        ensures { reply_in result ≡ next_hour_reply self (next_hour standard_coefficients z.now version limits self conditions.now) }
+        ensures { reply_in result ≡ next_hour_reply self (next_hour fixed standard_coefficients z.now version limits self conditions.now) }
     {
         let mut kept = KeptMatrix::none();
-        self.next_hour_kept(z, conditions, version, limits, &mut kept)
+        self.next_hour_kept(fixed, z, conditions, version, limits, &mut kept)
     }
 }

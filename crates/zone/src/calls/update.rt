@@ -9,7 +9,7 @@ ghost use Rattle.zone.specs.Calls.Answers.{reply_in, update_reply};
 use crate::calls::state::{Reply, State};
 use crate::check::arguments::tested;
 use crate::check::ranges::{FRACTION, GAINS, RATE};
-use crate::format::conditions::Conditions;
+use crate::format::conditions::{Conditions, FixedRate};
 use crate::hour::hour_start::HourStart;
 use crate::hour::simulation_time::delta_t_of;
 use crate::physics::balance::{HeatBalance, HeatCoolGains, heat_balance};
@@ -67,7 +67,7 @@ impl State {
     ) -> Result<(State, HeatBalance), Refusal>
         ensures { answered result ≡ update_temperatures standard_coefficients z.now self.now conditions.now gains.gains_heat_cool gains.f_hc_c ach }
     {
-        let h = tested(z, self, conditions)?;
+        let h = tested(FixedRate::Retired, z, self, conditions)?;
         if load_in_range(gains, ach) {
             return self.step(z, &h, gains, ach);
         }

@@ -6,6 +6,7 @@ ghost use Rattle.zone.specs.Calls.Why.{load_of, why_of, why};
 
 use crate::calls::state::{Demand, Load, Reason, State};
 use crate::check::arguments::tested;
+use crate::format::conditions::FixedRate;
 use crate::hour::hour::Meeting;
 use crate::hour::hour_start::HourStart;
 use crate::record::refusal::Refusal;
@@ -44,7 +45,7 @@ impl State {
     pub fn why(&self, z: &Zone, conditions: &[u8]) -> Result<(Reason, Load), Refusal>
         ensures { answered result ≡ why standard_coefficients z.now self.now conditions.now }
     {
-        let h = tested(z, self, conditions)?;
+        let h = tested(FixedRate::StillTaken, z, self, conditions)?;
         let start = HourStart {
             zone: z,
             temp_prev: &self.slots(z),

@@ -10,20 +10,23 @@ use crate::check::ranges::{
 };
 use crate::check::zone_tests::{all_required, element_hour_in_range};
 use crate::format::bytes::read_u64_be;
-use crate::format::conditions::{AirChangesPerHourArgument, Conditions};
+use crate::format::conditions::{AirChangesPerHourArgument, Conditions, FixedRate};
 use crate::format::layout::{
     ELEMENT_HOUR_SIZE, FIRST_ELEMENT_HOUR, OPEN_BYTE, RATE_CODE, SECOND_RATE,
 };
 use crate::record::building_element::Element;
 use crate::record::refusal::Refusal;
 
-// Code 0 with a second float of all zero bits, or code 1.
-pub fn rate_code_valid(s: &[u8]) -> bool
+// Code 0 with a second float of all zero bits, where it is still taken, or code 1.
+pub fn rate_code_valid(fixed: FixedRate, s: &[u8]) -> bool
     requires { first_element_hour ≤ length s.now }
-    ensures { result ≡ rate_code_valid s.now }
+    ensures { result ≡ rate_code_valid fixed s.now }
 {
     if s[RATE_CODE] == 0 {
-        read_u64_be(s, SECOND_RATE) == 0
+        match fixed {
+            FixedRate::Retired => false,
+            FixedRate::StillTaken => read_u64_be(s, SECOND_RATE) == 0,
+        }
     } else {
         s[RATE_CODE] == 1
     }

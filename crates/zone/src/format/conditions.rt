@@ -8,6 +8,14 @@ pub enum AirChangesPerHourArgument {
     TargetAndWindowsOpen(f64, f64),
 }
 
+// Whether an hour may have the fixed rate, code 0. A call's may not, under 8; one that is written already is judged as it stands, and the reason for its
+// rate is still told (document 02 (g)).
+#[derive(Clone, Copy)]
+pub enum FixedRate {
+    Retired,
+    StillTaken,
+}
+
 // What the bytes of an hour say. The names are those of the arguments of `space_heat_cool_demand`; a zone's elements have the first of `elements`.
 #[derive(Clone, Copy)]
 pub struct Conditions {

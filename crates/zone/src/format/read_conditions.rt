@@ -6,7 +6,7 @@ ghost use Rattle.zone.specs.Format.Conditions.{conditions_of};
 ghost use Rattle.zone.specs.Inner.Format.{tested_at};
 
 use crate::check::conditions_tests::{conditions_test, open_bits_valid, rate_code_valid};
-use crate::format::conditions::Conditions;
+use crate::format::conditions::{Conditions, FixedRate};
 use crate::format::decode_conditions::conditions_at;
 use crate::format::layout::{ELEMENT_HOUR_SIZE, FIRST_ELEMENT_HOUR};
 use crate::record::refusal::Refusal;
@@ -24,14 +24,14 @@ fn tested_at(s: &[u8], n: usize) -> Result<Conditions, Refusal>
 }
 
 // An hour's conditions for a zone.
-pub fn read_conditions(z: &Zone, bytes: &[u8]) -> Result<Conditions, Refusal>
-    ensures { answered result ≡ conditions_of z.now bytes.now }
+pub fn read_conditions(fixed: FixedRate, z: &Zone, bytes: &[u8]) -> Result<Conditions, Refusal>
+    ensures { answered result ≡ conditions_of fixed z.now bytes.now }
 {
     let n = z.count;
     if (24 < n) || (bytes.len() != FIRST_ELEMENT_HOUR + ELEMENT_HOUR_SIZE * n) {
         return Err(Refusal::ConditionsSize);
     }
-    if rate_code_valid(bytes) & open_bits_valid(bytes, &z.building_elements[..n]) {
+    if rate_code_valid(fixed, bytes) & open_bits_valid(bytes, &z.building_elements[..n]) {
         return tested_at(bytes, n);
     }
     Err(Refusal::ConditionsCode)

@@ -2,11 +2,14 @@
 use crate::calendar::hour_name;
 use crate::failure::Failure;
 use crate::files;
+use crate::fixed_rate::{self, Form, RENAME};
 use crate::inputs::{self, Year};
 use crate::rule::limits_in_words;
 use crate::version::NEW_BOOK_VERSION;
 use crate::words::{count, hours};
-use hem_zone::text::{conditions_faults, head_faults, read_hours, read_house, Faults, Plan};
+use hem_zone::text::{
+    conditions_faults, head_faults, hour_lines, read_hours, read_house, Faults, Plan,
+};
 use hem_zone::{Book, Conditions, Head, Rule, Zone};
 use std::path::Path;
 
@@ -31,11 +34,12 @@ pub fn check(given: &Check) -> Result<(), Failure> {
         }
     }
     files::print(&faults.to_string())?;
-    let unread = match year {
+    let more = match year {
         Read::Not => format!("; {} cannot be checked before the house is good", hours.display()),
+        Read::Fixed => format!("; {RENAME}"),
         _ => String::new(),
     };
-    Err(Failure::Refused(format!("{}{unread}", faults.number())))
+    Err(Failure::Refused(format!("{}{more}", faults.number())))
 }
 
 /// What became of the hours.
@@ -44,6 +48,8 @@ enum Read {
     Good(Vec<Vec<u8>>),
     /// Their faults were told.
     Bad,
+    /// They are a table, and have rates that are fixed.
+    Fixed,
     /// Too little is known of the house.
     Not,
 }
@@ -97,8 +103,7 @@ fn check_hours(
     if inputs::is_text(&bytes) {
         let Some(plan) = plan else { return Ok(Read::Not) };
         let hours = read_hours(&path.display().to_string(), &bytes, Some(plan), faults);
-        let bytes = |hours: Vec<Conditions>| hours.iter().map(Conditions::to_bytes).collect();
-        return Ok(hours.map_or(Read::Bad, |hours| Read::Good(bytes(hours))));
+        return Ok(hours.map_or(Read::Bad, |hours| check_table(path, &bytes, &hours, faults)));
     }
     let Some(zone) = zone else { return Ok(Read::Not) };
     match Year::of_bytes(path, bytes, zone) {
@@ -110,11 +115,22 @@ fn check_hours(
     }
 }
 
+/// The hours of a table without faults, but for rates that are fixed.
+fn check_table(path: &Path, text: &[u8], hours: &[Conditions], faults: &mut Faults) -> Read {
+    let hours: Vec<Vec<u8>> = hours.iter().map(Conditions::to_bytes).collect();
+    fixed_rate::tell(path, hours.iter().map(Vec::as_slice), Some(&hour_lines(text)), 0, faults);
+    match hours.iter().any(|hour| fixed_rate::fault(hour, Form::Table).is_some()) {
+        true => Read::Fixed,
+        false => Read::Good(hours),
+    }
+}
+
 fn check_year(path: &Path, zone: &Zone, year: &Year, faults: &mut Faults) -> Vec<Vec<u8>> {
     let mut start = 0.0;
     let hours = (0..year.len()).map(|place| {
         let hour = year.hour(place);
-        for fault in conditions_faults(zone, hour) {
+        let fixed = fixed_rate::fault(hour, Form::Bytes);
+        for fault in conditions_faults(zone, hour).into_iter().chain(fixed) {
             faults.add(format_args!("{}: {}", path.display(), hour_name(place, start)), fault);
         }
         start += f64::from_be_bytes(hour[..8].try_into().unwrap_or_default());

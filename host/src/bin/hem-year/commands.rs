@@ -88,6 +88,7 @@ pub const COMMANDS: &[Command] = &[
     },
     command("show", &["FILE"], &["hour", "hours", "head"], help::SHOW),
     command("cut", &["BOOK", "HOURS", "NEW"], &["head", "force"], help::CUT),
+    command("convert", &["BOOK", "NEW"], &["force"], help::CONVERT),
 ];
 
 pub const HELP: &str = "\
@@ -100,6 +101,7 @@ hem-year: the heating and cooling of a house, hour by hour
   hem-year warm BOOK                 says when it got warm, and for how many hours
   hem-year why BOOK [HOUR]           says why an hour has its air change rate and its load
   hem-year cut BOOK HOURS NEW        keeps the first hours of a book
+  hem-year convert BOOK NEW          writes the fixed rates of an older book anew
   hem-year weather FILE.epw          says what a weather file has, and puts its weather into hours
   hem-year house HOUSE.toml HEAD     makes the bytes of a house
   hem-year hours HOURS.csv YEAR      makes the bytes of its hours

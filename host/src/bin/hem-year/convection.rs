@@ -7,7 +7,9 @@ use hem_zone::{Book, HeatBalance, State};
 pub fn balances(book: &Book, start_up: &State) -> Result<Vec<HeatBalance>, Failure> {
     let mut before = start_up.clone();
     let hours = book.entries().map(|entry| {
-        let step = book.zone().hour_step(&before, entry.conditions_bytes(), entry.rule());
+        // A fixed rate is retired: with the rate twice it is the same hour.
+        let conditions = entry.conditions().with_rate_twice();
+        let step = book.zone().hour_step(&before, &conditions, entry.rule());
         let (after, _, balance) = step.map_err(|r| Failure::Refused(r.to_string()))?;
         before = after;
         Ok(balance)

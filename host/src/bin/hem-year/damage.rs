@@ -14,11 +14,14 @@ pub fn take_up(path: &Path, bytes: &[u8]) -> Result<Book, Failure> {
 
 /// The same where a cut of the file needs this option.
 pub fn take_up_or(path: &Path, bytes: &[u8], option: &str) -> Result<Book, Failure> {
-    Book::take_up(bytes).map_err(|refusal| {
-        let (fault, good) = (fault(bytes, &refusal), good_hours(bytes, &refusal));
-        let keep = good.map_or(String::new(), |good| format!("; {}", keep(path, good, option)));
-        Failure::Refused(format!("{}: {fault}{keep}; {LEFT}", path.display()))
-    })
+    Book::take_up(bytes).map_err(|refusal| refused(path, bytes, &refusal, option))
+}
+
+/// What is said of a file's bytes that were refused as a book.
+pub fn refused(path: &Path, bytes: &[u8], refusal: &Refusal, option: &str) -> Failure {
+    let (fault, good) = (fault(bytes, refusal), good_hours(bytes, refusal));
+    let keep = good.map_or(String::new(), |good| format!("; {}", keep(path, good, option)));
+    Failure::Refused(format!("{}: {fault}{keep}; {LEFT}", path.display()))
 }
 
 /// The option of a cut that takes this head.

@@ -28,6 +28,10 @@ which have none of their own. What has no column is taken from the table [condit
 The column time is not read; the column hour counts up, so that a missing line is found. Every
 fault of the file is told, with line, column, value and range.
 
+The air change rate of an hour is rate, with windows open and closed, or ach_target and
+ach_windows_open, between which windows are opened. The fixed rate ach_cooling is retired: an hour
+that has it is written as it is, but only the book that holds it already takes it.
+
   --head HOUSE the house, as HOUSE.toml or HEAD; without it each element needs a column
   --force      replaces YEAR whatever it holds; without it, only a file of conditions
 ";
@@ -36,8 +40,9 @@ pub const CHECK: &str = "\
 hem-year check HOUSE HOURS [--entry-version N] [--heating-limit W] [--cooling-limit W]
 
 Lists all faults of a house (HOUSE.toml or HEAD) and its hours (HOURS.csv or YEAR), a line each:
-the first 100, then their number. Where there are none, start-up and all hours are calculated, as
-in a new book, and what the engine refuses is told. Nothing is written.
+the first 100, then their number. An hour with the fixed rate ach_cooling (rate code 0), which is
+retired, is a fault, told with the rate that is the same hour. Where there are none, start-up and all
+hours are calculated, as in a new book, and what the engine refuses is told. Nothing is written.
 
   --entry-version N
                the version of the entries that are calculated, as `hem-year help run` has it; without
@@ -58,6 +63,11 @@ command ends in the same book, byte for byte. After Ctrl-C it says what is held.
 
 A book that is damaged, that belongs to another house or other hours, or that another run is
 writing is left as it is. Where a part of it is good, `hem-year cut` keeps that part.
+
+Hours with a fixed rate (ach_cooling; rate code 0 in YEAR), which is retired, are taken only where
+BOOK holds them already. If one is to be appended, no hour is: all of them are told, the first 100,
+with the line and with the rate that is the same hour, rate = 0.45 for ach_cooling = 0.45. An hour
+that is held with the other of the two is told too: `hem-year convert` writes those of BOOK anew.
 
   --entry-version N
                the version of the entries that are appended, which says how heating and cooling are
@@ -195,5 +205,21 @@ behind them in BOOK may be damaged and is not looked at. BOOK stays as it is.
 
   --head HOUSE takes the head of this house (HOUSE.toml or HEAD) in place of BOOK's own, where that one
                is damaged
+  --force      replaces NEW whatever it holds; without it, only a book of the same head
+";
+
+pub const CONVERT: &str = "\
+hem-year convert BOOK NEW [--force]
+
+Calculates the hours of BOOK again and writes them to NEW, as a book of its own, where each hour with a
+fixed rate (ach_cooling, rate code 0) has that rate for windows open and closed (rate; rate code 1 with
+it twice). It is the same hour: every demand, temperature and chosen rate stays the same bits, and every
+other hour stays as it is. It is said how many hours were written anew, with the fingerprint of NEW.
+BOOK stays as it is; an unfinished hour at its end is left out.
+
+A book from before the fixed rate was retired goes on with HOURS in which it is `rate`, once it is
+converted. A book with hours of version 1 is refused: its year can be calculated anew, by `hem-year run`
+into another book, from its hours with `rate`.
+
   --force      replaces NEW whatever it holds; without it, only a book of the same head
 ";

@@ -3,7 +3,7 @@ use crate::calendar::hour_name;
 use crate::failure::Failure;
 use crate::files;
 use crate::words::{count, grouped, hours};
-use hem_zone::text::{read_hours, read_house, Faults, Plan};
+use hem_zone::text::{hour_lines, read_hours, read_house, Faults, Plan};
 use hem_zone::{Conditions, Head, Zone, MOST_ENTRIES};
 use std::path::Path;
 
@@ -79,6 +79,8 @@ pub fn zone(path: &Path) -> Result<Zone, Failure> {
 pub struct Year {
     bytes: Vec<u8>,
     size: usize,
+    /// The lines on which the hours of a table stand.
+    lines: Option<Vec<usize>>,
 }
 
 impl Year {
@@ -86,16 +88,17 @@ impl Year {
     pub fn read(path: &Path, house: &House) -> Result<Self, Failure> {
         let bytes = files::read(path)?;
         must_not_be_utf16(path, &bytes)?;
-        let bytes = match is_text(&bytes) {
-            true => hours_of_text(path, &bytes, Some(house))?.concat(),
-            false => bytes,
-        };
-        Self::of_bytes(path, bytes, &house.zone)
+        if !is_text(&bytes) {
+            return Self::of_bytes(path, bytes, &house.zone);
+        }
+        let hours = hours_of_text(path, &bytes, Some(house))?.concat();
+        let lines = Some(hour_lines(&bytes));
+        Ok(Self { lines, ..Self::of_bytes(path, hours, &house.zone)? })
     }
 
     /// The hours of bytes.
     pub fn of_bytes(path: &Path, bytes: Vec<u8>, zone: &Zone) -> Result<Self, Failure> {
-        let year = Self { bytes, size: zone.layout().conditions_len() };
+        let year = Self { bytes, size: zone.layout().conditions_len(), lines: None };
         if year.bytes.len() % year.size != 0 {
             let text = format!(
                 "has {}, which is not a whole number of hours of {} bytes (a zone of {})",
@@ -117,6 +120,16 @@ impl Year {
     /// The conditions of an hour, from 0.
     pub fn hour(&self, place: usize) -> &[u8] {
         &self.bytes[place * self.size..(place + 1) * self.size]
+    }
+
+    /// The conditions of all hours, in order.
+    pub fn hours(&self) -> impl Iterator<Item = &[u8]> {
+        self.bytes.chunks_exact(self.size)
+    }
+
+    /// The lines on which the hours of a table stand.
+    pub fn lines(&self) -> Option<&[usize]> {
+        self.lines.as_deref()
     }
 }
 

@@ -9,6 +9,7 @@ mod commands;
 mod convection;
 mod convection_panel;
 mod convection_text;
+mod convert;
 mod csv_fields;
 mod cut;
 mod damage;
@@ -18,6 +19,7 @@ mod failure;
 mod figures;
 mod files;
 mod fingerprint;
+mod fixed_rate;
 mod given;
 mod help;
 mod highest;
@@ -121,6 +123,7 @@ fn command(words: &Words) -> Result<(), Failure> {
             head: words.file("head"),
             force: words.has("force"),
         }),
+        "convert" => convert::convert(words.path(0), words.path(1), words.has("force")),
         "report" => report(words),
         "warm" => warm(words),
         "weather" => weather::weather(words),

@@ -2,11 +2,12 @@
 use crate::calendar::hour_name;
 use crate::failure::Failure;
 use crate::files;
+use crate::fixed_rate::{self, Form, LEFT};
 use crate::inputs::{House, Year};
 use crate::places::conditions_differ;
 use crate::rule::limits_in_words;
 use crate::stop::Stop;
-use crate::store::Store;
+use crate::store::{self, Store};
 use crate::version::{self, another_book, held_by_version};
 use crate::words::{count, grouped, hours};
 use hem_zone::{Book, Rule};
@@ -25,6 +26,9 @@ pub fn run(given: &Run) -> Result<(), Failure> {
     must_be_apart(given)?;
     let house = House::read(given.house)?;
     let year = Year::read(given.hours, &house)?;
+    if store::is_missing(given.book)? {
+        fixed_rate::Held::nothing(given.book).others_must_have_none(given.hours, &year)?;
+    }
     let stop = Stop::listen();
     let mut store = Store::open(given.book, given.house, &house.zone)?;
     must_agree(given.book, &store.book, given.hours, &year)?;
@@ -34,6 +38,7 @@ pub fn run(given: &Run) -> Result<(), Failure> {
         true => Some(version::to_append(given.book, &mut store.book, given.rule)?),
         false => None,
     };
+    fixed_rate::Held::of(given.book, &store.book).others_must_have_none(given.hours, &year)?;
     let dropped = store.drop_torn_tail()?;
     if let Some(rule) = rule {
         store.append_missing(&year, rule, &stop)?;
@@ -70,12 +75,17 @@ fn must_agree(path: &Path, book: &Book, conditions: &Path, year: &Year) -> Resul
     let mut start = 0.0;
     for (place, entry) in book.entries().enumerate().take(year.len()) {
         let (held, given) = (entry.conditions_bytes(), year.hour(place));
-        if let Some((name, ours, theirs)) = conditions_differ(held, given) {
+        let name = || hour_name(place, start);
+        if let Some(differ) = fixed_rate::differ(held, given, Form::of(year.lines())) {
+            let what = differ.sentence(&fixed_rate::Held::of(path, book), conditions);
+            return Err(Failure::file(path, format_args!("{} {what}; {LEFT}", name())));
+        }
+        if let Some((value, ours, theirs)) = conditions_differ(held, given) {
             let text = format!(
-                "{} was calculated with other conditions than {file} has: {name} is {ours} in the book, \
+                "{} was calculated with other conditions than {file} has: {value} is {ours} in the book, \
                  {theirs} in {file}; where the book is wrong, `hem-year cut {} {place} NEW` keeps the hours \
-                 before it; the book is left as it is",
-                hour_name(place, start),
+                 before it; {LEFT}",
+                name(),
                 path.display(),
                 file = conditions.display(),
             );

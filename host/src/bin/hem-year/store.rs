@@ -114,7 +114,8 @@ impl<'a> Store<'a> {
     }
 }
 
-fn is_missing(path: &Path) -> Result<bool, Failure> {
+/// Whether there is no file yet.
+pub fn is_missing(path: &Path) -> Result<bool, Failure> {
     match std::fs::metadata(path) {
         Ok(_) => Ok(false),
         Err(e) if e.kind() == ErrorKind::NotFound => Ok(true),

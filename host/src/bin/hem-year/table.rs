@@ -8,7 +8,8 @@ use crate::places::nodes_by_element;
 use crate::plant::PlantHour;
 use crate::print::{Print, PROGRAM};
 use crate::version::held_by_version;
-use hem_zone::{AirChangesPerHour, Conditions, Demand, Entry, HeatBalance, HeldLimit, State};
+use hem_zone::text::{rate_columns, FIXED_RATE};
+use hem_zone::{Conditions, Demand, Entry, HeatBalance, HeldLimit, State};
 
 /// Which columns are written beyond the usual ones.
 #[derive(Clone, Copy, Debug, Default)]
@@ -47,11 +48,12 @@ impl Row {
 pub fn table(print: &Print, columns: &Columns) -> Result<Vec<u8>, Failure> {
     let mut lines = csv::Writer::from_writer(beginning(print).into_bytes());
     let nodes_of = nodes_by_element(print.book.zone().head());
+    let fixed_rates = print.book.entries().any(|entry| entry.conditions().has_fixed_rate());
     let hours = print.hours.iter().zip(&print.balances).zip(print.book.entries());
     for ((hour, heat), entry) in hours {
         let mut row = Row::default();
         times(&mut row, hour);
-        inputs(&mut row, &print.elements, &entry.conditions());
+        inputs(&mut row, &print.elements, &entry.conditions(), fixed_rates);
         results(&mut row, hour, &entry, print.has_limits());
         if columns.nodes {
             nodes(&mut row, &print.elements, &nodes_of, &entry.state());
@@ -96,7 +98,8 @@ fn times(row: &mut Row, hour: &HourFigures) {
     row.text("time", Moment(hour.start).iso());
 }
 
-fn inputs(row: &mut Row, names: &[String], c: &Conditions) {
+/// What was given. Only a book with fixed rates has a column for them.
+fn inputs(row: &mut Row, names: &[String], c: &Conditions, fixed_rates: bool) {
     row.numbers(&[
         ("delta_t_h", c.delta_t_h),
         ("temp_ext_air", c.temp_ext_air),
@@ -111,15 +114,11 @@ fn inputs(row: &mut Row, names: &[String], c: &Conditions) {
         ("gains_heat_cool_convective", c.gains_heat_cool_convective),
         ("gains_heat_cool_radiative", c.gains_heat_cool_radiative),
     ]);
-    let (fixed, target, open) = match c.ach {
-        AirChangesPerHour::Cooling { ach_cooling } => (Some(ach_cooling), None, None),
-        AirChangesPerHour::TargetAndWindowsOpen { ach_target, ach_windows_open } => {
-            (None, Some(ach_target), Some(ach_windows_open))
+    for (name, rate) in rate_columns(&c.ach) {
+        if fixed_rates || name != FIXED_RATE {
+            row.optional(name, rate);
         }
-    };
-    row.optional("ach_cooling", fixed);
-    row.optional("ach_target", target);
-    row.optional("ach_windows_open", open);
+    }
     for (element, e) in names.iter().zip(&c.elements) {
         let mut put = |name: &str, value| row.number(format!("{element}.{name}"), value);
         put("temp_ext", e.temp_ext);

@@ -237,12 +237,12 @@ impl Hour {
         }
     }
 
-    /// Windows may be opened by day; in the night the rate is fixed.
+    /// Windows may be opened by day; in the night there is one rate.
     fn ach(&self) -> AirChangesPerHour {
         if self.awake() {
             AirChangesPerHour::TargetAndWindowsOpen { ach_target: 0.5, ach_windows_open: 3.0 }
         } else {
-            AirChangesPerHour::Cooling { ach_cooling: 0.45 }
+            AirChangesPerHour::one_rate(0.45)
         }
     }
 

@@ -51,15 +51,16 @@ impl<'a> Hour<'a> {
     }
 
     /// The temperatures at an air change rate. An update by what heating or cooling gives in any case is the
-    /// very calculation that the demand makes before any load. Its gains and its fraction have ranges of their
-    /// own, which a sum and a share may leave: then it is refused, and nothing is known.
+    /// very calculation that the demand makes before any load; an hour with a fixed rate, which is retired, is
+    /// asked for with the rate twice. Its gains and its fraction have ranges of their own, which a sum and a
+    /// share may leave: then it is refused, and nothing is known.
     pub fn free(&self, rate: f64) -> Option<Free> {
         let convective = self.conditions.gains_heat_cool_convective;
         let gains = convective + self.conditions.gains_heat_cool_radiative;
         // The demand's own share: 0 where the gains are close to 0.
         let fraction = if gains.abs() <= 1e-10 { 0.0 } else { convective / gains };
-        let update =
-            self.zone.update_temperatures(&self.before, &self.conditions, gains, fraction, rate);
+        let asked = self.conditions.with_rate_twice();
+        let update = self.zone.update_temperatures(&self.before, &asked, gains, fraction, rate);
         let (after, _) = update.ok()?;
         let air = after.temp_internal_air();
         let controlled = match self.basis {

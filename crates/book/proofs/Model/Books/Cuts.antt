@@ -106,7 +106,7 @@ module _ (L : Interface) (W : Laws L) where
       ∙ adds_all head (is ++ (p.0 ∷ [])) S' ps (subst (λ x. AllAccepted L (plain_run L x (appends_of L ps))) n a.1)
       ∙ ap (book head) (append_assoc is (p.0 ∷ []) (map (λ x. x.0) ps))
 
-  formed_after : (head : List ℕ) (is : List L.Item) (S : WellFormed L head is) (at : ℕ) → length head ≤ at → at ≤ length (used_of L W head is S)
+  pub formed_after : (head : List ℕ) (is : List L.Item) (S : WellFormed L head is) (at : ℕ) → length head ≤ at → at ≤ length (used_of L W head is S)
       → WellFormed L head (kept_items L W head is S at)
   formed_after head is S at lo hi = subst (PlainFormed L) (cut_next head is S at lo hi) (agrees L W (book head is) S (call_cut at)).1
 
@@ -121,12 +121,12 @@ module _ (L : Interface) (W : Laws L) where
       ∙ ap (book head) e
 
   -- Items that a book of entries `all` has behind the items `is`: the first of them, with its entry
-  record NextEntry (head : List ℕ) (is : List L.Item) (S : WellFormed L head is) (i : L.Item) (all : Entries L) : Type 0 where
-    e : Written L.State
-    others : Entries L
-    stepped : L.step S.contents.zone (length S.contents.entries) (last_state S.contents.start S.contents.entries) i ≡ ok e
-    behind : drop (length is) all ≡ entry L i e ∷ others
-    room : length S.contents.entries < L.limit
+  pub record NextEntry (head : List ℕ) (is : List L.Item) (S : WellFormed L head is) (i : L.Item) (all : Entries L) : Type 0 where
+    pub e : Written L.State
+    pub others : Entries L
+    pub stepped : L.step S.contents.zone (length S.contents.entries) (last_state S.contents.start S.contents.entries) i ≡ ok e
+    pub behind : drop (length is) all ≡ entry L i e ∷ others
+    pub room : length S.contents.entries < L.limit
 
   next_entry : (head : List ℕ) (is : List L.Item) (S : WellFormed L head is) (i : L.Item) (lost : List L.Item) (all : Entries L)
       → entries_of L S.contents.zone 0 S.contents.start (is ++ (i ∷ lost)) ≡ ok all → length (is ++ (i ∷ lost)) ≤ L.limit → NextEntry head is S i all
@@ -169,6 +169,23 @@ module _ (L : Interface) (W : Laws L) where
       let v = snapshot_is L head is' S' in
       rw (plain_append L W head is S p.0 p.1, added, v) (((snapshot_for L head is' S').values, refl), rest)
 
+  -- the entries of a book belong to its head, whatever else the head is held with
+  same_start : (head : List ℕ) (is : List L.Item) (S : WellFormed L head is) (xs : List L.Item) (S' : WellFormed L head xs) {ys : List L.Item} → ys ≡ is
+      → entries_of L S'.contents.zone 0 S'.contents.start ys ≡ ok S.contents.entries
+  same_start head is S xs S' e =
+      let zs : S.contents.zone ≡ S'.contents.zone = ap (λ x. x.zone) (ok_inj (sym S.head_is ∙ S'.head_is)) in
+      let ss : S.contents.start ≡ S'.contents.start = ok_inj (sym S.start_is ∙ ap L.start_up zs ∙ S'.start_is) in
+      (λ t. entries_of L (sym zs t) 0 (sym ss t) (e t)) ∙ S.entries_are
+
+  -- the first of the hours that a cut took: what the hour step gives for it behind those that are kept
+  pub lost_entry : (head : List ℕ) (is : List L.Item) (S : WellFormed L head is) (at : ℕ) (lo : length head ≤ at) (hi : at ≤ length (used_of L W head is S))
+      → (i : L.Item) (later : List L.Item) → kept_items L W head is S at ++ (i ∷ later) ≡ is
+      → NextEntry head (kept_items L W head is S at) (formed_after head is S at lo hi) i S.contents.entries
+  lost_entry head is S at lo hi i later e =
+      let xs : List L.Item = kept_items L W head is S at in
+      let S' = formed_after head is S at lo hi in
+      next_entry head xs S' i later S.contents.entries (same_start head is S xs S' e) (rw e S.within_limit)
+
   accepted_anew : (head : List ℕ) (is : List L.Item) (S : WellFormed L head is) (at : ℕ) → length head ≤ at → at ≤ length (used_of L W head is S)
       → (ps : List (L.Item × List ℕ)) → kept_items L W head is S at ++ map (λ p. p.0) ps ≡ is
       → HaveRoom L (drop (length (kept_items L W head is S at)) S.contents.entries) ps
@@ -177,13 +194,6 @@ module _ (L : Interface) (W : Laws L) where
       let xs : List L.Item = kept_items L W head is S at in
       let S' = formed_after head is S at lo hi in
       all_accepted head xs S' ps S.contents.entries (same_start head is S xs S' e) (rw e S.within_limit) r
-    where
-      same_start : (head : List ℕ) (is : List L.Item) (S : WellFormed L head is) (xs : List L.Item) (S' : WellFormed L head xs) {ys : List L.Item} → ys ≡ is
-          → entries_of L S'.contents.zone 0 S'.contents.start ys ≡ ok S.contents.entries
-      same_start head is S xs S' e =
-          let zs : S.contents.zone ≡ S'.contents.zone = ap (λ x. x.zone) (ok_inj (sym S.head_is ∙ S'.head_is)) in
-          let ss : S.contents.start ≡ S'.contents.start = ok_inj (sym S.start_is ∙ ap L.start_up zs ∙ S'.start_is) in
-          (λ t. entries_of L (sym zs t) 0 (sym ss t) (e t)) ∙ S.entries_are
 
   append_made : (head : List ℕ) (is : List L.Item) (S : WellFormed L head is) (i : L.Item) (spare : List ℕ)
       → (a : Answer L.State) × ((plain_make L (book head is) (call_append i spare)).answer ≡ some a)

@@ -58,7 +58,7 @@ module _ (L : Interface) where
       let b = bind_ok (entries_of L z (k + 1) a.0.after is) _ es a.2 in
       record { e = a.0; stepped = a.1; others = b.0; rest = b.1; joined = ok_inj b.2 }
 
-  cons_entries : (z : L.Zone) (k : ℕ) (s : L.State) (i : L.Item) (is : List L.Item) (e : Written L.State) (es : Entries)
+  pub cons_entries : (z : L.Zone) (k : ℕ) (s : L.State) (i : L.Item) (is : List L.Item) (e : Written L.State) (es : Entries)
       → L.step z k s i ≡ ok e → entries_of L z (k + 1) e.after is ≡ ok es → entries_of L z k s (i ∷ is) ≡ ok (entry i e ∷ es)
   unfolding entries_of
   cons_entries z k s i is e es p q = bind_is _ _ _ _ p (bind_is _ _ _ _ q refl)
