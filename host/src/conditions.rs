@@ -239,12 +239,30 @@ impl Conditions {
     }
 }
 
-/// Bytes of conditions with a fixed rate as code 1 has them, with the rate twice. Others are as they were, also
-/// those whose second rate is not all zero bits, which are refused in any case.
-pub(crate) fn bytes_with_rate_twice(conditions: &[u8]) -> Cow<'_, [u8]> {
-    const FIRST: usize = RATE_CODE + 1;
-    const SECOND: usize = FIRST + 8;
-    if conditions[RATE_CODE] != 0 || conditions[SECOND..COMMON_SIZE] != [0; 8] {
+const FIRST: usize = RATE_CODE + 1;
+const SECOND: usize = FIRST + 8;
+
+/// The fixed rate of conditions in bytes: of code 0 with a second rate of all zero bits. `None` of any others.
+///
+/// ```
+/// use hem_zone::{bytes_with_rate_twice, fixed_rate, samples, AirChangesPerHour, Conditions};
+///
+/// let ach = AirChangesPerHour::Cooling { ach_cooling: 0.5 };
+/// let fixed = Conditions { ach, ..samples::hour_p(21.0, 24.0) };
+/// let bytes = fixed.to_bytes();
+/// assert_eq!(fixed_rate(&bytes), Some(0.5));
+/// assert_eq!(*bytes_with_rate_twice(&bytes), *fixed.with_rate_twice().to_bytes());
+/// assert_eq!((fixed_rate(&bytes[..112]), fixed_rate(&[])), (None, None));
+/// ```
+pub fn fixed_rate(conditions: &[u8]) -> Option<f64> {
+    let rates = conditions.get(RATE_CODE..COMMON_SIZE)?;
+    (rates[0] == 0 && rates[9..] == [0; 8]).then(|| f64_at(rates, 1))
+}
+
+/// Conditions in bytes with a fixed rate as code 1 has them, with the rate twice
+/// ([`Conditions::with_rate_twice`] in bytes). Others are as they were.
+pub fn bytes_with_rate_twice(conditions: &[u8]) -> Cow<'_, [u8]> {
+    if fixed_rate(conditions).is_none() {
         return conditions.into();
     }
     let mut twice = conditions.to_vec();

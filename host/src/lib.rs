@@ -62,7 +62,9 @@ mod why;
 mod zone;
 
 pub use book::{Book, MOST_ENTRIES};
-pub use conditions::{AirChangesPerHour, Conditions, ElementHour, NO_CONTROL};
+pub use conditions::{
+    bytes_with_rate_twice, fixed_rate, AirChangesPerHour, Conditions, ElementHour, NO_CONTROL,
+};
 pub use converter::convert;
 pub use entry::Entry;
 pub use head::{Basis, BuildingElement, Head, Kind, Layers, Pane};

@@ -1,5 +1,5 @@
 //! All that is wrong with the bytes of a head or of an hour, where a refusal names the first.
-use crate::conditions::{Conditions, ElementHour, COMMON_SIZE, RATE_CODE};
+use crate::conditions::{fixed_rate, Conditions, ElementHour, COMMON_SIZE, RATE_CODE};
 use crate::refusal::Refusal;
 use crate::values::{conditions_values, head_values, Value};
 use crate::zone::Zone;
@@ -59,10 +59,7 @@ pub fn hours_of_form(year: &[u8], elements: usize) -> Result<Vec<Conditions>, St
 }
 
 fn form_is_good(hour: &[u8]) -> bool {
-    let (common, elements) = hour.split_at(COMMON_SIZE);
-    let rates = match common[RATE_CODE] {
-        0 => common[RATE_CODE + 9..] == [0; 8],
-        code => code == 1,
-    };
+    let elements = &hour[COMMON_SIZE..];
+    let rates = hour[RATE_CODE] == 1 || fixed_rate(hour).is_some();
     rates && elements.chunks_exact(ElementHour::SIZE).all(|element| element[40] <= 15)
 }

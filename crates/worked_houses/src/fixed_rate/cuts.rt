@@ -12,7 +12,7 @@ use crate::replies::{Counts, taken_up};
 use crate::table::row;
 use crate::zone_read::ZoneRead;
 use big_endian::{byte_at, bytes_at, put_byte};
-use book::BookState;
+use book::{BookState, Reply};
 use std::io;
 
 // An hour of which the cut loses the last byte: its index, where its entry begins and ends, its version, and that of the hour before it.
@@ -45,6 +45,12 @@ const LOST_HOURS: [Lost; 3] = [
     },
 ];
 
+#[derive(Clone, Copy)]
+struct Offered {
+    reply: Reply,
+    buffer: [u8; ROOM],
+}
+
 impl Lost {
     // Each has an hour of its own version before it.
     fn left(self) -> Counts {
@@ -70,46 +76,34 @@ impl Lost {
         conditions
     }
 
-    fn print_refused(
-        self,
-        rt: &impl Print,
-        zone: &ZoneRead,
-        book: &[u8; ROOM],
-        given: BookState,
-    ) -> io::Result<()> {
+    // Offered anew to a book that was cut, with the values of its take-up.
+    fn offered(self, zone: &ZoneRead, book: &[u8; ROOM], given: BookState, code: u8) -> Offered {
         let meeting = Meeting::with(self.version, MOST, MOST);
         let mut buffer = *book;
+        let reply = zone.append(given, &self.conditions(book, code), meeting, &mut buffer);
+        Offered { reply, buffer }
+    }
+
+    fn print_refused(self, rt: &impl Print, offered: Offered, book: &[u8; ROOM]) -> io::Result<()> {
         println!(rt; "offered anew with code 0: 8")?;
-        let reply = zone.append(given, &self.conditions(book, 0), meeting, &mut buffer);
         let refused = self.left().refused(Cause::ConditionsCode, 0);
-        refused.print(rt, reply)?;
-        row(
-            rt,
-            "  bytes of the buffer changed",
-            differing(&buffer, book),
-            0,
-        )
+        refused.print(rt, offered.reply)?;
+        let changed = differing(&offered.buffer, book);
+        row(rt, "  bytes of the buffer changed", changed, 0)
     }
 
     // The entry that was lost, but for its code.
     fn print_accepted(
         self,
         rt: &impl Print,
-        zone: &ZoneRead,
+        offered: Offered,
         book: &[u8; ROOM],
-        given: BookState,
     ) -> io::Result<()> {
-        let meeting = Meeting::with(self.version, MOST, MOST);
-        let mut buffer = *book;
         println!(rt; "with target and windows open 0: accepted")?;
-        let reply = zone.append(given, &self.conditions(book, 1), meeting, &mut buffer);
-        self.whole().accepted().print(rt, reply)?;
-        row(
-            rt,
-            "  bytes unlike the lost entry",
-            differing(&buffer, book),
-            1,
-        )?;
+        let buffer = offered.buffer;
+        self.whole().accepted().print(rt, offered.reply)?;
+        let unlike = differing(&buffer, book);
+        row(rt, "  bytes unlike the lost entry", unlike, 1)?;
         let code = byte_at(&buffer, self.place.saturating_add(RATE_CODE));
         row(rt, "  its rate code", code, 1)?;
         println!(rt; "taken up")?;
@@ -125,8 +119,8 @@ impl Lost {
         let cut = book.get(..self.end.saturating_sub(1)).unwrap_or(&[]);
         let left = taken_up(cut);
         self.left().accepted().print(rt, left)?;
-        self.print_refused(rt, zone, book, left.values)?;
-        self.print_accepted(rt, zone, book, left.values)
+        self.print_refused(rt, self.offered(zone, book, left.values, 0), book)?;
+        self.print_accepted(rt, self.offered(zone, book, left.values, 1), book)
     }
 }
 

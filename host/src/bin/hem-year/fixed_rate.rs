@@ -4,14 +4,8 @@ use crate::calendar::hour_name;
 use crate::failure::Failure;
 use crate::inputs::Year;
 use hem_zone::text::{write_number, Faults};
-use hem_zone::{Book, ENTRY_VERSION_1};
+use hem_zone::{bytes_with_rate_twice, fixed_rate, Book, ENTRY_VERSION_1};
 use std::path::Path;
-
-/// Where the rate code of an hour stands, and its two rates behind it.
-const CODE: usize = 96;
-const FIRST: usize = CODE + 1;
-const SECOND: usize = FIRST + 8;
-const END: usize = SECOND + 8;
 
 /// What hours are given as.
 #[derive(Clone, Copy)]
@@ -45,20 +39,6 @@ impl Form {
             Form::Bytes => format!("rate code 1 with {rate} twice"),
         }
     }
-}
-
-/// The fixed rate of an hour, where it has one.
-fn fixed_rate(hour: &[u8]) -> Option<f64> {
-    let fixed = hour[CODE] == 0 && hour[SECOND..END] == [0; 8];
-    fixed.then(|| f64::from_be_bytes(hour[FIRST..SECOND].try_into().unwrap_or_default()))
-}
-
-/// The same hour with its fixed rate twice.
-fn with_rate_twice(hour: &[u8]) -> Vec<u8> {
-    let mut twice = hour.to_vec();
-    twice[CODE] = 1;
-    twice.copy_within(FIRST..SECOND, SECOND);
-    twice
 }
 
 // ---- hours that are to be calculated ----
@@ -161,10 +141,10 @@ impl<'a> Held<'a> {
 /// What is said where an hour that is held and one that is given are the same but for a fixed rate in one of them.
 pub fn differ(held: &[u8], given: &[u8], form: Form) -> Option<Differ> {
     match (fixed_rate(held), fixed_rate(given)) {
-        (Some(rate), None) if with_rate_twice(held) == given => {
+        (Some(rate), None) if bytes_with_rate_twice(held) == given => {
             Some(Differ { of_book: true, rate, form })
         }
-        (None, Some(rate)) if with_rate_twice(given) == held => {
+        (None, Some(rate)) if bytes_with_rate_twice(given) == held => {
             Some(Differ { of_book: false, rate, form })
         }
         _ => None,
@@ -214,7 +194,7 @@ mod tests {
             let hour = Conditions { ach, ..hour_p(20.0, 24.0) };
             let (bytes, twice) = (hour.to_bytes(), hour.with_rate_twice().to_bytes());
             assert_eq!(fixed_rate(&bytes).map(f64::to_bits), Some(rate.to_bits()));
-            assert_eq!((fixed_rate(&twice), with_rate_twice(&bytes)), (None, twice.clone()));
+            assert_eq!((fixed_rate(&twice), &*bytes_with_rate_twice(&bytes)), (None, &twice[..]));
             let differs = |held: &[u8], given: &[u8]| {
                 differ(held, given, Form::Bytes).map(|differ| differ.of_book)
             };
@@ -225,7 +205,7 @@ mod tests {
             let other = Conditions { temp_ext_air: 1.0, ..hour.with_rate_twice() }.to_bytes();
             assert_eq!((differs(&bytes, &other), differs(&other, &bytes)), (None, None));
             let mut bad = bytes.clone();
-            bad[END - 1] = 1;
+            bad[112] = 1;
             assert_eq!((fixed_rate(&bad), differs(&bad, &twice)), (None, None));
         }
     }
