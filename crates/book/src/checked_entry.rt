@@ -5,6 +5,7 @@ ghost use Rattle.zone.specs.Promise.{ok};
 ghost use Rattle.zone.specs.Check.ZoneTest.{zone_test};
 ghost use Rattle.zone.specs.declared.format.conditions.FixedRate.TheVariants.{StillTaken};
 ghost use Rattle.zone.specs.Inner.Kept.{Kept};
+ghost use Rattle.zone.specs.Record.BuildingElement.{standard_coefficients};
 ghost use Rattle.zone.specs.Inner.KeptMatrix.{held_in};
 ghost use Rattle.book.specs.Model.Calls as Book;
 ghost use Rattle.book.specs.Layout.{whole_length};
@@ -32,7 +33,7 @@ pub struct EntryChecker<'a> {
     pub zone: &'a Zone,
     pub kept: &'a mut KeptMatrix,
     ghost tested: { zone_test zone.now ≡ ok tt },
-    ghost of_zone: { Kept zone.now (held_in kept.now) } by { Kept_prop zone.now (held_in kept.now) },
+    ghost of_zone: { Kept standard_coefficients zone.now (held_in kept.now) } by { Kept_prop standard_coefficients zone.now (held_in kept.now) },
 }
 
 impl<'a> EntryChecker<'a> {

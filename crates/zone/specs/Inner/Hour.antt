@@ -12,7 +12,7 @@ use Rattle.zone.specs.declared.hour.hour.Meeting.{Meeting}
 use Rattle.zone.specs.declared.hour.hour.Meeting.TheVariants.{NotMet, WithGains, Alone}
 use Rattle.zone.specs.declared.hour.rule.Rule.{Rule}
 use Rattle.zone.specs.declared.physics.balance.HeatCoolGains.{HeatCoolGains}
-use Rattle.zone.specs.Record.BuildingElement.{standard_coefficients}
+use Rattle.zone.specs.declared.record.building_element.Coefficients.{Coefficients}
 use Rattle.zone.specs.Physics.Ventilation.{calc_vent_heat_transfer_coeff}
 use Rattle.zone.specs.declared.physics.balance.HeatBalance.{HeatBalance}
 use Rattle.zone.specs.Physics.HeatBalance.{heat_balance}
@@ -69,14 +69,14 @@ update_of (hour_with p z control h) g ach = update_in p z.volume g ach
 abbrev pub demand_met_of : Hour → Meeting → (before : List Float) → Result (Demand × List Float)
 demand_met_of (hour_with p z control h) meeting before = demand_met_in p z.volume control h z.useful_area meeting before
 
-module _ (z : Zone) (t : List Float) (h : Conditions) where
+module _ (c : Coefficients) (z : Zone) (t : List Float) (h : Conditions) where
   abbrev pub met_with : Demand → Option HeatCoolGains → (before : List Float) → Result (List Float)
   met_with d None before = ok before
-  met_with d (Some g) before = temperatures_with standard_coefficients z t h g.gains_heat_cool g.f_hc_c d.ach_cooling
+  met_with d (Some g) before = temperatures_with c z t h g.gains_heat_cool g.f_hc_c d.ach_cooling
 
   unfoldable pub demand_solved : Meeting → (before : List Float) → Result (Demand × List Float)
   demand_solved meeting before =
-      bind (space_heat_cool_demand standard_coefficients z t h) λ d.
+      bind (space_heat_cool_demand c z t h) λ d.
       bind (met_with d (met_load h d meeting) before) λ after.
       ok (d, after)
 
@@ -90,11 +90,11 @@ abbrev pub settled_state : Zone → Result (Demand × List Float) → Result Sta
 settled_state z x = bind x λ u. ok (state_of z u.1)
 
 -- the heat balance of the hour step
-abbrev pub step_balance : Zone → (t : List Float) → Conditions → Rule → Demand → (after : List Float) → HeatBalance
-step_balance z t h r d after =
+abbrev pub step_balance : Coefficients → Zone → (t : List Float) → Conditions → Rule → Demand → (after : List Float) → HeatBalance
+step_balance c z t h r d after =
     let g = gains_by r h d in
-    heat_balance standard_coefficients z t h (delta_t h) g.gains_heat_cool g.f_hc_c d.ach_cooling after
+    heat_balance c z t h (delta_t h) g.gains_heat_cool g.f_hc_c d.ach_cooling after
 
 -- the hour step, from the demand and the temperatures after it
-abbrev pub stepped : Zone → Rule → (t : List Float) → Conditions → Demand × List Float → Result HourResult
-stepped z r t h u = ok (record { demand = u.0; state = state_of z u.1; balance = step_balance z t h r u.0 u.1 })
+abbrev pub stepped : Coefficients → Zone → Rule → (t : List Float) → Conditions → Demand × List Float → Result HourResult
+stepped c z r t h u = ok (record { demand = u.0; state = state_of z u.1; balance = step_balance c z t h r u.0 u.1 })

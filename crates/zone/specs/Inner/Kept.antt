@@ -29,8 +29,8 @@ use Rattle.zone.specs.Inner.Hour.{Hour, hour_with}
 use Rattle.zone.specs.Hour.Demand.{delta_t}
 
 -- the directions of heat flow at the elements' inner surfaces, from the temperatures before the step
-abbrev pub directions_of : Zone → List Float → List HeatFlowDirection
-directions_of z t = with_terms (at_most24 z.count) (direction_at standard_coefficients z.building_elements t) (replicate 24 Horizontal)
+abbrev pub directions_of : Coefficients → Zone → List Float → List HeatFlowDirection
+directions_of c z t = with_terms (at_most24 z.count) (direction_at c z.building_elements t) (replicate 24 Horizontal)
 
 -- the open treatments of element e, and of the elements
 abbrev pub treatments_open_at : List ElementHour → ℕ → ℕ
@@ -40,8 +40,8 @@ abbrev pub opens_of : Conditions → List ℕ
 opens_of h = with_terms 24 (treatments_open_at h.elements) (replicate 24 0)
 
 -- h_ci of element e by its direction
-abbrev pub h_ci_in : (directions : List HeatFlowDirection) → ℕ → Float
-h_ci_in directions e = h_ci_of standard_coefficients (get_or directions e Horizontal)
+abbrev pub h_ci_in : Coefficients → (directions : List HeatFlowDirection) → ℕ → Float
+h_ci_in c directions e = h_ci_of c (get_or directions e Horizontal)
 
 -- (41), (40), (39) of element e
 unfoldable pub rows_by : List Element → (opens : List ℕ) (delta_t : Float) (h_ci share : ℕ → Float) → ℕ → Chains → Chains
@@ -96,24 +96,24 @@ factors_with n two_nodes (chains diag next prev) dense interchanges =
     factors_from two_nodes next prev (column_of n dense) (factor_apart n two_nodes diag next prev dense interchanges)
 
 -- of a zone at these directions, open treatments and timestep, assembled in arrays that are given
-abbrev pub factors_in : Zone → (directions : List HeatFlowDirection) (opens : List ℕ) (delta_t : Float) → Arrays → Factors
-factors_in z directions opens delta_t (arrays two_nodes diag next prev dense interchanges) =
+abbrev pub factors_in : Coefficients → Zone → (directions : List HeatFlowDirection) (opens : List ℕ) (delta_t : Float) → Arrays → Factors
+factors_in c z directions opens delta_t (arrays two_nodes diag next prev dense interchanges) =
     let n = at_most24 z.count in
     let es = z.building_elements in
     factors_with (at_most24 n)
     (with_terms n (two_nodes_of es) two_nodes)
-    (chains_by n es opens delta_t (h_ci_in directions) (chains diag next prev))
-    (couplings_by n es (h_ci_in directions) dense)
+    (chains_by n es opens delta_t (h_ci_in c directions) (chains diag next prev))
+    (couplings_by n es (h_ci_in c directions) dense)
     interchanges
 
-unfoldable pub factors_by : Zone → (directions : List HeatFlowDirection) (opens : List ℕ) (delta_t : Float) → Factors
-factors_by z directions opens delta_t = factors_in z directions opens delta_t zeros
+unfoldable pub factors_by : Coefficients → Zone → (directions : List HeatFlowDirection) (opens : List ℕ) (delta_t : Float) → Factors
+factors_by c z directions opens delta_t = factors_in c z directions opens delta_t zeros
 
 -- the two sums over the elements, the area and area × h_ci, and the timestep
-abbrev pub numbers_by : Zone → (directions : List HeatFlowDirection) (delta_t : Float) → List Float
-numbers_by z directions delta_t =
+abbrev pub numbers_by : Coefficients → Zone → (directions : List HeatFlowDirection) (delta_t : Float) → List Float
+numbers_by c z directions delta_t =
     let n = at_most24 z.count in
-    area_el_total n z.building_elements ∷ convective_by_sum n z.building_elements (h_ci_in directions) ∷ delta_t ∷ []
+    area_el_total n z.building_elements ∷ convective_by_sum n z.building_elements (h_ci_in c directions) ∷ delta_t ∷ []
 
 -- the directions and the open treatments that a matrix is assembled for
 abbrev pub Key : Type 0
@@ -155,11 +155,11 @@ held_with numbers key (factors valid two_nodes diag next prev dense interchanges
     held (true ∷ valid ∷ []) numbers key (arrays two_nodes diag next prev dense interchanges) column
 
 -- the hour's matrix, factored anew unless it is held
-unfoldable pub keep_factors : Zone → (directions : List HeatFlowDirection) (opens : List ℕ) (delta_t : Float) → Held → Held
-keep_factors z directions opens delta_t (held flags numbers key a column) =
+unfoldable pub keep_factors : Coefficients → Zone → (directions : List HeatFlowDirection) (opens : List ℕ) (delta_t : Float) → Held → Held
+keep_factors c z directions opens delta_t (held flags numbers key a column) =
     cond (same_key (get_or flags 0 false) (get_or numbers 2 nan) delta_t (at_most24 z.count) key directions opens)
     (held flags numbers key a column)
-    (held_with (numbers_by z directions delta_t) (directions, opens) (factors_in z directions opens delta_t (emptied (get_or flags 0 false) a)))
+    (held_with (numbers_by c z directions delta_t) (directions, opens) (factors_in c z directions opens delta_t (emptied (get_or flags 0 false) a)))
 
 -- an hour prepared from a matrix that is held
 abbrev pub prepared_from : ZoneTerms → (b : List Float) → Factors → Prepared
@@ -168,28 +168,28 @@ prepared_from s b (factors valid two_nodes diag next prev dense interchanges col
     let y = reduce_chains n two_nodes diag prev b in
     prepared s valid two_nodes diag next dense interchanges column y (inner_shares n diag prev y (replicate 24 zero64))
 
-unfoldable pub hour_from : Zone → List Float → Conditions → (numbers : List Float) → Factors → Hour
-hour_from z t h numbers k =
+unfoldable pub hour_from : Coefficients → Zone → List Float → Conditions → (numbers : List Float) → Factors → Hour
+hour_from c z t h numbers k =
     let n = at_most24 z.count in
     hour_with
-    (prepared_from (terms_by standard_coefficients z h (delta_t h) t numbers)
+    (prepared_from (terms_by c z h (delta_t h) t numbers)
     (element_sides n z.building_elements h.elements (delta_t h) t (replicate 121 zero64)) k)
     z (control_by z.temp_setpnt_basis z.count (areas_of z) (get_or numbers 0 nan)) h
 
-abbrev pub hour_held : Zone → List Float → Conditions → Held → Hour
-hour_held z t h x = hour_from z t h (numbers_held x) (factors_held x)
+abbrev pub hour_held : Coefficients → Zone → List Float → Conditions → Held → Hour
+hour_held c z t h x = hour_from c z t h (numbers_held x) (factors_held x)
 
 -- ---- where it is the zone's: `hour_held` is then the hour's own system, prepared (Laws/KeptHour.antt)
 
-pub record FactorsOf (z : Zone) (directions : List HeatFlowDirection) (opens : List ℕ) (delta_t : Float) (k : Factors) (sums : List Float) : Type 0 where
-  pub are : k ≡ factors_by z directions opens delta_t
+pub record FactorsOf (c : Coefficients) (z : Zone) (directions : List HeatFlowDirection) (opens : List ℕ) (delta_t : Float) (k : Factors) (sums : List Float) : Type 0 where
+  pub are : k ≡ factors_by c z directions opens delta_t
   pub total : get_or sums 0 nan ≡ area_el_total (at_most24 z.count) z.building_elements
-  pub convective : get_or sums 1 nan ≡ convective_by_sum (at_most24 z.count) z.building_elements (h_ci_in directions)
+  pub convective : get_or sums 1 nan ≡ convective_by_sum (at_most24 z.count) z.building_elements (h_ci_in c directions)
 
 -- arrays of zeros where the first flag is false; else the factors of this zone at the timestep, the directions and the open treatments that are kept
-pub record KeptIn (z : Zone) (flags : List Bool) (numbers : List Float) (key : Key) (a : Arrays) (k : Factors) : Type 0 where
+pub record KeptIn (c : Coefficients) (z : Zone) (flags : List Bool) (numbers : List Float) (key : Key) (a : Arrays) (k : Factors) : Type 0 where
   pub when_empty : get_or flags 0 false ≡ false → a ≡ zeros
-  pub when_held : get_or flags 0 false ≡ true → FactorsOf z key.0 key.1 (of_bits binary64 (to_bits binary64 (get_or numbers 2 nan))) k numbers
+  pub when_held : get_or flags 0 false ≡ true → FactorsOf c z key.0 key.1 (of_bits binary64 (to_bits binary64 (get_or numbers 2 nan))) k numbers
 
-abbrev pub Kept : Zone → Held → Type 0
-Kept z (held flags numbers key a column) = KeptIn z flags numbers key a (factors_held (held flags numbers key a column))
+abbrev pub Kept : Coefficients → Zone → Held → Type 0
+Kept c z (held flags numbers key a column) = KeptIn c z flags numbers key a (factors_held (held flags numbers key a column))

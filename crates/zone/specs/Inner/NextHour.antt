@@ -39,16 +39,16 @@ next_hour_reply s (refused number index) = (refused number index, s)
 -- ---- of an hour in a sequence, with a matrix that is held
 
 -- what is held after the hour: its matrix, where its tests pass
-abbrev pub held_after : Zone → State → Result Conditions → Held → Held
-held_after z s (ok h) k = keep_factors z (directions_of z (slots_of z s)) (opens_of h) (delta_t h) k
-held_after z s (refused number index) k = k
+abbrev pub held_after : Coefficients → Zone → State → Result Conditions → Held → Held
+held_after c z s (ok h) k = keep_factors c z (directions_of c z (slots_of z s)) (opens_of h) (delta_t h) k
+held_after c z s (refused number index) k = k
 
 -- an entry version with its limits
 abbrev pub rule_of : (version : ℕ) → Limits → Rule
 rule_of version l = record { version = version; limits = l }
 
 -- `next_hour` from that
-unfoldable pub next_hour_from : FixedRate → Zone → (version : ℕ) → Limits → State → List ℕ → Held → Result (Demand × State)
-next_hour_from fixed z version l s bytes k =
+unfoldable pub next_hour_from : FixedRate → Coefficients → Zone → (version : ℕ) → Limits → State → List ℕ → Held → Result (Demand × State)
+next_hour_from fixed c z version l s bytes k =
     bind (tested_hour_and_limits fixed z version l s bytes) λ h.
-    solved_next z (demand_met_of (hour_held z (slots_of z s) h k) (WithGains (rule_of version l)) (replicate 121 zero64))
+    solved_next z (demand_met_of (hour_held c z (slots_of z s) h k) (WithGains (rule_of version l)) (replicate 121 zero64))

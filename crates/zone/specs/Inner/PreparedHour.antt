@@ -4,7 +4,7 @@ use Rattle.zone.specs.declared.record.zone_record.Zone.{Zone}
 use Rattle.zone.specs.declared.hour.time_step.PreparedHour.{PreparedHour}
 use Rattle.zone.specs.declared.hour.control.Control.{Control}
 use Rattle.zone.specs.declared.physics.assembly.ElementSums.{ElementSums}
-use Rattle.zone.specs.Record.BuildingElement.{standard_coefficients}
+use Rattle.zone.specs.declared.record.building_element.Coefficients.{Coefficients}
 use Rattle.zone.specs.Inner.Assembled.{ZoneTerms}
 use Rattle.zone.specs.declared.format.conditions.Conditions.{Conditions}
 use Rattle.zone.specs.Inner.Operative.{control_by}
@@ -12,8 +12,8 @@ use Rattle.zone.specs.Inner.Prepared.{Prepared, prepared}
 use Rattle.zone.specs.Inner.Hour.{Hour, hour_with}
 
 -- the zone's terms: of its n elements the sums, then what does not change in the hour
-abbrev pub terms_with : (n : ℕ) → ElementSums → (c_int_per_delta_t temp_int_air : Float) → Zone → Conditions → ZoneTerms
-terms_with n sums c_int_per_delta_t temp_int_air z hour =
+abbrev pub terms_with : Coefficients → (n : ℕ) → ElementSums → (c_int_per_delta_t temp_int_air : Float) → Zone → Conditions → ZoneTerms
+terms_with c n sums c_int_per_delta_t temp_int_air z hour =
     record {
       n = n;
       area_el_total = sums.area_el_total;
@@ -25,12 +25,12 @@ terms_with n sums c_int_per_delta_t temp_int_air z hour =
       avg_supply_temp = hour.avg_air_supply_temp;
       gains_internal = hour.gains_internal;
       gains_solar = hour.gains_solar;
-      f_int_c = standard_coefficients.f_int_c;
-      f_sol_c = standard_coefficients.f_sol_c;
+      f_int_c = c.f_int_c;
+      f_sol_c = c.f_sol_c;
     }
 
 abbrev pub terms_in : PreparedHour → ZoneTerms
-terms_in p = terms_with p.kept.now.factors.chains.n p.kept.now.sums p.c_int_per_delta_t p.temp_int_air p.zone.now p.hour.now
+terms_in p = terms_with p.coefficients p.kept.now.factors.chains.n p.kept.now.sums p.c_int_per_delta_t p.temp_int_air p.zone.now p.hour.now
 
 abbrev pub prepared_in : PreparedHour → Prepared
 prepared_in p =

@@ -10,14 +10,14 @@ use Rattle.zone.specs.declared.format.conditions.AirChangesPerHourArgument.TheVa
 use Rattle.zone.specs.declared.calls.state.Reason.{Reason}
 use Rattle.zone.specs.declared.calls.state.Reason.TheVariants.{NoChoice, NotAboveVentilationSetpoint, NotAboveSupply, WindowsDoNotCool, StillAboveCoolingSetpoint, WindowsEnough}
 use Rattle.zone.specs.declared.hour.windows.ZoneTemperatures.{ZoneTemperatures}
-use Rattle.zone.specs.Record.BuildingElement.{standard_coefficients}
+use Rattle.zone.specs.declared.record.building_element.Coefficients.{Coefficients}
 use Rattle.zone.specs.Hour.Demand.{control_temperature, free_temperatures}
 use Rattle.zone.specs.Inner.Demand.{zone_temperatures, rate_to_reach}
 
-module _ (z : Zone) (t : List Float) (h : Conditions) where
+module _ (c : Coefficients) (z : Zone) (t : List Float) (h : Conditions) where
   -- the calculation without demand at a rate
   unfoldable pub free_at : (ach : Float) → Result ZoneTemperatures
-  free_at ach = bind (free_temperatures standard_coefficients z t h ach) λ x. ok (zone_temperatures (control_temperature z) x)
+  free_at ach = bind (free_temperatures c z t h ach) λ x. ok (zone_temperatures (control_temperature z) x)
 
   unfoldable pub found_reason : (ach : Float) → Result Reason
   found_reason ach =

@@ -23,9 +23,9 @@ use crate::record::zone_record::Zone;
 impl HourStart<'_> {
     // The heat balance of an hour step, from the demand and the temperatures after the hour.
     fn step_balance(&self, rule: Rule, d: Demand, after: &[f64; 121]) -> HeatBalance
-        ensures { result ≡ step_balance self.now.zone.now self.now.temp_prev.now self.now.hour.now rule d after.now }
+        ensures { result ≡ step_balance self.now.coefficients self.now.zone.now self.now.temp_prev.now self.now.hour.now rule d after.now }
     {
-        let c = standard_coefficients();
+        let c = self.coefficients;
         let h = self.hour;
         let g = rule.gains(h, d);
         heat_balance(
@@ -48,6 +48,7 @@ impl State {
     {
         let h = tested(FixedRate::Retired, z, self, conditions)?;
         let start = HourStart {
+            coefficients: standard_coefficients(),
             zone: z,
             temp_prev: &self.slots(z),
             hour: &h,
@@ -77,6 +78,7 @@ impl State {
     {
         let h = tested_step(z, rule, self, conditions)?;
         let start = HourStart {
+            coefficients: standard_coefficients(),
             zone: z,
             temp_prev: &self.slots(z),
             hour: &h,

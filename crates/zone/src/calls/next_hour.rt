@@ -15,6 +15,7 @@ use crate::hour::hour::Meeting;
 use crate::hour::hour_start::HourStart;
 use crate::hour::kept::KeptMatrix;
 use crate::hour::rule::Rule;
+use crate::record::building_element::{Coefficients, standard_coefficients};
 use crate::record::refusal::Refusal;
 use crate::record::zone_record::Zone;
 
@@ -25,18 +26,20 @@ impl State {
     fn hour_kept(
         &self,
         fixed: FixedRate,
+        c: Coefficients,
         z: &Zone,
         conditions: &[u8],
         rule: Rule,
         kept: &mut KeptMatrix,
         after: &mut State,
     ) -> Result<Demand, Refusal>
-        ensures held { held_in kept.new ≡ held_after z.now self.now (tested_hour_and_limits fixed z.now rule.version rule.limits self.now conditions.now) (held_in kept.old) }
-        ensures hour { changed_by result after.new ≡ next_hour_from fixed z.now rule.version rule.limits self.now conditions.now (held_in kept.new) }
+        ensures held { held_in kept.new ≡ held_after c z.now self.now (tested_hour_and_limits fixed z.now rule.version rule.limits self.now conditions.now) (held_in kept.old) }
+        ensures hour { changed_by result after.new ≡ next_hour_from fixed c z.now rule.version rule.limits self.now conditions.now (held_in kept.new) }
         ensures kept_state { OnErr result (after.new ≡ after.old) }
     {
         let h = tested_hour_and_limits(fixed, z, rule, self, conditions)?;
         let start = HourStart {
+            coefficients: c,
             zone: z,
             temp_prev: &self.slots(z),
             hour: &h,
@@ -61,12 +64,20 @@ impl State {
         limits: Limits,
         kept: &mut KeptMatrix,
     ) -> Reply<Demand>
-        ensures held { held_in kept.new ≡ held_after z.now self (tested_hour_and_limits fixed z.now version limits self conditions.now) (held_in kept.old) }
-        ensures hour { reply_in result ≡ next_hour_reply self (next_hour_from fixed z.now version limits self conditions.now (held_in kept.new)) }
+        ensures held { held_in kept.new ≡ held_after standard_coefficients z.now self (tested_hour_and_limits fixed z.now version limits self conditions.now) (held_in kept.old) }
+        ensures hour { reply_in result ≡ next_hour_reply self (next_hour_from fixed standard_coefficients z.now version limits self conditions.now (held_in kept.new)) }
     {
         let mut state = self;
         let rule = Rule { version, limits };
-        let answer = self.hour_kept(fixed, z, conditions, rule, kept, &mut state);
+        let answer = self.hour_kept(
+            fixed,
+            standard_coefficients(),
+            z,
+            conditions,
+            rule,
+            kept,
+            &mut state,
+        );
         Reply { answer, state }
     }
 

@@ -15,6 +15,7 @@ use crate::check::zone_tests::zone_test;
 use crate::hour::hour::Meeting;
 use crate::hour::hour_start::HourStart;
 use crate::hour::kept::KeptMatrix;
+use crate::record::building_element::{Coefficients, standard_coefficients};
 use crate::record::refusal::Refusal;
 use crate::record::zone_record::Zone;
 
@@ -35,9 +36,9 @@ fn settled(z: &Zone, demand: Result<Demand, Refusal>, t: &[f64; 121]) -> Result<
 
 // Each pass is an hour whose demand is met with start-up's fraction, 0.4, and the demand's rate, which is the fixed 0. The pass that settles does not store its
 // temperatures; the loop is left with those before it, with a refusal, or at the limit. It is a `loop` that breaks with its value: the papers name that form.
-fn settle(z: &Zone, kept: &mut KeptMatrix) -> Result<State, Refusal>
+fn settle(c: Coefficients, z: &Zone, kept: &mut KeptMatrix) -> Result<State, Refusal>
     requires { held_in kept.old ≡ none_held }
-    ensures { answered result ≡ bind (settle standard_coefficients z.now z.now.start_up_limit (slots_of z.now (start_state z.now))) λ t. ok (state_of z.now t) }
+    ensures { answered result ≡ bind (settle c z.now z.now.start_up_limit (slots_of z.now (start_state z.now))) λ t. ok (state_of z.now t) }
 {
     let h = start_up_conditions(z);
     let mut t = start_slots(z);
@@ -49,6 +50,7 @@ fn settle(z: &Zone, kept: &mut KeptMatrix) -> Result<State, Refusal>
             break Err(Refusal::NotSettled);
         }
         let start = HourStart {
+            coefficients: c,
             zone: z,
             temp_prev: &t,
             hour: &h,
@@ -72,7 +74,7 @@ pub fn start_up_lent(z: &Zone, kept: &mut KeptMatrix) -> Result<State, Refusal>
 {
     kept.clear();
     zone_test(z)?;
-    let state = settle(z, kept);
+    let state = settle(standard_coefficients(), z, kept);
     kept.clear();
     state
 }

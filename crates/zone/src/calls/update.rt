@@ -38,6 +38,7 @@ impl State {
     {
         let before = self.slots(z);
         let start = HourStart {
+            coefficients: standard_coefficients(),
             zone: z,
             temp_prev: &before,
             hour: h,

@@ -9,6 +9,7 @@ use crate::check::arguments::tested;
 use crate::format::conditions::FixedRate;
 use crate::hour::hour::Meeting;
 use crate::hour::hour_start::HourStart;
+use crate::record::building_element::standard_coefficients;
 use crate::record::refusal::Refusal;
 use crate::record::zone_record::Zone;
 
@@ -30,7 +31,7 @@ impl HourStart<'_> {
     // An hour that is tested: what the demand refuses is refused, before any reason.
     #[tactic(auto, using(crate::proofs::Laws::Why::why_not_asked, crate::proofs::Laws::Why::why_no_reason))]
     fn why(&self) -> Result<(Reason, Load), Refusal>
-        ensures { answered result ≡ why_of standard_coefficients self.now.zone.now self.now.temp_prev.now self.now.hour.now }
+        ensures { answered result ≡ why_of self.now.coefficients self.now.zone.now self.now.temp_prev.now self.now.hour.now }
     {
         let mut after = [0.0; 121];
         let d = self.demand_alone(Meeting::NotMet, &mut after)?;
@@ -47,6 +48,7 @@ impl State {
     {
         let h = tested(FixedRate::StillTaken, z, self, conditions)?;
         let start = HourStart {
+            coefficients: standard_coefficients(),
             zone: z,
             temp_prev: &self.slots(z),
             hour: &h,

@@ -27,7 +27,7 @@ impl HourStart<'_> {
     // The temperatures without demand at a rate: an update by the gains that are there before any.
     #[tactic(auto, unfolding(crate::specs::Inner::Why::free_at))]
     pub fn free_at(&self, ach: f64) -> Result<ZoneTemperatures, Refusal>
-        ensures { answered result ≡ free_at self.now.zone.now self.now.temp_prev.now self.now.hour.now ach }
+        ensures { answered result ≡ free_at self.now.coefficients self.now.zone.now self.now.temp_prev.now self.now.hour.now ach }
     {
         let mut after = [0.0; 121];
         self.update_alone(free_gains_of(self.hour), ach, &mut after)?;

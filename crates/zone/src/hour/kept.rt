@@ -6,17 +6,14 @@ ghost use Rattle.solver.specs.FastSolver.{at_most24};
 
 use crate::physics::assembly::{ElementSums, Key, assemble_elements};
 use crate::physics::terms::with_terms;
-use crate::record::building_element::{
-    HeatFlowDirection, heat_flow_direction, standard_coefficients,
-};
+use crate::record::building_element::{Coefficients, HeatFlowDirection, heat_flow_direction};
 use crate::record::zone_record::Zone;
 use solver::{Chains, Factors, Lu};
 
 // The directions of heat flow, from the temperatures before the step.
-pub fn directions_of(z: &Zone, t: &[f64; 121]) -> [HeatFlowDirection; 24]
-    ensures { result ≡ directions_of z.now t.now }
+pub fn directions_of(c: Coefficients, z: &Zone, t: &[f64; 121]) -> [HeatFlowDirection; 24]
+    ensures { result ≡ directions_of c z.now t.now }
 {
-    let c = standard_coefficients();
     with_terms(
         z.element_count(),
         |e| heat_flow_direction(c, z.building_elements[e].pitch, t[120], t[5 * e + 4]),
@@ -88,8 +85,8 @@ impl KeptMatrix {
     }
 
     // The hour's matrix but its last column, factored, unless it is held.
-    pub(crate) fn keep_factors(&mut self, z: &Zone, key: &Key)
-        ensures held { held_in self.new ≡ keep_factors z.now key.now.directions key.now.opens key.now.delta_t (held_in self.old) }
+    pub(crate) fn keep_factors(&mut self, c: Coefficients, z: &Zone, key: &Key)
+        ensures held { held_in self.new ≡ keep_factors c z.now key.now.directions key.now.opens key.now.delta_t (held_in self.old) }
         ensures count { self.new.factors.chains.n ≡ at_most24 z.now.count }
     {
         let n = z.element_count();
@@ -99,7 +96,7 @@ impl KeptMatrix {
         }
         self.empty();
         self.factors.chains.n = n;
-        self.sums = assemble_elements(z, key, &mut self.factors);
+        self.sums = assemble_elements(c, z, key, &mut self.factors);
         self.column = self.factors.last_column();
         self.factors.factor_columns();
         self.key = Some(*key);

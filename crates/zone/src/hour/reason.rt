@@ -14,7 +14,7 @@ impl HourStart<'_> {
     // With the rate found.
     #[tactic(auto, unfolding(crate::specs::Inner::Why::found_reason))]
     fn found_reason(&self, ach: f64) -> Result<Reason, Refusal>
-        ensures { answered result ≡ found_reason self.now.zone.now self.now.temp_prev.now self.now.hour.now ach }
+        ensures { answered result ≡ found_reason self.now.coefficients self.now.zone.now self.now.temp_prev.now self.now.hour.now ach }
     {
         let extra = self.free_at(ach)?;
         if above_cooling_setpoint(extra.temp_control, self.hour.temp_setpnt_cool) {
@@ -31,7 +31,7 @@ impl HourStart<'_> {
         windows: f64,
         free: ZoneTemperatures,
     ) -> Result<Reason, Refusal>
-        ensures { answered result ≡ open_reason self.now.zone.now self.now.temp_prev.now self.now.hour.now target windows free }
+        ensures { answered result ≡ open_reason self.now.coefficients self.now.zone.now self.now.temp_prev.now self.now.hour.now target windows free }
     {
         let h = self.hour;
         let vent_max = self.free_at(windows)?;
@@ -45,7 +45,7 @@ impl HourStart<'_> {
     // With the target rate.
     #[tactic(auto, unfolding(crate::specs::Inner::Why::choice_reason))]
     fn choice_reason(&self, target: f64, windows: f64) -> Result<Reason, Refusal>
-        ensures { answered result ≡ choice_reason self.now.zone.now self.now.temp_prev.now self.now.hour.now target windows }
+        ensures { answered result ≡ choice_reason self.now.coefficients self.now.zone.now self.now.temp_prev.now self.now.hour.now target windows }
     {
         let free = self.free_at(target)?;
         if !(self.hour.temp_setpnt_cool_vent < free.temp_control) {
@@ -60,7 +60,7 @@ impl HourStart<'_> {
     // A fixed rate, or two that are equal, are no choice.
     #[tactic(auto, unfolding(crate::specs::Inner::Why::reason_in))]
     pub fn reason(&self) -> Result<Reason, Refusal>
-        ensures { answered result ≡ reason_in self.now.zone.now self.now.temp_prev.now self.now.hour.now self.now.hour.now.ach_args }
+        ensures { answered result ≡ reason_in self.now.coefficients self.now.zone.now self.now.temp_prev.now self.now.hour.now self.now.hour.now.ach_args }
     {
         // Copied before the match: the papers name that form.
         let ach_args = self.hour.ach_args;

@@ -13,7 +13,7 @@ use crate::format::conditions::Conditions;
 use crate::hour::control::Control;
 use crate::hour::kept::KeptMatrix;
 use crate::physics::balance::HeatCoolGains;
-use crate::record::building_element::standard_coefficients;
+use crate::record::building_element::Coefficients;
 use crate::record::zone_record::Zone;
 use solver::{RightSide, SolveError};
 
@@ -21,6 +21,7 @@ use solver::{RightSide, SolveError};
 // hour, the matrix with its columns factored, the right side without gains, reduced, and what the setpoints are held against.
 #[derive(Clone, Copy)]
 pub struct PreparedHour<'k, 'h> {
+    pub coefficients: Coefficients,
     pub zone: &'h Zone,
     pub hour: &'h Conditions,
     pub c_int_per_delta_t: f64,
@@ -51,7 +52,7 @@ impl PreparedHour<'_, '_> {
     fn gains_per_area(&self, gains: HeatCoolGains) -> f64
         ensures { result ≡ gains_per_area_from (terms_in self.now) gains.gains_heat_cool gains.f_hc_c }
     {
-        let c = standard_coefficients();
+        let c = self.coefficients;
         ((1.0 - c.f_int_c) * self.hour.gains_internal
             + (1.0 - c.f_sol_c) * self.hour.gains_solar
             + (1.0 - gains.f_hc_c) * gains.gains_heat_cool)
@@ -61,7 +62,7 @@ impl PreparedHour<'_, '_> {
     fn zone_right_side(&self, h_ve: f64, gains: HeatCoolGains) -> f64
         ensures { result ≡ zone_right_side_from (terms_in self.now) h_ve gains.gains_heat_cool gains.f_hc_c }
     {
-        let c = standard_coefficients();
+        let c = self.coefficients;
         let h = self.hour;
         self.c_int_per_delta_t * self.temp_int_air
             + h_ve * h.avg_air_supply_temp

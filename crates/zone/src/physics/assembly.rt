@@ -17,7 +17,7 @@ use crate::physics::operative::areas_of;
 use crate::physics::slots::{element_slots, set_slots};
 use crate::physics::terms::with_terms;
 use crate::record::building_element::{
-    HeatFlowDirection, h_ci_of_direction, is_two_nodes, standard_coefficients,
+    Coefficients, HeatFlowDirection, h_ci_of_direction, is_two_nodes,
 };
 use crate::record::zone_record::Zone;
 use solver::{Chains, Factors};
@@ -44,10 +44,9 @@ impl Key {
     }
 
     // h_ci of each element, by its direction of heat flow.
-    fn h_ci(&self, z: &Zone) -> [f64; 24]
-        ensures { result ≡ with_terms (at_most24 z.now.count) (h_ci_in self.now.directions) (replicate 24 zero64) }
+    fn h_ci(&self, c: Coefficients, z: &Zone) -> [f64; 24]
+        ensures { result ≡ with_terms (at_most24 z.now.count) (h_ci_in c self.now.directions) (replicate 24 zero64) }
     {
-        let c = standard_coefficients();
         with_terms(
             z.element_count(),
             |e| h_ci_of_direction(c, self.directions[e]),
@@ -97,16 +96,16 @@ pub struct ElementSums {
 }
 
 // What all elements bring into the matrix.
-pub fn assemble_elements(z: &Zone, key: &Key, factors: &mut Factors) -> ElementSums
+pub fn assemble_elements(c: Coefficients, z: &Zone, key: &Key, factors: &mut Factors) -> ElementSums
     ensures two_nodes { factors.new.chains.two_nodes
         ≡ with_terms (at_most24 z.now.count) (two_nodes_of z.now.building_elements) factors.old.chains.two_nodes }
     ensures chains { chains_in factors.new.chains
-        ≡ chains_by (at_most24 z.now.count) z.now.building_elements key.now.opens key.now.delta_t (h_ci_in key.now.directions) (chains_in factors.old.chains) }
+        ≡ chains_by (at_most24 z.now.count) z.now.building_elements key.now.opens key.now.delta_t (h_ci_in c key.now.directions) (chains_in factors.old.chains) }
     ensures dense { factors.new.lu.matrix
-        ≡ couplings_by (at_most24 z.now.count) z.now.building_elements (h_ci_in key.now.directions) factors.old.lu.matrix }
+        ≡ couplings_by (at_most24 z.now.count) z.now.building_elements (h_ci_in c key.now.directions) factors.old.lu.matrix }
     ensures others { (factors.new.chains.n ≡ factors.old.chains.n) × (factors.new.lu.interchanges ≡ factors.old.lu.interchanges) }
     ensures sums { (result.area_el_total ≡ area_el_total (at_most24 z.now.count) z.now.building_elements)
-        × (result.convective ≡ convective_by_sum (at_most24 z.now.count) z.now.building_elements (h_ci_in key.now.directions)) }
+        × (result.convective ≡ convective_by_sum (at_most24 z.now.count) z.now.building_elements (h_ci_in c key.now.directions)) }
 {
     let n = z.element_count();
     let es = &z.building_elements;
@@ -115,7 +114,7 @@ pub fn assemble_elements(z: &Zone, key: &Key, factors: &mut Factors) -> ElementS
         n,
         area,
         h_ri: with_terms(n, |e| es[e].h_ri, [0.0; 24]),
-        h_ci: key.h_ci(z),
+        h_ci: key.h_ci(c, z),
         share: [0.0; 24],
         area_total: area_total(&area[..n]),
     };

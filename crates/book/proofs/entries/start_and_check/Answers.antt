@@ -13,7 +13,7 @@ check_entries-requires c = head_inside _ (Ok _) _ (sym c.requires) _ refl
 
 pub invariant_of-checker : goal.invariant_of-checker
 invariant_of-checker c =
-    record { tested = start_up_passed _ _ c.start_up_lent.ensures.state _ c.in_ok-state.was; of_zone = none_kept_in _ _ c.start_up_lent.ensures.held }
+    record { tested = start_up_passed _ _ c.start_up_lent.ensures.state _ c.in_ok-state.was; of_zone = none_kept_in _ _ _ c.start_up_lent.ensures.held }
 
 pub returns-clause-start : goal.returns-clause-start
 returns-clause-start c = start_read _ _ _ c.requires _ c.start_up_lent.ensures.state _ c.in_ok-state.was _

@@ -9,7 +9,7 @@ pub is_entry-requires : goal.is_entry-requires
 is_entry-requires c =
     let (whole, follows) = c.requires in
     let h = c.next_hour_kept-hour.ensures in
-    let hour = (next_kept _ _ _ _ _ _ _ _ _ (h.held, h.hour) c.args.self.now.of_zone).1 in
+    let hour = (next_kept _ _ _ _ _ _ _ _ _ _ (h.held, h.hour) c.args.self.now.of_zone).1 in
     let long = limits_cut_lem _ c.args.version _ _ c.conditions_length-limits_at.ensures _ c.limits_length.ensures.0 whole in (
       (hour_size _ _ c.args.self.now.tested _ _ follows _ _ long _ (λ _. sym c.read_limits.ensures) _ hour _ c.in-Ok.is, long),
       whole,
@@ -20,7 +20,7 @@ pub returns-then-is_entry-clause-checked : goal.returns-then-is_entry-clause-che
 returns-then-is_entry-clause-checked c =
     let (whole, follows) = c.requires in
     let h = c.next_hour_kept-hour.ensures in
-    let hour = (next_kept _ _ _ _ _ _ _ _ _ (h.held, h.hour) c.args.self.now.of_zone).1 in
+    let hour = (next_kept _ _ _ _ _ _ _ _ _ _ (h.held, h.hour) c.args.self.now.of_zone).1 in
     entry_right _ c.args.self.now.tested _ _ _ follows _ whole _ c.conditions_length-limits_at.ensures _ c.limits_length.ensures.0 _ c.read_limits.ensures _ hour _ c.in-Ok.is
     (sym (c.if-is_entry.ensures {u = tt}))
 
@@ -28,7 +28,7 @@ pub returns-clause-checked : goal.returns-clause-checked
 returns-clause-checked c =
     let (whole, follows) = c.requires in
     let h = c.next_hour_kept-hour.ensures in
-    let hour = (next_kept _ _ _ _ _ _ _ _ _ (h.held, h.hour) c.args.self.now.of_zone).1 in
+    let hour = (next_kept _ _ _ _ _ _ _ _ _ _ (h.held, h.hour) c.args.self.now.of_zone).1 in
     rw c.false_entry.ensures elim c.match-hour.branch [
       | in-Ok+else-is_entry w ↦
           entry_other _ c.args.self.now.tested _ _ _ follows _ whole _ c.conditions_length-limits_at.ensures _ c.limits_length.ensures.0 _ c.read_limits.ensures _ hour _ w.in-Ok.is
@@ -38,4 +38,4 @@ returns-clause-checked c =
     ]
 
 pub invariant_of-self-clause-of_zone : goal.invariant_of-self-clause-of_zone
-invariant_of-self-clause-of_zone c = let h = c.next_hour_kept-hour.ensures in (next_kept _ _ _ _ _ _ _ _ _ (h.held, h.hour) c.args.self.now.of_zone).0
+invariant_of-self-clause-of_zone c = let h = c.next_hour_kept-hour.ensures in (next_kept _ _ _ _ _ _ _ _ _ _ (h.held, h.hour) c.args.self.now.of_zone).0

@@ -20,7 +20,7 @@ returns c =
     let z = a.z.now in
     let n : ℕ = at_most24 z.count in
     let es = z.building_elements in
-    let by = h_ci_in a.key.now.directions in
+    let by = h_ci_in a.c a.key.now.directions in
     let counted : c.element_count-n.result ≡ n = c.element_count-n.ensures.0 in
     let h_ri_is = c.with_terms.ensures (h_ri_of es) (λ e x h told. search (rules, element_is))
     ∙ ap (λ (m : ℕ). with_terms m (h_ri_of es) (replicate 24 zero64)) counted in
