@@ -9,6 +9,7 @@ pub mod Forward
 pub mod Pivots
 pub mod ColumnStep
 pub mod Columns
+pub mod RowsBelow
 pub mod Apart
 pub mod Reduction
 pub mod Loaded

@@ -74,8 +74,8 @@ impl Lu {
         interchange_rows(&mut self.matrix, k, q, &pivots);
         self.interchanges[k] = q;
         eliminate_rows(
-            &mut self.matrix,
-            count.n + 1,
+            &mut self.matrix[25 * k..],
+            count.n + 1 - k,
             count.n,
             k,
             &pivots,

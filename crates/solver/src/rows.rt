@@ -68,41 +68,41 @@ pub fn set_row(m: &mut [f64; 625], i: usize, r: &[f64; 25])
     }
 }
 
-// Column k is eliminated from row i of w columns; `pivots` is a copy of the pivot row, `reciprocal` is 1 / pivot.
+// Column k is eliminated from row i of a part of the matrix, of w columns; `pivots` is a copy of the pivot row, `reciprocal` is 1 / pivot.
 #[tactic(auto, using(crate::proofs::Laws::Counting::repeat_turn, crate::proofs::Laws::Counting::repeat_end), unfolding(crate::specs::Rows::eliminate_row))]
 fn eliminate_row(
-    m: &mut [f64; 625],
+    part: &mut [f64],
     w: usize,
     k: usize,
     pivots: &[f64; 25],
     reciprocal: f64,
     i: usize,
 )
-    requires { (w ≤ 25) × (k < w) × (i < 25) }
-    ensures { m.new ≡ eliminate_row w k pivots.now reciprocal i m.old }
+    requires { (w ≤ 25) × (k < w) × (25 * i + 25 ≤ length part.old) }
+    ensures { part.new ≡ eliminate_row w k pivots.now reciprocal i part.old }
 {
-    let factor = entry(m, i, k) * reciprocal;
-    set_entry(m, i, k, factor);
+    let factor = part[25 * i + k] * reciprocal;
+    part[25 * i + k] = factor;
     for j in k + 1..w {
-        let x = entry(m, i, j) + -pivots[j] * factor;
-        set_entry(m, i, j, x);
+        let x = part[25 * i + j] + -pivots[j] * factor;
+        part[25 * i + j] = x;
     }
 }
 
-// Column k is eliminated from each row below row k, of h rows and w columns.
+// Of the h rows of a part of the matrix, from the pivot row on, column k is eliminated from each but the first, of w columns.
 #[tactic(auto, using(crate::proofs::Laws::Counting::repeat_turn, crate::proofs::Laws::Counting::repeat_end))]
 pub fn eliminate_rows(
-    m: &mut [f64; 625],
+    part: &mut [f64],
     h: usize,
     w: usize,
     k: usize,
     pivots: &[f64; 25],
     reciprocal: f64,
 )
-    requires { (w ≤ 25) × (h ≤ 25) × (k < w) }
-    ensures { m.new ≡ repeat (k + 1) h (eliminate_row w k pivots.now reciprocal) m.old }
+    requires { (w ≤ 25) × (k < w) × (25 * h ≤ length part.old) }
+    ensures { part.new ≡ repeat 1 h (eliminate_row w k pivots.now reciprocal) part.old }
 {
-    for i in k + 1..h {
-        eliminate_row(m, w, k, pivots, reciprocal, i);
+    for i in 1..h {
+        eliminate_row(part, w, k, pivots, reciprocal, i);
     }
 }
