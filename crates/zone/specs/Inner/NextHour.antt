@@ -2,6 +2,7 @@
 use Rattle.std.specs.Prelude.{ℕ, List, replicate, Float}
 use Rattle.solver.specs.F64.{◌+ᶠ◌, zero64}
 use Rattle.solver.specs.Result.{Result, ok, refused, bind}
+use Rattle.solver.specs.FastSolver.{at_most24}
 use Rattle.zone.specs.declared.record.building_element.Coefficients.{Coefficients}
 use Rattle.zone.specs.declared.record.zone_record.Zone.{Zone}
 use Rattle.zone.specs.declared.format.conditions.Conditions.{Conditions}
@@ -42,6 +43,11 @@ next_hour_reply s (refused number index) = (refused number index, s)
 abbrev pub held_after : Coefficients → Zone → State → Result Conditions → Held → Held
 held_after c z s (ok h) k = keep_factors c z (directions_of c z (slots_of z s)) (opens_of h) (delta_t h) k
 held_after c z s (refused number index) k = k
+
+-- and for how many elements
+abbrev pub count_after : Zone → Result Conditions → (before : ℕ) → ℕ
+count_after z (ok h) n = at_most24 z.count
+count_after z (refused number index) n = n
 
 -- an entry version with its limits
 abbrev pub rule_of : (version : ℕ) → Limits → Rule

@@ -3,7 +3,7 @@ ghost use Rattle.std.specs.Prelude.{◌≡◌, OnErr};
 ghost use Rattle.zone.specs.Answers.{changed_by};
 ghost use Rattle.zone.specs.Calls.Answers.{reply_in};
 ghost use Rattle.zone.specs.Inner.KeptMatrix.{held_in};
-ghost use Rattle.zone.specs.Inner.NextHour.{next_hour, next_hour_reply, held_after, next_hour_from};
+ghost use Rattle.zone.specs.Inner.NextHour.{next_hour, next_hour_reply, held_after, count_after, next_hour_from};
 ghost use Rattle.zone.specs.Calls.Hour.{tested_hour_and_limits};
 ghost use Rattle.zone.specs.Record.BuildingElement.{standard_coefficients};
 
@@ -34,6 +34,7 @@ impl State {
         after: &mut State,
     ) -> Result<Demand, Refusal>
         ensures held { held_in kept.new ≡ held_after c z.now self.now (tested_hour_and_limits fixed z.now rule.version rule.limits self.now conditions.now) (held_in kept.old) }
+        ensures count { kept.new.factors.chains.n ≡ count_after z.now (tested_hour_and_limits fixed z.now rule.version rule.limits self.now conditions.now) kept.old.factors.chains.n }
         ensures hour { changed_by result after.new ≡ next_hour_from fixed c z.now rule.version rule.limits self.now conditions.now (held_in kept.new) }
         ensures kept_state { OnErr result (after.new ≡ after.old) }
     {
@@ -65,6 +66,7 @@ impl State {
         kept: &mut KeptMatrix,
     ) -> Reply<Demand>
         ensures held { held_in kept.new ≡ held_after standard_coefficients z.now self (tested_hour_and_limits fixed z.now version limits self conditions.now) (held_in kept.old) }
+        ensures count { kept.new.factors.chains.n ≡ count_after z.now (tested_hour_and_limits fixed z.now version limits self conditions.now) kept.old.factors.chains.n }
         ensures hour { reply_in result ≡ next_hour_reply self (next_hour_from fixed standard_coefficients z.now version limits self conditions.now (held_in kept.new)) }
     {
         let mut state = self;

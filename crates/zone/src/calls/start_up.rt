@@ -70,6 +70,7 @@ fn settle(c: Coefficients, z: &Zone, kept: &mut KeptMatrix) -> Result<State, Ref
 #[tactic(auto, unfolding(crate::specs::Calls::StartUp::init_node_temps))]
 pub fn start_up_lent(z: &Zone, kept: &mut KeptMatrix) -> Result<State, Refusal>
     ensures held { held_in kept.new ≡ none_held }
+    ensures count { kept.new.factors.chains.n ≡ 0 }
     ensures state { answered result ≡ init_node_temps standard_coefficients z.now }
 {
     kept.clear();

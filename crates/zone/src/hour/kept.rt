@@ -35,7 +35,8 @@ pub struct KeptMatrix {
 impl KeptMatrix {
     // No matrix.
     pub fn none() -> KeptMatrix
-        ensures { held_in result ≡ none_held }
+        ensures held { held_in result ≡ none_held }
+        ensures count { result.factors.chains.n ≡ 0 }
     {
         KeptMatrix {
             key: None,
@@ -63,7 +64,8 @@ impl KeptMatrix {
 
     // What is held is let go of.
     pub(crate) fn clear(&mut self)
-        ensures { held_in self.new ≡ none_held }
+        ensures held { held_in self.new ≡ none_held }
+        ensures count { self.new.factors.chains.n ≡ 0 }
     {
         *self = KeptMatrix::none();
     }

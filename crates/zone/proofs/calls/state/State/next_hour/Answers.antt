@@ -5,4 +5,4 @@ use Rattle.zone.proofs.calls.state.State.next_hour.Goals as goal
 pub returns : goal.returns
 returns c =
     let e = c.next_hour_kept.ensures in
-    (next_kept _ _ _ _ _ _ _ _ _ _ (e.held, e.hour) (none_kept_in _ _ _ c.none-kept.ensures)).1
+    (next_kept _ _ _ _ _ _ _ _ _ _ (e.held, e.hour) (none_kept_in _ _ _ c.none-kept.ensures.held)).1
