@@ -20,4 +20,5 @@ pub mod Reasons
 pub mod NodeOrder
 pub mod HouseP
 pub mod Index
+pub mod FirstFault
 pub mod ForBook
