@@ -6,7 +6,7 @@ use Rattle.std.specs.Float.{binary64, nan}
 use Rattle.std.specs.Float.Ieee.{neg, of_bits, to_bits}
 use Rattle.solver.specs.F64.{decimal, zero64, one64}
 use Rattle.solver.specs.Result.{Result, ok, refused}
-use Rattle.zone.specs.Record.BuildingElement.{standard_coefficients, is_direction, surface_convection}
+use Rattle.zone.specs.Record.BuildingElement.{standard_coefficients, is_direction, surface_convection, h_pli_transparent}
 use Rattle.zone.specs.Record.Numbers.{conditions_code}
 use Rattle.zone.specs.Format.Decode.{zone_at}
 use Rattle.zone.specs.Format.Head.{head_of}
@@ -51,6 +51,10 @@ house_p = zone_at head_of_p
 -- "P with k 0, 0, h_ce 0, bridges 0, useful area 1e-20"
 abbrev singular : Zone
 singular = zone_at (head zero64 zero64 zero64 (decimal 1 20))
+
+-- P with next to no useful area: the load that is tried changes next to nothing
+abbrev pub tiny : Zone
+tiny = zone_at (head (decimal 3600 0) one64 (decimal 430625 4) (decimal 1 12))
 
 -- the hour: length, external, no gains, fractions 1, setpoints, no ventilation control, supply, no gains; both rates 0
 abbrev hour_by : (rate_code : ℕ) → (heat cool : Float) → List ℕ
@@ -166,6 +170,11 @@ table =
     ∷ refused_with 19 (limited_hour (plant nan zero64) (decimal 22 0) (decimal 21 0))
     ∷ refused_with 12 (asked singular (decimal 20 0) (decimal 24 0))
     ∷ refused_with 12 (updated singular)
+    -- 14 comes before the setpoint equality: a setpoint of 20.00000000005 is close to the free 20, and the load changes it by 2.3e-13
+    ∷ refused_with 14 (asked tiny (decimal 2000000000005 11) (decimal 24 0))
+    -- two reciprocals, also with no treatment; and of two treatments the one that is closed
+    ∷ same (h_pli_transparent (decimal 49 0) (replicate 4 zero64) 0 0) (of_bits binary64 0x4048_8000_0000_0001)
+    ∷ same (h_pli_transparent one64 (one64 ∷ decimal 3 0 ∷ zero64 ∷ zero64 ∷ []) 2 1) (decimal 25 2)
     ∷ convection_is (decimal 60 0) Horizontal (decimal 25 1)
     ∷ convection_is (decimal 120 0) Horizontal (decimal 25 1)
     ∷ convection_is (decimal 599 1) Upwards (decimal 50 1)
