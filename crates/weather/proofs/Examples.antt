@@ -41,4 +41,4 @@ field_examples =
 
 pub file_example : FileExample
 unfolding weather_of weather_in weather_from line_of lines ended field_of tested decimal_of unsigned number value is temperature_range irradiance_range of_bits decimal round neg le
-file_example = record { line_1 = refl; line_2 = refl }
+file_example = record { line_1 = refl; line_2 = refl; seventh_first = refl; seventh_missing_first = refl; fifteenth_next = refl; sixteenth_last = refl }
