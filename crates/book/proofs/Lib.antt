@@ -1,4 +1,4 @@
--- Demand3 has what is claimed of the year book, the claim about the whole list first, Contracts its tie to the functions, VersionOrder the order of versions,
+-- WholeLists has what is claimed of the year book, the claim about the whole list first, Contracts its tie to the functions, VersionOrder the order of versions,
 -- Rests what a take-up makes of bytes behind a book, PlantLimits the hours with a limit, HouseP its example; Calls and TakeUp have the functions' returns case by
 -- case. RetiredAppends has the append of an hour with code 0, Refusals says which numbers and indices there are, Replies that each answer is some reply's,
 -- Errors that number and index name one error.
@@ -10,7 +10,7 @@ pub mod RetiredAppends
 pub mod Refusals
 mod Replies
 pub mod Errors
-pub mod Demand3
+pub mod WholeLists
 pub mod Rests
 pub mod VersionOrder
 pub mod PlantLimits

@@ -71,7 +71,7 @@ pub take_up_meets : (bytes : List ℕ) (held : CBookState) → answer_of (hem_ta
 take_up_meets bytes held = ap answer_of (take_up_is bytes held) ∙ answer_back _ (of_take_up (book_state_of held) bytes)
 
 -- ---- the contracts. e has what was lent as the call left it; `temps`, `nodes`, `count`, `used` and `last_version` are named as they were given and as they were left.
--- These statements stand in proofs/, since specs/ cannot name a function's contract; of the definitions the same is said in specs/Demands.antt
+-- These statements stand in proofs/, since specs/ cannot name a function's contract; of the definitions the same is said in specs/Engine.antt
 
 -- fn hem_begin(head, buf, temps, nodes, count, used, last_version)
 module _ (κs : Lfts 7) (a : Dens κs begin_kinds.ps) (r : ℕ) (e : AtExit (ended_of 7 begin_kinds.ps begin_kinds.r) κs) where

@@ -6,6 +6,7 @@ mod closeness;
 mod dense_part;
 mod error;
 mod lu;
+mod promised;
 mod rows;
 mod sums;
 mod system;
@@ -15,5 +16,6 @@ pub use closeness::{abs, close_in_demand, close_in_windows_test, isclose, within
 pub use dense_part::RightSide;
 pub use error::SolveError;
 pub use lu::Lu;
+pub use promised::promises;
 pub use sums::Sum2;
 pub use system::{Factors, Matrix, fast_solver};

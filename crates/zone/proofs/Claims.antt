@@ -21,4 +21,5 @@ pub mod NodeOrder
 pub mod HouseP
 pub mod Index
 pub mod FirstFault
+pub mod EachZone
 pub mod ForBook

@@ -13,3 +13,4 @@ pub mod Refusals
 pub mod Reasons
 pub mod NodeOrder
 pub mod HouseP
+pub mod EachZone

@@ -6,6 +6,7 @@ mod check;
 mod format;
 mod hour;
 mod physics;
+mod promised;
 mod record;
 
 pub use calls::start_up::{init_node_temps, start_up_lent};
@@ -22,6 +23,7 @@ pub use physics::balance::{
 };
 pub use physics::operative::operative_of;
 pub use physics::ventilation::{ach_req_to_reach_temperature, calc_vent_heat_transfer_coeff};
+pub use promised::promises;
 pub use record::building_element::{
     Coefficients, Element, ElementHour, HeatFlowDirection, Kind, SurfaceConvection, h_ci,
     h_pli_transparent, standard_coefficients,

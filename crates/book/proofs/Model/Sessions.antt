@@ -1,4 +1,4 @@
--- Demand 3: a session's events are the plain book's, and every list of calls that may be made has a session.
+-- Whole lists of calls: a session's events are the plain book's, and every list of calls that may be made has a session.
 use mathlib.Core.Path.{◌≡◌, refl, sym, ap, ◌∙◌, subst}
 use mathlib.Core.Bool.{Bool, true, false, ◌&&◌, cond}
 use mathlib.Core.List.{List, [], ◌∷◌, ◌++◌}
@@ -16,7 +16,7 @@ use Rattle.book.specs.Model.Plain.{Plain, empty, book, Snapshot, snapshot, WellF
 use Rattle.book.proofs.Model.Formed.{PlainFormed}
 use Rattle.book.specs.Model.Run.{Call, call_begin, call_append, call_take_up, call_cut, Calls, Event, plain_make, plain_event, plain_run}
 use Rattle.book.specs.Model.Session.{CodeTypes, CallSpec, HeldBook, after_begin, after_take_up, after_append, returned, Made, begins, takes_up, appends, cuts, Session, ends, calls}
-use Rattle.book.specs.Model.Claims.{Demand3, Admissible, SessionFrom}
+use Rattle.book.specs.Model.Claims.{WholeLists, Admissible, SessionFrom}
 use Rattle.book.proofs.Model.InterfaceLaws.{Laws}
 use Rattle.book.proofs.Model.CodeLaws.{AnswerOfCall, of_begin, of_append, of_take_up, CodeLaws}
 use Rattle.book.proofs.Model.Caller.{not_made_event, make_append, make_cut, make}
@@ -161,6 +161,6 @@ module _ (L : Interface) (T : CodeTypes L) (C : CodeLaws L T) where
     pub session_from : (head : List ℕ) (is : List L.Item) → WellFormed L head is → SessionFrom L T (book head is)
     session_from head is S = session_of (book head is) S
 
-    pub demand_3 : Demand3 L T
+    pub whole_lists : WholeLists L T
     unfolding snapshot
-    demand_3 cs es s = ((session_exactly cs es).0 s).1
+    whole_lists cs es s = ((session_exactly cs es).0 s).1

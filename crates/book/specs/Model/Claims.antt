@@ -1,5 +1,5 @@
 -- What is claimed of books, each claim as a type. They are proved in proofs/Model for all layers that meet the laws of proofs/Model/InterfaceLaws.antt,
--- and in proofs/Demand3.antt for the year book.
+-- and in proofs/WholeLists.antt for the year book.
 use Rattle.std.specs.Prelude.{◌≡◌, ◌↔◌, true, false, List, [], ◌∷◌, ◌++◌, map, ℕ, ◌≤◌, ◌<◌, length, take, drop}
 use Rattle.std.proofs.Math.Option.{none, some}
 use Rattle.zone.specs.Promise.{ok, refused}
@@ -14,10 +14,10 @@ use Rattle.book.specs.Model.Session.{CodeTypes, Session}
 module _ (L : Interface) where
   -- ---- lists of calls
 
-  -- Demand 3, "one claim about the whole list": for every list of calls that starts with no book, whatever the functions return, each answer, each lent
+  -- One claim about the whole list, not one for each call: for every list of calls that starts with no book, whatever the functions return, each answer, each lent
   -- buffer and the book held after each call are the plain book's.
-  abbrev pub Demand3 : CodeTypes L → Type 0
-  Demand3 T = (cs : Calls L) (es : List (Event L.State)) → Session L T none cs es → es ≡ plain_run L empty cs
+  abbrev pub WholeLists : CodeTypes L → Type 0
+  WholeLists T = (cs : Calls L) (es : List (Event L.State)) → Session L T none cs es → es ≡ plain_run L empty cs
 
   -- the calls of a run may all be made: each has an answer
   abbrev pub Admissible : List (Event L.State) → Type 0

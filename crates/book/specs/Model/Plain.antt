@@ -40,7 +40,7 @@ pub record Contents (L : Interface) : Type 0 where
   pub entries : List (Entry L)
 
 module _ (L : Interface) where
-  -- "per hour the entry that demand 2's hour step gives from the node temperatures before it": from index k and state s on
+  -- per hour the entry that the hour step gives from the node temperatures before it: from index k and state s on
   unfoldable pub entries_of : L.Zone → (k : ℕ) → L.State → List L.Item → Result (List (Entry L))
   entries_of z k s [] = ok []
   entries_of z k s (i ∷ is) =

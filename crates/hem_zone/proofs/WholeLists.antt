@@ -1,10 +1,10 @@
--- Demand 3 for hem_begin, hem_append and hem_take_up.
+-- Whole lists of calls of hem_begin, hem_append and hem_take_up.
 use mathlib.Core.List.{List}
 use Prim.Native.Nat.{ℕ}
 use Rattle.book.specs.Model.Plain.{empty, book, WellFormed}
-use Rattle.book.specs.Model.Claims.{Demand3, SessionFrom}
+use Rattle.book.specs.Model.Claims.{WholeLists, SessionFrom}
 use Rattle.book.specs.Year.{year_interface}
-use Rattle.book.proofs.Demand3.{demand_3_at, session_exactly_at, session_from_at}
+use Rattle.book.proofs.WholeLists.{whole_lists_at, session_exactly_at, session_from_at}
 use Rattle.hem_zone.specs.BookTypes.{c_types}
 use Rattle.hem_zone.proofs.BookTypes.{c_laws}
 
@@ -12,8 +12,8 @@ use Rattle.hem_zone.proofs.BookTypes.{c_laws}
 -- `hem_append` and `hem_take_up` returned and left in what they were lent, of which a session holds what their contracts ensure and nothing else
 -- (Contracts.antt): what each returned number stands for, each `temps`, `nodes`, `count`, `used` and `last_version`, each buffer, byte for byte, and the book held after
 -- each call are those of the plain book, which is fed the calls' arguments only.
-pub demand_3 : Demand3 year_interface c_types
-demand_3 = demand_3_at c_types c_laws
+pub whole_lists : WholeLists year_interface c_types
+whole_lists = whole_lists_at c_types c_laws
 
 -- The lists of calls that have a session are those whose calls may all be made, and the contracts of `hem_begin`, `hem_append` and `hem_take_up` leave
 -- each of these one list of events, the plain book's.

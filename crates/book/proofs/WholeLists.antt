@@ -1,9 +1,9 @@
--- Demand 3 for the year book, and what else is claimed of its books.
+-- Whole lists of calls on the year book, and what else is claimed of its books.
 use mathlib.Core.List.{List}
 use Prim.Native.Nat.{ℕ}
 use Rattle.book.specs.Model.Plain.{empty, book, WellFormed}
 use Rattle.book.specs.Model.Session.{CodeTypes}
-use Rattle.book.specs.Model.Claims.{Demand3, SessionFrom, Claims}
+use Rattle.book.specs.Model.Claims.{WholeLists, SessionFrom, Claims}
 use Rattle.book.specs.Year.{year_interface}
 use Rattle.book.specs.Answers.{rust_types}
 use Rattle.book.proofs.Replies.{rust_laws}
@@ -19,8 +19,8 @@ use Rattle.book.proofs.Laws.Interface.{year_laws}
 -- ---- lists of calls, at any types whose replies have every answer
 
 module _ (T : CodeTypes year_interface) (C : CodeLaws year_interface T) where
-  pub demand_3_at : Demand3 year_interface T
-  demand_3_at = Sessions.demand_3 year_interface T C year_laws
+  pub whole_lists_at : WholeLists year_interface T
+  whole_lists_at = Sessions.whole_lists year_interface T C year_laws
 
   pub session_exactly_at : SessionFrom year_interface T empty
   session_exactly_at = Sessions.session_exactly year_interface T C year_laws
@@ -30,12 +30,12 @@ module _ (T : CodeTypes year_interface) (C : CodeLaws year_interface T) where
 
 -- ---- and at those of `begin`, `append` and `take_up`
 
--- "Demand 3 is one claim about the whole list, not one for each call." For every list of calls that starts with no book, of begins, appends,
+-- One claim about the whole list, not one for each call. For every list of calls that starts with no book, of begins, appends,
 -- cuts and take-ups with whatever arguments, and for whatever `begin`, `append` and `take_up` returned and left in the lent buffers, of which
 -- a session holds what their contracts ensure and nothing else: each answer (acceptance or number and index, temperatures, last version, count, used length), each
 -- buffer, byte for byte, and the book held after each call are those of the plain book, which is fed the calls' arguments only.
-pub demand_3 : Demand3 year_interface rust_types
-demand_3 = demand_3_at rust_types rust_laws
+pub whole_lists : WholeLists year_interface rust_types
+whole_lists = whole_lists_at rust_types rust_laws
 
 -- The lists of calls that have a session are those whose calls may all be made, and the contracts of `begin`, `append` and `take_up` leave each of
 -- these one list of events, the plain book's. Any begin and any take-up may be made; "appends and cuts come once there is" a book; a cut lies from "the
