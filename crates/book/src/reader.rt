@@ -9,6 +9,7 @@ use crate::record::record_in;
 use zone::{Zone, read_temperatures};
 
 // The node temperatures with which an entry ends, into the first places of `temps`; 0.0 in every place where it is too short to hold them.
+#[tactic(auto, using(crate::proofs::Laws::Reader::read_short, crate::proofs::Laws::Reader::read_long))]
 fn read_state(layout: &EntryLayout<'_>, entry: &[u8], temps: &mut [f64; 121])
     ensures { temps.new ≡ read_temperatures layout.now.zone.now entry.now temps.old }
 {

@@ -32,6 +32,7 @@ const SECOND_RATE: usize = 110;
 const LEAST_ENTRY: usize = 118;
 
 // An entry, into as many bytes, its fixed rate twice.
+#[tactic(auto, using(crate::proofs::Laws::PutConverted::put_fixed))]
 fn put_converted(entry: &[u8], to: &mut [u8])
     requires { (length to.old ≡ length entry.now) × (least_entry ≤ length entry.now) }
     ensures { to.new ≡ converted_entry entry.now }

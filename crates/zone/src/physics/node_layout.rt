@@ -6,6 +6,7 @@ ghost use Rattle.zone.specs.Physics.NodeLayout.{copy_nodes, to_slots, to_nodes};
 use crate::record::building_element::number_of_nodes;
 use crate::record::zone_record::Zone;
 
+#[tactic(auto, using(crate::proofs::Laws::Copies::copied_is))]
 fn copy_nodes(k: usize, from: usize, to: usize, a: &[f64; 121], b: &mut [f64; 121])
     requires { (from + k ≤ 121) × (to + k ≤ 121) }
     ensures { b.new ≡ copy_nodes k from to a.now b.old }
