@@ -1,6 +1,5 @@
 // Reading: past the end every byte is 0, and a part is none.
-ghost use Rattle.std.specs.Prelude.{◌≡◌, ◌+◌, ◌<◌, ◌≤◌, length, slice_index, slice_range, from_bits, MatchOption};
-ghost use Rattle.std.specs.Float.Ieee.{binary64};
+ghost use Rattle.std.specs.Prelude.{◌≡◌, ◌+◌, ◌<◌, ◌≤◌, length, slice_index, slice_range, MatchOption};
 ghost use Rattle.std.specs.Int.{w16, w32, w64, from_be_bytes};
 ghost use Rattle.big_endian.specs.Bytes.{bytes_from, f64_from, f64s_from};
 

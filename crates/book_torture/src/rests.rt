@@ -1,7 +1,7 @@
 // Bytes behind a small book that are no entry: dropped where they are too few for their version byte, else a false entry.
 use crate::expected::{expected_of_rest, is_answered};
 use crate::layout::{FRONT, LONG_ENTRY, VERSION_PLACE};
-use crate::small_book::{Book, CUT_OFF, HOURS, PLAN, ROOM, THREE, TWO};
+use crate::small_book::{Book, CUT_OFF, HOURS, ROOM, THREE, TWO};
 use crate::tally::Tally;
 use crate::version::{VERSION_BYTES, Version};
 use big_endian::{put_byte, put_bytes};

@@ -2,7 +2,7 @@
 ghost use Rattle.std.specs.Prelude.{◌≡◌};
 ghost use Rattle.book.specs.Answers.{given_of, answer_of};
 ghost use Rattle.hem_zone.specs.Inner.Answers.{by_answer, held_in};
-ghost use Rattle.hem_zone.specs.Book.{c_book_state, book_state_of, c_book_state_of, hem_begin_outcome, hem_append_outcome, hem_take_up_outcome};
+ghost use Rattle.hem_zone.specs.Book.{c_book_state, book_state_of, hem_begin_outcome, hem_append_outcome, hem_take_up_outcome};
 
 use crate::arrays::state_in;
 use crate::code::error_code;

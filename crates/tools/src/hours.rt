@@ -1,5 +1,4 @@
 // The hours of a book, one after the other.
-ghost use Rattle.std.specs.Prelude.{◌≡◌};
 ghost use Rattle.std.specs.Iterator.{YieldsFirst, item_count};
 ghost use Rattle.tools.specs.Inner.Hours.{hours_left};
 

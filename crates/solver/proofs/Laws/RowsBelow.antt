@@ -8,9 +8,9 @@ use lib.ListN.{length, take, drop, get_or, set, length-take, length-drop, drop_o
 use lib.Seq.{take_all}
 use borrow.Rule.Slice.PartMut.{put_mid}
 use Rattle.std.proofs.lemmas.List.{get_or-append_right, set-append_right, take-append-drop, append-nil}
-use Rattle.solver.specs.F64.{◌+ᶠ◌, ◌*ᶠ◌}
+use Rattle.solver.specs.F64.{◌*ᶠ◌}
 use Rattle.solver.specs.Repeat.{repeat_of, repeat}
-use Rattle.solver.specs.Rows.{entry, set_entry, eliminate_entry, eliminate_row_by, eliminate_row}
+use Rattle.solver.specs.Rows.{entry, set_entry, eliminate_entry, eliminate_row}
 
 module _ (xs : List Float) (k : ℕ) (long : length xs ≡ 25 * k) where
   entry_below : (i j : ℕ) (m : List Float) → entry (k + i) j (xs ++ m) ≡ entry i j m

@@ -7,7 +7,7 @@
 use crate::bytes::{Element, Hour, head_of};
 use crate::house_p::house::{HEAD, hour_of, start};
 use crate::limits::{MOST, Meeting};
-use crate::refusal::{Answer, Cause, Refusal};
+use crate::refusal::{Answer, Refusal};
 use crate::table::{decimals, row};
 use crate::weather_lines::file::File;
 use crate::weather_lines::read::weather_of;

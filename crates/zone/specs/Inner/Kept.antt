@@ -17,7 +17,7 @@ use Rattle.zone.specs.declared.record.building_element.HeatFlowDirection.{HeatFl
 use Rattle.zone.specs.declared.record.building_element.HeatFlowDirection.TheVariants.{Horizontal}
 use Rattle.zone.specs.declared.format.conditions.Conditions.{Conditions}
 use Rattle.zone.specs.declared.record.zone_record.Zone.{Zone}
-use Rattle.zone.specs.Record.BuildingElement.{is_direction, h_ci_of, standard_coefficients}
+use Rattle.zone.specs.Record.BuildingElement.{is_direction, h_ci_of}
 use Rattle.zone.specs.Physics.Slots.{air, element, element_hour, with_terms}
 use Rattle.zone.specs.Physics.Equations.{rows_of}
 use Rattle.zone.specs.Physics.System.{area_of, two_nodes_of, area_el_total, share_of, direction_at, c_int}

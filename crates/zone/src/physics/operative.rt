@@ -1,12 +1,12 @@
 // The operative temperature.
-ghost use Rattle.std.specs.Prelude.{◌≡◌, ◌≤◌, length};
+ghost use Rattle.std.specs.Prelude.{◌≡◌, ◌≤◌};
 ghost use Rattle.solver.specs.Sums.{sum2, terms};
 ghost use Rattle.solver.specs.FastSolver.{at_most24};
 ghost use Rattle.zone.specs.Physics.System.{area_of, zone_two_nodes};
 ghost use Rattle.zone.specs.Physics.NodeLayout.{first_node};
 ghost use Rattle.zone.specs.Physics.TempOperative.{mean_of};
 ghost use Rattle.zone.specs.Inner.Assembly.{at};
-ghost use Rattle.zone.specs.Inner.Operative.{radiant_at, radiant_of_nodes, temp_operative_of, areas_of};
+ghost use Rattle.zone.specs.Inner.Operative.{radiant_of_nodes, temp_operative_of, areas_of};
 ghost use Rattle.zone.specs.Calls.State.{operative_of};
 
 use crate::physics::matrix::area_total;

@@ -1,5 +1,5 @@
 // A building element: its record, and what is worked out from it alone.
-ghost use Rattle.std.specs.Prelude.{◌≡◌, min, ◌≤◌};
+ghost use Rattle.std.specs.Prelude.{◌≡◌};
 ghost use Rattle.zone.specs.Record.BuildingElement.{
   heat_flow_direction,
   h_ci_of,

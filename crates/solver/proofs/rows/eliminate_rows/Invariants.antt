@@ -1,4 +1,4 @@
-use Rattle.std.proofs.Common.{◌≡◌, ◌+◌}
+use Rattle.std.proofs.Common.{◌≡◌}
 use Rattle.solver.specs.Repeat.{repeat}
 use Rattle.solver.specs.Rows.{eliminate_row}
 use Rattle.solver.proofs.rows.eliminate_rows.Given as goal
