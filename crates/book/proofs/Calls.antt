@@ -1,16 +1,9 @@
 -- What begin, append and take-up answer at each return, from the tests and the callees' answers on the way.
+use Rattle.std.proofs.Common.{◌≡◌, refl, sym, ap, subst, ◌∙◌, Bool, true, false, List, ◌++◌, append_assoc, ℕ, ◌+◌, ◌≤◌, ◌<◌, arith, length, take, drop, length-append, length-take-le, drop-drop, T, leb, ltb, leb-true, le-leb, lt-ltb, le-ltb}
 use Rattle.std.specs.Prelude.{Ok, Err, OnErr}
 use Rattle.std.specs.Prelude as Rust
-use mathlib.Core.Path.{◌≡◌, refl, sym, ap, subst, ◌∙◌}
-use mathlib.Core.Bool.{Bool, true, false}
-use mathlib.Core.List.{List, ◌++◌, append_assoc}
-use Prim.Native.Nat.{ℕ, ◌+◌, ◌≤◌, ◌<◌}
-use native.Mathlib.Omega.{arith}
-use lib.ListN.{length, take, drop, length-append}
-use lib.Seq.{length-take-le, drop-drop}
-use lib.Dec.{T, leb, ltb}
 use lib.Ieee.{binary64, fits}
-use borrow.Author.Tests.{leb-true, le-leb, lt-ltb, lt-leb, le-ltb}
+use borrow.Author.Tests.{lt-leb}
 use Rattle.zone.specs.Promise.{Result, ok, refused, bind, require}
 use Rattle.zone.specs.Record.BuildingElement.{standard_coefficients}
 use Rattle.zone.specs.Format.Head.{ReadHead}

@@ -1,10 +1,9 @@
 -- What the three functions' own contracts ensure is what a session holds of their calls, and they ask nothing: a contract that said less, or asked
 -- something, would be refused here. These statements stand in proofs/, since specs/ cannot name a function's contract.
-use mathlib.Core.Path.{◌≡◌, refl}
+use Rattle.std.proofs.Common.{◌≡◌, refl, rules}
 use contract.Lifetimes.{Lfts}
 use denote.Triple.Clauses.{AtExit}
 use borrow.Fn.Kinds.{Dens, ended_of}
-use borrow.Author.Rules.{rules}
 use Rattle.std.specs.Prelude.{Ok, Err}
 use Rattle.std.specs.Prelude as Rust
 use Rattle.book.specs.declared.book_error.BookError.{BookError}

@@ -1,8 +1,5 @@
 -- A refusal's number and index name one error.
-use Prim.Native.Nat.{ℕ, ◌-◌}
-use mathlib.Core.Path.{◌≡◌, refl, sym, ap, ◌∙◌}
-use mathlib.Core.List.{List, [], ◌∷◌}
-use lib.ListN.{get_or}
+use Rattle.std.proofs.Common.{ℕ, ◌-◌, ◌≡◌, refl, sym, ap, ◌∙◌, List, [], ◌∷◌, get_or}
 use Rattle.zone.specs.Promise.{Divisor, Temperature}
 use Rattle.zone.specs.declared.record.refusal.Refusal.{Refusal}
 use Rattle.book.specs.Answers.{number_of, index_of}

@@ -1,13 +1,7 @@
 -- House P's book, from what the zone computes for House P.
-use mathlib.Core.Path.{◌≡◌, refl, sym, ap, subst, ◌∙◌}
-use mathlib.Core.Bool.{true}
-use mathlib.Core.List.{List, [], ◌∷◌, ◌++◌, append-nil}
-use Prim.Native.Nat.{ℕ, ◌+◌, ◌≤◌}
-use native.Mathlib.Omega.{arith}
-use lib.ListN.{length, take, drop, length-append}
+use Rattle.std.proofs.Common.{◌≡◌, refl, sym, ap, subst, ◌∙◌, true, List, [], ◌∷◌, ◌++◌, append-nil, ℕ, ◌+◌, ◌≤◌, arith, length, take, drop, length-append, le-leb, T}
 use lib.Seq.{take-length}
-use borrow.Author.Tests.{le-leb, lt-leb}
-use lib.Dec.{T}
+use borrow.Author.Tests.{lt-leb}
 use lib.Ieee.{binary64, fits}
 use lib.Ieee.Bits.{of_bits-fits}
 use Rattle.zone.specs.Promise.{ok, zero64}

@@ -1,12 +1,5 @@
 -- An append's whole outcome by the hour step with the call's own limits, and what follows.
-use Prim.Native.Nat.{ℕ, ◌+◌, ◌*◌}
-use mathlib.Core.Path.{◌≡◌, refl, sym, ap, ◌∙◌}
-use mathlib.Core.Logic.{◌⊎◌, inl, inr}
-use mathlib.Core.Bool.{Bool, true, false}
-use mathlib.Core.List.{List, ◌++◌}
-use native.Mathlib.Omega.{arith}
-use lib.Dec.{leb, ltb}
-use lib.ListN.{length}
+use Rattle.std.proofs.Common.{ℕ, ◌+◌, ◌*◌, ◌≡◌, refl, sym, ap, ◌∙◌, ◌⊎◌, inl, inr, Bool, true, false, List, ◌++◌, arith, leb, ltb, length}
 use borrow.Author.Tests.{lt-leb}
 use Rattle.zone.specs.Promise.{Result, ok, refused, bind, require, require_at}
 use Rattle.zone.proofs.Promise.{bind_ok, ok_inj}

@@ -1,9 +1,5 @@
 -- Which numbers and indices begin, append and take-up are refused with.
-use Prim.Native.Nat.{ℕ}
-use mathlib.Core.Path.{◌≡◌}
-use mathlib.Core.Bool.{false}
-use mathlib.Core.List.{List}
-use lib.Dec.{leb}
+use Rattle.std.proofs.Common.{ℕ, ◌≡◌, false, List, leb}
 use Rattle.zone.specs.Promise.{RefusesOnly, accepts}
 use Rattle.zone.proofs.Promise.{and_true, because, bind_refuses, refuses_also}
 use Rattle.zone.specs.Calls.Hour.{hour_version}

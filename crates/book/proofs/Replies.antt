@@ -1,8 +1,6 @@
 -- Every answer that begin, append and take-up give is some reply's, since every refusal is one of the errors that their replies have: family by family.
+use Rattle.std.proofs.Common.{ℕ, ◌≡◌, refl, List}
 use Rattle.std.specs.Prelude.{Ok, Err}
-use Prim.Native.Nat.{ℕ}
-use mathlib.Core.Path.{◌≡◌, refl}
-use mathlib.Core.List.{List}
 use Rattle.zone.specs.Promise.{Result, RefusesOnly, accepts, refuses, Divisor, Temperature, SolveRefusal, solve_divisor, solve_temperature}
 use Rattle.zone.specs.Claims.HeadRefusals as Head
 use Rattle.zone.specs.Claims.Refusals as Zone

@@ -1,13 +1,6 @@
 -- What a take-up makes of bytes behind a book's own.
-use Prim.Native.Nat.{ℕ, ◌≤◌, ◌<◌}
-use mathlib.Core.Path.{◌≡◌, refl, sym, ap, ◌∙◌}
-use mathlib.Core.Logic.{◌≢◌, ◌⊎◌, inl, inr}
-use mathlib.Core.Bool.{Bool, true, false}
-use mathlib.Core.List.{List, [], append-nil}
+use Rattle.std.proofs.Common.{ℕ, ◌≤◌, ◌<◌, ◌≡◌, refl, sym, ap, ◌∙◌, ◌≢◌, ◌⊎◌, inl, inr, Bool, true, false, List, [], append-nil, arith, length, take, drop, take-append-drop, length-take-le, get_or-take, take-take}
 use mathlib.Core.Option.{some}
-use native.Mathlib.Omega.{arith}
-use lib.ListN.{length, take, drop, take-append-drop}
-use lib.Seq.{length-take-le, get_or-take, take-take}
 use Rattle.zone.specs.Promise.{Result, ok, refused}
 use Rattle.zone.specs.Calls.Hour.{hour_version}
 use Rattle.zone.specs.Format.Bytes.{bytes_of}

@@ -1,11 +1,5 @@
 -- An append of an hour with code 0 is refused, also where a cut lost the hour: the claims of specs/RetiredAppends.antt, proved.
-use Prim.Native.Nat.{ℕ, ◌≤◌, ◌<◌}
-use mathlib.Core.Path.{◌≡◌, refl, sym, ap, subst, ◌∙◌}
-use mathlib.Core.Bool.{true}
-use mathlib.Core.List.{List, [], ◌∷◌, ◌++◌}
-use lib.Dec.{leb}
-use lib.ListN.{length}
-use borrow.Author.Tests.{le-leb, lt-ltb}
+use Rattle.std.proofs.Common.{ℕ, ◌≤◌, ◌<◌, ◌≡◌, refl, sym, ap, subst, ◌∙◌, true, List, [], ◌∷◌, ◌++◌, leb, length, le-leb, lt-ltb}
 use Rattle.zone.specs.Promise.{ok, refused}
 use Rattle.zone.proofs.Promise.{and_true, bind_ok, ok_inj, conditions_length_lem, hour_version_bounds, hour_tested}
 use Rattle.zone.specs.Record.Numbers.{conditions_code}

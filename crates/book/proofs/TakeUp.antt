@@ -1,16 +1,9 @@
 -- What take-up's functions answer at each return: one entry, the loop over the whole entries, and the call.
+use Rattle.std.proofs.Common.{◌≡◌, refl, sym, ap, subst, ◌∙◌, true, false, List, ◌∷◌, ◌++◌, ℕ, ◌+◌, ◌-◌, ◌≤◌, ◌<◌, arith, length, take, drop, length-drop, length-take-le, take-add, drop-drop, lt-ltb, le-ltb, leb}
 use Rattle.std.specs.Prelude.{None, Some, Ok, Err}
 use Rattle.std.specs.Prelude as Rust
-use mathlib.Core.Path.{◌≡◌, refl, sym, ap, subst, ◌∙◌}
-use mathlib.Core.Bool.{true, false}
-use mathlib.Core.List.{List, ◌∷◌, ◌++◌}
 use mathlib.Core.Option.{some}
-use Prim.Native.Nat.{ℕ, ◌+◌, ◌-◌, ◌≤◌, ◌<◌}
 use native.Mathlib.Nat.{add-sub_cancel_left}
-use native.Mathlib.Omega.{arith}
-use lib.ListN.{length, take, drop, length-drop}
-use lib.Seq.{length-take-le, take-add, drop-drop}
-use borrow.Author.Tests.{lt-ltb, le-ltb}
 use Rattle.zone.specs.Promise.{Result, ok, refused}
 use Rattle.zone.specs.Record.BuildingElement.{standard_coefficients}
 use Rattle.zone.specs.Format.Head.{ReadHead}
@@ -20,7 +13,6 @@ use Rattle.zone.specs.declared.record.zone_record.Zone.{Zone}
 use Rattle.book.specs.declared.book_error.BookError.{BookError}
 use Rattle.zone.proofs.Promise.{and_true}
 use Rattle.zone.specs.Calls.Hour.{hour_version}
-use lib.Dec.{leb}
 use Rattle.zone.specs.Inner.NextHour.{next_hour}
 use Rattle.zone.specs.Calls.StartUp.{init_node_temps}
 use Rattle.zone.specs.Inner.NextHour.{next_hour_reply}

@@ -1,14 +1,8 @@
 -- Versions never fall in a well-formed book, the last is handed back, and a version that may not follow is 18, at an append and at a take-up.
-use Prim.Native.Nat.{ℕ, zero, suc, ◌+◌, ◌≤◌, ◌<◌}
-use mathlib.Core.Path.{◌≡◌, refl, sym, ap, subst, ◌∙◌}
-use mathlib.Core.Logic.{◌⊎◌, inl, inr}
-use mathlib.Core.Bool.{Bool, true, false}
-use mathlib.Core.List.{List, [], ◌∷◌, ◌++◌}
+use Rattle.std.proofs.Common.{ℕ, zero, suc, ◌+◌, ◌≤◌, ◌<◌, ◌≡◌, refl, sym, ap, subst, ◌∙◌, ◌⊎◌, inl, inr, Bool, true, false, List, [], ◌∷◌, ◌++◌, arith, leb, length, length-append, leb-true, leb-false, lt-ltb}
 use mathlib.Core.Option.{some}
-use native.Mathlib.Omega.{arith}
-use lib.Dec.{leb}
-use lib.ListN.{length, length-append, get_or-append}
-use borrow.Author.Tests.{leb-true, leb-false, lt-leb, lt-ltb}
+use lib.ListN.{get_or-append}
+use borrow.Author.Tests.{lt-leb}
 use Rattle.zone.specs.Promise.{RefusesOnly, ok, refused}
 use Rattle.zone.proofs.Promise.{and_true, bind_ok, hour_version_bounds, hour_version_not, ok_inj, refusal_by, refuses_also}
 use Rattle.zone.specs.Record.BuildingElement.{standard_coefficients}

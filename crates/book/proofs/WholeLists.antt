@@ -1,6 +1,5 @@
 -- Whole lists of calls on the year book, and what else is claimed of its books.
-use mathlib.Core.List.{List}
-use Prim.Native.Nat.{ℕ}
+use Rattle.std.proofs.Common.{List, ℕ}
 use Rattle.book.specs.Model.Plain.{empty, book, WellFormed}
 use Rattle.book.specs.Model.Session.{CodeTypes}
 use Rattle.book.specs.Model.Claims.{WholeLists, SessionFrom, Claims}

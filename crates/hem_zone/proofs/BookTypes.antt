@@ -1,8 +1,5 @@
 -- Every answer that begin, append and take-up give is read back from what the C functions return and leave.
-use Prim.Native.Nat.{ℕ, zero, suc, ◌%◌, ◌/◌, ◌≤◌}
-use mathlib.Core.Path.{◌≡◌, refl}
-use mathlib.Core.List.{List}
-use native.Mathlib.Omega.{arith}
+use Rattle.std.proofs.Common.{ℕ, zero, suc, ◌%◌, ◌/◌, ◌≤◌, ◌≡◌, refl, List, arith}
 use Rattle.zone.specs.Promise.{Result, RefusesOnly, accepts, refuses}
 use Rattle.book.specs.Model.Calls as Book
 use Rattle.book.specs.Model.Claims.{HandedOn}

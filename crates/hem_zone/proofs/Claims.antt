@@ -1,8 +1,5 @@
 -- The claims of specs/Claims.antt, proved: every refusal has a number from 1 to 24 and an index of at most 8,783, so nothing of it is cut off.
-use Prim.Native.Nat.{ℕ, ◌+◌, ◌*◌, ◌%◌, ◌/◌}
-use mathlib.Core.Path.{◌≡◌, refl, ap}
-use mathlib.Core.List.{List, []}
-use native.Mathlib.Omega.{arith}
+use Rattle.std.proofs.Common.{ℕ, ◌+◌, ◌*◌, ◌%◌, ◌/◌, ◌≡◌, refl, ap, List, [], arith}
 use Rattle.zone.specs.Promise.{Result, RefusesOnly, accepts, refuses}
 use Rattle.zone.proofs.Promise.{bind_refuses, refuses_also}
 use Rattle.zone.specs.declared.record.zone_record.Zone.{Zone}

@@ -1,13 +1,9 @@
 -- What the contracts of hem_begin, hem_append and hem_take_up ensure is what a session holds of their calls: a contract that said less would be
 -- refused here.
-use Prim.Native.Nat.{ℕ}
-use mathlib.Core.Path.{◌≡◌, refl, ap, ◌∙◌}
-use mathlib.Core.List.{List, ◌++◌}
-use lib.ListN.{take}
+use Rattle.std.proofs.Common.{ℕ, ◌≡◌, refl, ap, ◌∙◌, List, ◌++◌, take, Float}
 use contract.Lifetimes.{Lfts}
 use denote.Triple.Clauses.{AtExit}
 use borrow.Fn.Kinds.{Dens, ended_of}
-use lib.Ieee.{Float}
 use Rattle.zone.specs.Promise.{Result, ok, refused, bind}
 use Rattle.zone.specs.Format.Head.{ReadHead, head_of}
 use Rattle.zone.proofs.Claims.Head.{head_then}

@@ -1,7 +1,7 @@
 -- What is claimed of the engine as a whole (specs/Engine.antt), from the theorems that prove it.
+use Rattle.std.proofs.Common.{refl}
 use Rattle.zone.proofs.Claims.EachZone.{each_zone}
 use Rattle.zone.proofs.Claims.FirstFault.{first_faults}
-use mathlib.Core.Path.{refl}
 use Rattle.zone.proofs.Claims.NodeOrder.{node_order}
 use Rattle.zone.proofs.Claims.HouseP.{house_p_lem, claim}
 use Rattle.book.proofs.WholeLists.{year_claims}

@@ -1,8 +1,5 @@
 -- What the calls return and leave, from the structure of the head that they are given, and from what the book answers.
-use Prim.Native.Nat.{ℕ}
-use mathlib.Core.Path.{◌≡◌, refl, ap}
-use mathlib.Core.List.{List}
-use lib.Ieee.{Float}
+use Rattle.std.proofs.Common.{ℕ, ◌≡◌, refl, ap, List, Float}
 use Rattle.zone.specs.Promise.{Result, ok, refused, bind}
 use Rattle.zone.specs.declared.record.zone_record.Zone.{Zone}
 use Rattle.zone.specs.declared.format.conditions.FixedRate.TheVariants.{Retired}

@@ -1,7 +1,7 @@
 -- The contracts of the fifteen functions, tied to their definitions. A contract speaks of references: a has the arguments as they were given, e what
 -- was lent as the call left it, each by its place among the parameters; `now` is what stands behind a reference.
+use Rattle.std.proofs.Common.{rules}
 use contract.Lifetimes.{Lfts}
-use borrow.Author.Rules.{rules}
 use Rattle.hem_zone.specs.Zone.{hem_head_outcome, hem_start_up_outcome, hem_operative_outcome, hem_demand_outcome, hem_update_outcome, hem_hour_step_outcome}
 use Rattle.hem_zone.specs.Why.{hem_why_outcome}
 use Rattle.hem_zone.specs.Book.{c_book_state, hem_begin_outcome, hem_append_outcome, hem_take_up_outcome}

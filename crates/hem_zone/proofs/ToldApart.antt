@@ -1,7 +1,5 @@
 -- What is returned tells refusals apart.
-use Prim.Native.Nat.{ℕ, ◌+◌, ◌*◌}
-use mathlib.Core.Path.{◌≡◌}
-use native.Mathlib.Omega.{arith}
+use Rattle.std.proofs.Common.{ℕ, ◌+◌, ◌*◌, ◌≡◌, arith}
 use Rattle.hem_zone.specs.Code.{refusal_code}
 use Rattle.hem_zone.specs.Claims.{InAnswer, ToldApart}
 

@@ -1,6 +1,5 @@
 -- Whole lists of calls of hem_begin, hem_append and hem_take_up.
-use mathlib.Core.List.{List}
-use Prim.Native.Nat.{ℕ}
+use Rattle.std.proofs.Common.{List, ℕ}
 use Rattle.book.specs.Model.Plain.{empty, book, WellFormed}
 use Rattle.book.specs.Model.Claims.{WholeLists, SessionFrom}
 use Rattle.book.specs.Year.{year_interface}

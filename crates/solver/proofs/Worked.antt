@@ -1,9 +1,6 @@
 -- Worked examples, by computation.
-use mathlib.Core.Path.{◌≡◌, refl}
-use mathlib.Core.Bool.{true, false}
-use mathlib.Core.List.{List, [], ◌∷◌}
-use Prim.Native.Nat.{◌^◌}
-use lib.Ieee.{Float, binary64, add, sub, mul, div, neg, lt, le, eq, of_bits, to_bits}
+use Rattle.std.proofs.Common.{◌≡◌, refl, true, false, List, [], ◌∷◌, ◌^◌, Float}
+use lib.Ieee.{binary64, add, sub, mul, div, neg, lt, le, eq, of_bits, to_bits}
 use Rattle.solver.specs.F64.{◌+ᶠ◌, decimal, zero64}
 use Rattle.solver.specs.Closeness.{abs, is_finite, relative_eq, close_in_demand, close_in_windows_test, valid_divisor, within_state_bound}
 use Rattle.solver.specs.Repeat.{repeat_of, repeat_down, all_of}

@@ -1,13 +1,9 @@
 -- The claims of specs/Claims.antt, proved.
-use Prim.Native.Nat.{ℕ, zero, suc, ◌-◌, ◌<◌}
-use mathlib.Core.Path.{◌≡◌, refl, sym, ap, ◌∙◌}
-use mathlib.Core.Bool.{Bool, true, false, not, ◌&&◌}
-use mathlib.Core.List.{List, [], ◌∷◌, map}
+use Rattle.std.proofs.Common.{ℕ, zero, suc, ◌-◌, ◌<◌, ◌≡◌, refl, sym, ap, ◌∙◌, Bool, true, false, not, ◌&&◌, List, [], ◌∷◌, map, arith, length, get_or, Float}
 use Rattle.std.specs.Prelude.{None, Some}
 use Rattle.std.proofs.lemmas.Option.{none-some}
-use native.Mathlib.Omega.{arith}
-use lib.ListN.{length, length-map, get_or}
-use lib.Ieee.{Float, nan, neg, le, lt}
+use lib.ListN.{length-map}
+use lib.Ieee.{nan, neg, le, lt}
 use Rattle.solver.specs.F64.{decimal}
 use Rattle.solver.specs.Closeness.{within_state_bound}
 use Rattle.zone.specs.Promise.{ok}

@@ -1,6 +1,5 @@
 -- A refusal's number and index name one error: the book's go to 19.
-use mathlib.Core.Path.{◌≡◌, refl, sym, ap, ◌∙◌}
-use native.Mathlib.Omega.{arith}
+use Rattle.std.proofs.Common.{◌≡◌, refl, sym, ap, ◌∙◌, arith}
 use Rattle.book.specs.Answers.{number_of, index_of}
 use Rattle.book.specs.declared.book_error.BookError.{BookError}
 use Rattle.book.proofs.Errors as Book

@@ -1,12 +1,6 @@
 -- Which numbers and indices the questions and the converter are refused with.
-use Prim.Native.Nat.{ℕ}
-use mathlib.Core.Path.{◌≡◌, refl, sym}
-use mathlib.Core.Bool.{not}
-use mathlib.Core.List.{List, map}
-use lib.ListN.{length, drop}
-use lib.Dec.{leb}
+use Rattle.std.proofs.Common.{ℕ, ◌≡◌, refl, sym, not, List, map, length, drop, leb, Float}
 use Rattle.std.specs.List.{list_all}
-use lib.Ieee.{Float}
 use Rattle.zone.specs.Promise.{Result, ok, refused, RefusesOnly, accepts, refuses}
 use Rattle.zone.proofs.Promise.{because, bind_ok, bind_refuses, refuses_also}
 use Rattle.zone.specs.Format.Head.{head_of}

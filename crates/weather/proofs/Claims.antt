@@ -1,14 +1,8 @@
 -- The claims of specs/Claims.antt, proved.
-use Prim.Native.Nat.{ℕ, suc, ◌+◌, ◌≤◌, ◌<◌}
-use mathlib.Core.Path.{◌≡◌, refl, sym, ap, ◌∙◌}
-use mathlib.Core.Bool.{Bool, true, not}
-use mathlib.Core.List.{List, [], ◌∷◌, ◌++◌, append_assoc}
+use Rattle.std.proofs.Common.{ℕ, suc, ◌+◌, ◌≤◌, ◌<◌, ◌≡◌, refl, sym, ap, ◌∙◌, Bool, true, not, List, [], ◌∷◌, ◌++◌, append_assoc, arith, length, get_or, replicate, leb, Float}
 use Rattle.std.specs.Prelude.{Option, Some, None, slice_get}
 use Rattle.std.proofs.lemmas.Option.{slice_get-get_or, slice_get_past}
-use native.Mathlib.Omega.{arith}
-use lib.ListN.{length, get_or, replicate}
-use lib.Dec.{leb}
-use lib.Ieee.{Float, binary64, of_bits, round}
+use lib.Ieee.{binary64, of_bits, round}
 use Rattle.zone.specs.Promise.{ok, refused, bind, require}
 use Rattle.zone.proofs.Promise.{bind_ok, require_ok, ok_inj}
 use Rattle.zone.specs.Check.Ranges.{temperature_range, irradiance_range}

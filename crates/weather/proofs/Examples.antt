@@ -1,5 +1,5 @@
 -- The examples of specs/Examples.antt, calculated.
-use mathlib.Core.Path.{refl}
+use Rattle.std.proofs.Common.{refl}
 use lib.Ieee.{of_bits, neg, round, le}
 use Rattle.solver.specs.F64.{decimal}
 use Rattle.zone.specs.Check.Ranges.{temperature_range, irradiance_range}

@@ -1,11 +1,6 @@
 -- Which numbers and indices the weather of a line is refused with.
-use Prim.Native.Nat.{ℕ}
-use mathlib.Core.Bool.{Bool, not}
-use mathlib.Core.List.{List}
+use Rattle.std.proofs.Common.{ℕ, Bool, not, List, length, leb, Float}
 use Rattle.std.specs.Prelude.{Option, Some, None}
-use lib.ListN.{length}
-use lib.Dec.{leb}
-use lib.Ieee.{Float}
 use Rattle.zone.specs.Promise.{RefusesOnly, accepts, refuses}
 use Rattle.zone.proofs.Promise.{because, bind_refuses}
 use Rattle.zone.specs.Check.Ranges.{temperature_range, irradiance_range}

@@ -1,9 +1,5 @@
 -- What is known of an accepted hour.
-use Prim.Native.Nat.{ℕ, ◌-◌, ◌≤◌}
-use mathlib.Core.Path.{◌≡◌}
-use mathlib.Core.List.{List}
-use native.Mathlib.Omega.{arith}
-use lib.ListN.{length, length-take}
+use Rattle.std.proofs.Common.{ℕ, ◌-◌, ◌≤◌, ◌≡◌, List, arith, length, length-take}
 use Rattle.zone.specs.Promise.{ok}
 use Rattle.zone.specs.Record.BuildingElement.{standard_coefficients, node_count}
 use Rattle.zone.specs.declared.record.zone_record.Zone.{Zone}

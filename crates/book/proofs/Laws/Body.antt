@@ -1,12 +1,6 @@
 -- The two parts of an hour's body: its conditions, and its limits behind them.
-use Prim.Native.Nat.{ℕ, ◌-◌}
-use mathlib.Core.Path.{◌≡◌, refl, sym, ap, ◌∙◌}
-use mathlib.Core.Bool.{Bool, true, false, cond}
-use mathlib.Core.List.{List, [], ◌++◌}
-use native.Mathlib.Omega.{arith}
-use lib.Dec.{T}
-use lib.ListN.{length, take, drop, length-append}
-use lib.Seq.{take_at, drop_at, take-length}
+use Rattle.std.proofs.Common.{ℕ, ◌-◌, ◌≡◌, refl, sym, ap, ◌∙◌, Bool, true, false, cond, List, [], ◌++◌, arith, T, length, take, drop, length-append, take_at, drop_at}
+use lib.Seq.{take-length}
 use lib.Ieee.{binary64, fits}
 use Rattle.zone.specs.Calls.Hour.{has_limits, hour_step}
 use Rattle.zone.specs.Record.BuildingElement.{standard_coefficients}

@@ -1,13 +1,8 @@
 -- The length of an entry, and the version and the body read back from it.
+use Rattle.std.proofs.Common.{ℕ, ◌≤◌, ◌<◌, ◌≡◌, ap, ◌∙◌, Bool, true, false, cond, List, [], ◌∷◌, ◌++◌, append_assoc, arith, length, take, get_or, length-append, length-take, take_at, drop_at, get_or-append-add, Float, to_bits}
 use Rattle.std.specs.Prelude.{None, Option, Some}
-use Prim.Native.Nat.{ℕ, ◌≤◌, ◌<◌}
-use mathlib.Core.Path.{◌≡◌, ap, ◌∙◌}
-use mathlib.Core.Bool.{Bool, true, false, cond}
-use mathlib.Core.List.{List, [], ◌∷◌, ◌++◌, append_assoc}
-use native.Mathlib.Omega.{arith}
-use lib.ListN.{length, take, get_or, length-append, length-take, get_or-append}
-use lib.Seq.{take_at, drop_at, get_or-append-add}
-use lib.Ieee.{Float, binary64, to_bits}
+use lib.ListN.{get_or-append}
+use lib.Ieee.{binary64}
 use Rattle.zone.specs.Record.BuildingElement.{node_count}
 use Rattle.zone.specs.Format.Bytes.{bytes_of}
 use Rattle.zone.proofs.Promise.{node_count_few, length_bytes_of, length_row}

@@ -1,10 +1,7 @@
 -- A head of which the structure is read, where what follows tests the zone in its start-up.
+use Rattle.std.proofs.Common.{ℕ, ◌≤◌, ◌≡◌, refl, sym, ◌∙◌, List, length}
 use Rattle.std.specs.Prelude.{Ok, Err}
 use Rattle.std.specs.Prelude as Rust
-use Prim.Native.Nat.{ℕ, ◌≤◌}
-use mathlib.Core.Path.{◌≡◌, refl, sym, ◌∙◌}
-use mathlib.Core.List.{List}
-use lib.ListN.{length}
 use Rattle.zone.specs.Promise.{Result, ok, refused, bind}
 use Rattle.zone.specs.Answers.{number_of, index_of, answered}
 use Rattle.zone.specs.Record.BuildingElement.{standard_coefficients}

@@ -1,14 +1,7 @@
 -- The year book's layers meet the laws that the plain book asks of its layers.
-use Prim.Native.Nat.{ℕ, ◌<◌}
-use mathlib.Core.Path.{◌≡◌, refl, sym, ap, ◌∙◌}
-use mathlib.Core.Bool.{Bool, true, false}
-use mathlib.Core.List.{List, ◌++◌}
+use Rattle.std.proofs.Common.{ℕ, ◌<◌, ◌≡◌, refl, sym, ap, ◌∙◌, Bool, true, false, List, ◌++◌, arith, length, take, length-append, length-take-le, get_or-take, leb, leb-true, leb-false}
 use mathlib.Core.Option.{none, some}
-use native.Mathlib.Omega.{arith}
-use lib.ListN.{length, take, length-append, get_or-append}
-use lib.Seq.{length-take-le, get_or-take}
-use lib.Dec.{leb}
-use borrow.Author.Tests.{leb-true, leb-false}
+use lib.ListN.{get_or-append}
 use Rattle.zone.specs.Promise.{ok, require_at}
 use Rattle.zone.specs.Record.BuildingElement.{standard_coefficients}
 use Rattle.zone.proofs.Promise.{and_true, bind_is, bind_ok, hour_version_bounds, ok_inj, require_ok}

@@ -1,15 +1,8 @@
 -- Numbers as the library writes them, the loop that writes floats, its beginning and one turn, and the comparison of bytes.
-use Rattle.std.proofs.Common.{nat_eq}
+use Rattle.std.proofs.Common.{nat_eq, ℕ, ◌+◌, ◌*◌, ◌/◌, ◌%◌, ◌<◌, ◌≡◌, refl, sym, ap, ◌∙◌, Bool, true, false, cond, ◌&&◌, List, [], ◌∷◌, ◌++◌, append_assoc, append-nil, arith, length, take, get_or, length-take-le, Float}
 use Rattle.std.proofs.lemmas.List.{take_more}
-use Prim.Native.Nat.{ℕ, ◌+◌, ◌*◌, ◌/◌, ◌%◌, ◌<◌}
-use mathlib.Core.Path.{◌≡◌, refl, sym, ap, ◌∙◌}
-use mathlib.Core.Bool.{Bool, true, false, cond, ◌&&◌}
-use mathlib.Core.List.{List, [], ◌∷◌, ◌++◌, append_assoc, append-nil}
-use native.Mathlib.Omega.{arith}
-use lib.ListN.{length, take, get_or}
-use lib.Seq.{length-take-le}
 use lib.Pointwise.{pointwise}
-use lib.Ieee.{Float, nan}
+use lib.Ieee.{nan}
 use Rattle.zone.proofs.Promise.{length_row}
 use Rattle.std.specs.Cmp.{nat_eq_equiv}
 use Rattle.std.specs.Int.{w32, w64, to_be_bytes}

@@ -1,9 +1,6 @@
 -- An hour of a zone and a version that are tested: the entry that the zone's answer has.
+use Rattle.std.proofs.Common.{ℕ, ◌≡◌, sym, ap, ◌∙◌, true, false, List, ◌++◌, leb, length}
 use Rattle.std.specs.Prelude.{Ok, Err}
-use Prim.Native.Nat.{ℕ}
-use mathlib.Core.Path.{◌≡◌, sym, ap, ◌∙◌}
-use mathlib.Core.Bool.{true, false}
-use mathlib.Core.List.{List, ◌++◌}
 use Rattle.zone.specs.Promise.{Result, ok, refused}
 use Rattle.zone.specs.Record.BuildingElement.{standard_coefficients}
 use Rattle.zone.specs.Check.ZoneTest.{zone_test}
@@ -21,8 +18,6 @@ use Rattle.zone.specs.Calls.Hour.{hour_version, has_limits}
 use Rattle.zone.specs.Format.Limits.{limits_in}
 use Rattle.zone.specs.declared.format.conditions.FixedRate.{FixedRate}
 use Rattle.zone.specs.declared.format.limits.Limits.{Limits}
-use lib.Dec.{leb}
-use lib.ListN.{length}
 use Rattle.book.specs.Numbers.{false_entry}
 use Rattle.book.specs.Layout.{limits_length}
 use Rattle.book.specs.Entry.{entry_of}

@@ -1,10 +1,7 @@
 -- What `read_book` says of bytes, against the plain book that they are taken up as: the refusal, or the contents, which are read back from the bytes.
+use Rattle.std.proofs.Common.{ℕ, ◌≤◌, ◌≡◌, refl, sym, ap, subst, ◌∙◌, List, map, length, drop}
 use Rattle.std.specs.Prelude.{Ok}
 use Rattle.std.specs.Prelude as Rust
-use Prim.Native.Nat.{ℕ, ◌≤◌}
-use mathlib.Core.Path.{◌≡◌, refl, sym, ap, subst, ◌∙◌}
-use mathlib.Core.List.{List, map}
-use lib.ListN.{length, drop}
 use Rattle.zone.specs.Promise.{ok, refused}
 use Rattle.zone.specs.Inner.Head.{structured_head, head_read}
 use Rattle.zone.specs.Record.BuildingElement.{standard_coefficients}

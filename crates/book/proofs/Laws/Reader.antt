@@ -1,12 +1,7 @@
 -- What is read of a book is what the plain book has: entry by entry the state after it.
-use Prim.Native.Nat.{ℕ, ◌+◌, ◌-◌, ◌*◌, ◌≤◌, ◌<◌}
-use mathlib.Core.Path.{◌≡◌, refl, sym, ap, subst, ◌∙◌}
-use mathlib.Core.List.{List, [], ◌∷◌, ◌++◌, map, append-nil, append_assoc}
-use native.Mathlib.Omega.{arith}
-use lib.ListN.{length, take, drop, replicate, length-append, length-drop}
-use lib.Seq.{drop_at, length-take-le, take-length}
-use lib.Ieee.{Float}
-use borrow.Author.Tests.{le-leb, lt-leb}
+use Rattle.std.proofs.Common.{ℕ, ◌+◌, ◌-◌, ◌*◌, ◌≤◌, ◌<◌, ◌≡◌, refl, sym, ap, subst, ◌∙◌, List, [], ◌∷◌, ◌++◌, map, append-nil, append_assoc, arith, length, take, drop, replicate, length-append, length-drop, drop_at, length-take-le, Float, le-leb}
+use lib.Seq.{take-length}
+use borrow.Author.Tests.{lt-leb}
 use Rattle.zone.specs.Promise.{ok, zero64}
 use Rattle.zone.specs.Record.BuildingElement.{node_count, standard_coefficients}
 use Rattle.zone.specs.Format.Bytes.{float_size}

@@ -1,16 +1,10 @@
 -- The first record of a rest: by its size and its version byte.
-use Prim.Native.Nat.{ℕ, ◌≤◌, ◌<◌}
+use Rattle.std.proofs.Common.{ℕ, ◌≤◌, ◌<◌, ◌≡◌, refl, sym, ap, subst, ◌∙◌, Bool, true, false, List, arith, leb, length, take, length-take-le, get_or-take, leb-true, leb-false, le-leb}
 use Rattle.std.specs.Prelude.{Some}
 use Rattle.std.specs.Prelude as Rust
-use mathlib.Core.Path.{◌≡◌, refl, sym, ap, subst, ◌∙◌}
-use mathlib.Core.Bool.{Bool, true, false}
-use mathlib.Core.List.{List}
 use mathlib.Core.Option.{none, some}
-use native.Mathlib.Omega.{arith}
-use lib.Dec.{leb}
-use lib.ListN.{length, take}
-use lib.Seq.{length-take-le, take-length, get_or-take}
-use borrow.Author.Tests.{leb-true, leb-false, le-leb, lt-leb}
+use lib.Seq.{take-length}
+use borrow.Author.Tests.{lt-leb}
 use Rattle.zone.specs.Calls.Hour.{hour_version}
 use Rattle.zone.specs.Format.Layout.{version_at, version_in}
 use Rattle.zone.specs.declared.record.zone_record.Zone.{Zone}

@@ -1,9 +1,6 @@
 -- Bytes in place of a buffer's first, one write behind the other.
-use Prim.Native.Nat.{ℕ, ◌+◌, ◌-◌}
-use mathlib.Core.Path.{◌≡◌, sym, ap, ◌∙◌}
-use mathlib.Core.List.{List, [], ◌++◌, append_assoc, append-nil}
-use lib.ListN.{length, take, drop, length-append, length-drop}
-use lib.Seq.{take_at, take-length, drop_at, drop-drop, drop-length}
+use Rattle.std.proofs.Common.{ℕ, ◌+◌, ◌-◌, ◌≡◌, sym, ap, ◌∙◌, List, [], ◌++◌, append_assoc, append-nil, length, take, drop, length-append, length-drop, take_at, drop_at, drop-drop}
+use lib.Seq.{take-length, drop-length}
 use borrow.Rule.Slice.PartMut.{put_mid}
 use Rattle.book.specs.Inner.Start.{with_start}
 

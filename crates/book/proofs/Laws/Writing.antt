@@ -1,16 +1,10 @@
 -- An entry part by part: what the writers leave in the buffer, one behind the other.
+use Rattle.std.proofs.Common.{ℕ, ◌+◌, ◌%◌, ◌≡◌, refl, sym, ap, ◌∙◌, Bool, List, [], ◌∷◌, ◌++◌, append_assoc, arith, length, take, replicate, length-append, Float}
 use Rattle.std.specs.Prelude.{None, Option, Some}
-use Prim.Native.Nat.{ℕ, ◌+◌, ◌%◌}
 use Rattle.std.specs.Prelude.{nat_eq}
 use Rattle.std.specs.List.{starts_with}
 use Rattle.std.specs.Int.{w32, to_be_bytes}
 use Rattle.book.proofs.Laws.Loops.{four_bytes, compared}
-use mathlib.Core.Path.{◌≡◌, refl, sym, ap, ◌∙◌}
-use mathlib.Core.Bool.{Bool}
-use mathlib.Core.List.{List, [], ◌∷◌, ◌++◌, append_assoc}
-use native.Mathlib.Omega.{arith}
-use lib.ListN.{length, take, replicate, length-append}
-use lib.Ieee.{Float}
 use Rattle.zone.specs.Format.Bytes.{bytes_of}
 use Rattle.zone.proofs.Promise.{length_row, limits_length_lem}
 use Rattle.zone.specs.Format.Limits.{power_limits_size, limits_bytes}

@@ -1,14 +1,8 @@
 -- A begin and a take-up have the event that the plain book has for them, and leave a well-formed plain book.
-use mathlib.Core.Path.{◌≡◌, refl, sym, ap, ◌∙◌}
-use mathlib.Core.Bool.{Bool, true, false}
-use mathlib.Core.List.{List, [], ◌++◌, map, append-nil}
+use Rattle.std.proofs.Common.{◌≡◌, refl, sym, ap, ◌∙◌, Bool, true, false, List, [], ◌++◌, map, append-nil, ℕ, ◌+◌, ◌≤◌, zero-add, arith, length, take, drop, length-append, take_at, length-take-le, take-add, leb}
 use mathlib.Core.Option.{Option, none, some}
-use Prim.Native.Nat.{ℕ, ◌+◌, ◌≤◌}
-use native.Mathlib.Nat.{zero-add}
-use native.Mathlib.Omega.{arith}
-use lib.ListN.{length, take, drop, length-append, length-map}
-use lib.Seq.{take_at, take-length, length-take-le, take-add}
-use lib.Dec.{leb}
+use lib.ListN.{length-map}
+use lib.Seq.{take-length}
 use Rattle.zone.specs.Promise.{Result, ok, refused}
 use Rattle.zone.proofs.Promise.{bind_is}
 use Rattle.zone.specs.Format.Head.{ReadHead}

@@ -1,10 +1,6 @@
 -- The calls that a caller may make, each with its event by the definitions that the contracts cite: `Made` as a function. No answer where there is none.
-use mathlib.Core.Bool.{◌&&◌, cond}
-use mathlib.Core.List.{List, [], ◌∷◌, ◌++◌}
+use Rattle.std.proofs.Common.{◌&&◌, cond, List, [], ◌∷◌, ◌++◌, ℕ, take, leb}
 use mathlib.Core.Option.{none, some}
-use Prim.Native.Nat.{ℕ}
-use lib.ListN.{take}
-use lib.Dec.{leb}
 use Rattle.zone.specs.Promise.{Result, ok, refused}
 use Rattle.zone.specs.Format.Head.{ReadHead}
 use Rattle.book.specs.Model.Interface.{Interface}

@@ -1,7 +1,5 @@
 -- The laws that the types of a book's functions meet: all values are some of theirs, and every answer that a call gives is some reply's.
-use mathlib.Core.Path.{◌≡◌}
-use mathlib.Core.List.{List}
-use Prim.Native.Nat.{ℕ}
+use Rattle.std.proofs.Common.{◌≡◌, List, ℕ}
 use Rattle.book.specs.Model.Interface.{Interface}
 use Rattle.book.specs.Model.Calls as Book
 use Rattle.book.specs.Model.Session.{CodeTypes}

@@ -1,12 +1,7 @@
 -- What belongs to the plain book that bytes are taken up as: the entries are the whole entries of the bytes, and a take-up's refusal is its refusal.
-use mathlib.Core.Path.{◌≡◌, refl, sym, ap, subst, ◌∙◌}
-use mathlib.Core.List.{List, [], ◌∷◌, ◌++◌, map, append_assoc}
+use Rattle.std.proofs.Common.{◌≡◌, refl, sym, ap, subst, ◌∙◌, List, [], ◌∷◌, ◌++◌, map, append_assoc, ℕ, ◌+◌, ◌≤◌, zero-add, arith, length, take, drop, drop_at}
 use mathlib.Core.Option.{none}
-use Prim.Native.Nat.{ℕ, ◌+◌, ◌≤◌}
-use native.Mathlib.Nat.{zero-add}
-use native.Mathlib.Omega.{arith}
-use lib.ListN.{length, take, drop, length-map}
-use lib.Seq.{drop_at}
+use lib.ListN.{length-map}
 use Rattle.zone.specs.Promise.{Result, ok, refused, bind}
 use Rattle.zone.proofs.Promise.{ok_inj, ok_not_refused}
 use Rattle.zone.specs.Format.Head.{ReadHead}

@@ -1,16 +1,9 @@
 -- Small layers that meet the laws, and a list of calls of each kind, computed by both runs: the claims speak of something.
 -- Head: version byte 1 and n, not 0. Hour: one byte, at most 200. Entry: version byte 1, the hour, the state after it. At most 2 entries.
 -- An append refuses the hour 0, which a take-up accepts.
-use mathlib.Core.Path.{◌≡◌, refl, sym, ap, ◌∙◌, subst}
-use mathlib.Core.Bool.{Bool, true, false, not, cond}
-use mathlib.Core.List.{List, [], ◌∷◌, ◌++◌}
+use Rattle.std.proofs.Common.{◌≡◌, refl, sym, ap, ◌∙◌, subst, Bool, true, false, not, cond, List, [], ◌∷◌, ◌++◌, ℕ, suc, ◌+◌, ◌*◌, ◌≤◌, ◌<◌, arith, length, take, drop, get_or, length-append, length-take, take_at, leb, ltb, eqb, leb-true, eqb-true, le-leb}
 use mathlib.Core.Option.{Option, none, some}
-use Prim.Native.Nat.{ℕ, suc, ◌+◌, ◌*◌, ◌≤◌, ◌<◌}
-use native.Mathlib.Omega.{arith}
-use lib.ListN.{length, take, drop, get_or, length-append, length-take}
-use lib.Seq.{take_at}
-use lib.Dec.{leb, ltb, eqb}
-use borrow.Author.Tests.{leb-true, eqb-true, le-leb, lt-leb}
+use borrow.Author.Tests.{lt-leb}
 use Rattle.zone.specs.Promise.{Result, ok, refused, bind, require}
 use Rattle.zone.proofs.Promise.{bind_ok, require_ok, ok_inj, ok_not_refused}
 use Rattle.zone.specs.Format.Head.{ReadHead}

@@ -1,9 +1,6 @@
 -- The laws that layers meet, from which everything claimed of books is proved. The year book's layers meet them: `year_laws`.
-use mathlib.Core.Path.{◌≡◌}
-use mathlib.Core.List.{List, ◌++◌}
+use Rattle.std.proofs.Common.{◌≡◌, List, ◌++◌, ℕ, ◌≤◌, ◌<◌, length, take}
 use mathlib.Core.Option.{none, some}
-use Prim.Native.Nat.{ℕ, ◌≤◌, ◌<◌}
-use lib.ListN.{length, take}
 use Rattle.zone.specs.Promise.{ok}
 use Rattle.zone.specs.Format.Head.{ReadHead}
 use Rattle.book.specs.Model.Interface.{Interface, Written}

@@ -1,12 +1,6 @@
 -- Whole lists of calls: a session's events are the plain book's, and every list of calls that may be made has a session.
-use mathlib.Core.Path.{◌≡◌, refl, sym, ap, ◌∙◌, subst}
-use mathlib.Core.Bool.{Bool, true, false, ◌&&◌, cond}
-use mathlib.Core.List.{List, [], ◌∷◌, ◌++◌}
+use Rattle.std.proofs.Common.{◌≡◌, refl, sym, ap, ◌∙◌, subst, Bool, true, false, ◌&&◌, cond, List, [], ◌∷◌, ◌++◌, ℕ, take, leb, leb-true, le-leb}
 use mathlib.Core.Option.{none, some}
-use Prim.Native.Nat.{ℕ}
-use lib.ListN.{take}
-use lib.Dec.{leb}
-use borrow.Author.Tests.{leb-true, le-leb}
 use Rattle.zone.specs.Promise.{Result, ok, refused}
 use Rattle.zone.specs.Format.Head.{ReadHead}
 use Rattle.zone.proofs.Promise.{and_true}

@@ -1,6 +1,5 @@
 -- Every call on what is seen of a well-formed plain book has the event that the plain book has for it, and leaves a well-formed one.
-use mathlib.Core.Path.{refl, subst}
-use mathlib.Core.List.{[], ◌∷◌}
+use Rattle.std.proofs.Common.{refl, subst, [], ◌∷◌}
 use Rattle.book.specs.Model.Interface.{Interface}
 use Rattle.book.proofs.Model.InterfaceLaws.{Laws}
 use Rattle.book.specs.Model.Plain.{Plain, empty, book, snapshot}

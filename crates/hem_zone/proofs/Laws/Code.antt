@@ -1,7 +1,5 @@
 -- The number that a call returns.
-use Prim.Native.Nat.{ℕ, ◌+◌, ◌*◌, ◌%◌}
-use mathlib.Core.Path.{◌≡◌}
-use native.Mathlib.Omega.{arith}
+use Rattle.std.proofs.Common.{ℕ, ◌+◌, ◌*◌, ◌%◌, ◌≡◌, arith}
 use Rattle.hem_zone.specs.Code.{refusal_code}
 
 -- of an index only the low 24 bits reach the 32 of an answer

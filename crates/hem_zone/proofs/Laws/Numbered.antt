@@ -1,6 +1,5 @@
 -- Every refusal of the papers has a number from 1 to 24 and an index of at most 8,783: family by family.
-use Prim.Native.Nat.{ℕ, ◌≤◌}
-use borrow.Author.Rules.{rules}
+use Rattle.std.proofs.Common.{ℕ, ◌≤◌, rules}
 use Rattle.zone.specs.Promise.{SolveRefusal, solve_divisor, solve_temperature}
 use Rattle.zone.specs.Claims.HeadRefusals as Head
 use Rattle.zone.specs.Claims.Refusals as Zone

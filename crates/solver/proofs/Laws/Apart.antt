@@ -1,11 +1,7 @@
 -- A factored matrix whose last column is apart: its pivots are tested and its right sides solved for as those of the whole matrix.
-use mathlib.Core.Path.{◌≡◌, sym, ap, ◌∙◌}
-use mathlib.Core.List.{List}
-use Prim.Native.Nat.{ℕ, ◌+◌, ◌≤◌, ◌<◌}
-use native.Mathlib.Omega.{arith}
-use lib.ListN.{length, get_or, set}
-use lib.Seq.{set-get_or, set-set}
-use lib.Ieee.{Float, nan}
+use Rattle.std.proofs.Common.{◌≡◌, sym, ap, ◌∙◌, List, ℕ, ◌+◌, ◌≤◌, ◌<◌, arith, length, get_or, set, set-set, Float}
+use lib.Seq.{set-get_or}
+use lib.Ieee.{nan}
 use Rattle.solver.specs.F64.{◌/ᶠ◌}
 use Rattle.solver.specs.Closeness.{valid_divisor}
 use Rattle.solver.specs.Rows.{entry}

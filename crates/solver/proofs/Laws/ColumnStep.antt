@@ -1,12 +1,6 @@
 -- One column of the factorisation with the last column apart (specs/Inner/Columns.antt): it is not read, and what happens to it is a step of a forward substitution.
-use mathlib.Core.Path.{◌≡◌, refl, sym, ap, ◌∙◌}
-use mathlib.Core.Logic.{⊎_elim}
-use mathlib.Core.List.{List}
-use Prim.Native.Nat.{ℕ, suc, ◌+◌, ◌≤◌, ◌<◌}
-use native.Mathlib.Numerals.{add-one}
-use native.Mathlib.Omega.{arith}
-use lib.ListN.{length, get_or, set, length-set}
-use lib.Ieee.{Float, nan}
+use Rattle.std.proofs.Common.{◌≡◌, refl, sym, ap, ◌∙◌, ⊎_elim, List, ℕ, suc, ◌+◌, ◌≤◌, ◌<◌, add-one, arith, length, get_or, set, length-set, Float}
+use lib.Ieee.{nan}
 use Rattle.std.proofs.lemmas.Bool.{cases_eq}
 use Rattle.solver.specs.F64.{◌*ᶠ◌, ◌/ᶠ◌, one64}
 use Rattle.solver.specs.Repeat.{repeat}

@@ -1,12 +1,6 @@
 -- The last column of the dense matrix apart (specs/Inner/Columns.antt): the factorisation of the columns before it does not read it, and `lu_factor` makes of
 -- it what interchanges and forward substitution make of a right side, bit for bit.
-use mathlib.Core.Path.{◌≡◌, refl, ap, ◌∙◌}
-use mathlib.Core.List.{List}
-use Prim.Native.Nat.{ℕ, suc, ◌+◌, ◌-◌, ◌*◌, ◌≤◌, ◌<◌}
-use native.Mathlib.Omega.{arith}
-use lib.ListN.{length, set, drop}
-use lib.Ieee.{Float}
-use borrow.Author.Tests.{eq-eqb}
+use Rattle.std.proofs.Common.{◌≡◌, refl, ap, ◌∙◌, List, ℕ, suc, ◌+◌, ◌-◌, ◌*◌, ◌≤◌, ◌<◌, arith, length, set, drop, Float, eq-eqb}
 use Rattle.solver.specs.F64.{◌/ᶠ◌, one64}
 use Rattle.solver.specs.Repeat.{repeat}
 use Rattle.solver.specs.Rows.{entry, row, larger_in_column, pivot_row, eliminate_row}

@@ -1,11 +1,6 @@
 -- Counting loops against `repeat` and `repeat_down` of specs/Repeat.antt, and `all` of an iterator against `all` there. The invariant of a loop is that
 -- the turns that are left, from the state now, give what all turns give from the state at the start; `using(repeat_turn, repeat_end)` then proves it.
-use mathlib.Core.Path.{◌≡◌, refl, sym, ap, ◌∙◌}
-use mathlib.Core.Bool.{Bool, true, false, ◌&&◌}
-use mathlib.Core.List.{List}
-use Prim.Native.Nat.{ℕ, zero, suc, ◌+◌, ◌-◌, ◌≤◌, ◌<◌}
-use native.Mathlib.Numerals.{add-one}
-use native.Mathlib.Omega.{arith}
+use Rattle.std.proofs.Common.{◌≡◌, refl, sym, ap, ◌∙◌, Bool, true, false, ◌&&◌, List, ℕ, zero, suc, ◌+◌, ◌-◌, ◌≤◌, ◌<◌, add-one, arith}
 use denote.Param.Members.{Mut}
 use Rattle.std.specs.Prelude.{Option, MatchOption}
 use Rattle.std.specs.declared.ops.Range.{Range}

@@ -1,15 +1,6 @@
 -- The elimination of a column from rows of a matrix: what stands where afterwards.
-use mathlib.Core.Path.{◌≡◌, refl, sym, ap, ◌∙◌}
-use mathlib.Core.Logic.{⊎_elim}
-use mathlib.Core.Bool.{cond}
-use mathlib.Core.List.{List}
-use Prim.Native.Nat.{ℕ, suc, ◌+◌, ◌*◌, ◌≤◌, ◌<◌}
-use native.Mathlib.Omega.{arith}
-use lib.Dec.{eqb, ltb}
-use lib.ListN.{length, get_or, set, length-set}
-use lib.Seq.{get_or-set_same, get_or-set_other}
-use lib.Ieee.{Float, nan, neg}
-use borrow.Author.Tests.{eq-eqb, ne_eqb, lt-ltb, le-ltb}
+use Rattle.std.proofs.Common.{◌≡◌, refl, sym, ap, ◌∙◌, ⊎_elim, cond, List, ℕ, suc, ◌+◌, ◌*◌, ◌≤◌, ◌<◌, arith, eqb, ltb, length, get_or, set, length-set, get_or-set_same, get_or-set_other, Float, eq-eqb, ne_eqb, lt-ltb, le-ltb}
+use lib.Ieee.{nan, neg}
 use Rattle.std.proofs.lemmas.Bool.{cases_eq}
 use Rattle.solver.specs.F64.{◌+ᶠ◌, ◌*ᶠ◌}
 use Rattle.solver.specs.Repeat.{repeat}

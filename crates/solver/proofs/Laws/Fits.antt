@@ -1,12 +1,7 @@
 -- Every temperature of a solve is a value that an f64 holds, where the right side's are: each place that is set holds a rounded result, or a place
 -- of another such list. Nothing is asked of the matrix.
-use mathlib.Core.Path.{◌≡◌, subst}
-use mathlib.Core.Bool.{Bool, cond, true, false}
-use mathlib.Core.List.{List, [], ◌∷◌}
-use Prim.Native.Nat.{ℕ, zero, suc, ◌+◌, ◌-◌, ◌*◌}
-use lib.Dec.{T, ltb}
-use lib.ListN.{get_or, set, take, replicate}
-use lib.Ieee.{Float, nan, binary64, fits}
+use Rattle.std.proofs.Common.{◌≡◌, subst, Bool, cond, true, false, List, [], ◌∷◌, ℕ, zero, suc, ◌+◌, ◌-◌, ◌*◌, T, ltb, get_or, set, take, replicate, Float}
+use lib.Ieee.{nan, binary64, fits}
 use lib.Ieee.Bits.{of_bits-fits}
 use lib.Ieee.Fits.{nan-fits, sub-fits, div-fits}
 use Rattle.solver.specs.declared.system.Matrix.{Matrix}

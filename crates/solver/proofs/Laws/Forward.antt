@@ -1,15 +1,6 @@
 -- Exchanges and forward substitution of a right side: what stands where afterwards, and that rows exchanged later may as well be exchanged before.
-use mathlib.Core.Path.{◌≡◌, refl, sym, ap, ◌∙◌}
-use mathlib.Core.Logic.{⊎_elim}
-use mathlib.Core.Bool.{Bool, true, false, cond}
-use mathlib.Core.List.{List}
-use Prim.Native.Nat.{ℕ, suc, ◌+◌, ◌≤◌, ◌<◌}
-use native.Mathlib.Omega.{arith}
-use lib.Dec.{ltb}
-use lib.ListN.{length, get_or, set}
-use lib.Seq.{get_or-set_same, get_or-set_other}
-use lib.Ieee.{Float, nan}
-use borrow.Author.Tests.{lt-ltb}
+use Rattle.std.proofs.Common.{◌≡◌, refl, sym, ap, ◌∙◌, ⊎_elim, Bool, true, false, cond, List, ℕ, suc, ◌+◌, ◌≤◌, ◌<◌, arith, ltb, length, get_or, set, get_or-set_same, get_or-set_other, Float, lt-ltb}
+use lib.Ieee.{nan}
 use Rattle.solver.specs.F64.{◌-ᶠ◌, ◌*ᶠ◌}
 use Rattle.solver.specs.Repeat.{repeat}
 use Rattle.solver.specs.Rows.{entry}

@@ -1,15 +1,6 @@
 -- Two rows, or two places of a right side, that change places: what stands where afterwards.
-use mathlib.Core.Path.{◌≡◌, refl, sym, ap, ◌∙◌}
-use mathlib.Core.Logic.{⊎_elim}
-use mathlib.Core.Bool.{cond}
-use mathlib.Core.List.{List}
-use Prim.Native.Nat.{ℕ, ◌+◌, ◌*◌, ◌<◌}
-use native.Mathlib.Omega.{arith}
-use lib.Dec.{eqb}
-use lib.ListN.{length, get_or, set, length-set}
-use lib.Seq.{get_or-set_same, get_or-set_other}
-use lib.Ieee.{Float, nan}
-use borrow.Author.Tests.{eq-eqb, ne_eqb}
+use Rattle.std.proofs.Common.{◌≡◌, refl, sym, ap, ◌∙◌, ⊎_elim, cond, List, ℕ, ◌+◌, ◌*◌, ◌<◌, arith, eqb, length, get_or, set, length-set, get_or-set_same, get_or-set_other, Float, eq-eqb, ne_eqb}
+use lib.Ieee.{nan}
 use Rattle.std.proofs.lemmas.Bool.{cases_eq}
 use Rattle.solver.specs.Rows.{entry, row, set_row}
 use Rattle.solver.specs.Lu.{interchange_rows, swap}

@@ -1,12 +1,7 @@
 -- `solve` for those who factor the columns of a matrix once and a last column for each rate: where it is refused for a divisor. As in Laws/Together.antt,
 -- the law takes the equations that the contracts of `factor_columns` and `factor_last` give. What a load gives is `apart_loaded` there.
-use mathlib.Core.Path.{◌≡◌, refl, sym, ap, ◌∙◌}
-use mathlib.Core.Bool.{Bool, false, ◌&&◌}
-use mathlib.Core.List.{List}
-use Prim.Native.Nat.{ℕ, zero, suc}
-use native.Mathlib.Omega.{arith}
-use lib.ListN.{length, get_or, replicate}
-use lib.Ieee.{Float, nan}
+use Rattle.std.proofs.Common.{◌≡◌, refl, sym, ap, ◌∙◌, Bool, false, ◌&&◌, List, ℕ, zero, suc, arith, length, get_or, replicate, Float}
+use lib.Ieee.{nan}
 use Rattle.solver.specs.declared.system.Matrix.{Matrix}
 use Rattle.solver.specs.Closeness.{valid_divisor}
 use Rattle.solver.specs.Result.{refused}

@@ -1,8 +1,7 @@
 -- The order of floats, in the words `lt x y ≡ true` and `lt x y ≡ false`: the library's laws, which say it by `T`.
-use mathlib.Core.Path.{◌≡◌, refl, sym, ◌∙◌}
-use mathlib.Core.Bool.{Bool, true, false, cond, ◌||◌}
+use Rattle.std.proofs.Common.{◌≡◌, refl, sym, ◌∙◌, Bool, true, false, cond, ◌||◌, Float, is_nan}
 use lib.Dec.{not_T}
-use lib.Ieee.{Float, lt, eq, le, is_nan}
+use lib.Ieee.{lt, eq, le}
 use lib.Ieee.Bits.{is_true, is_false}
 use Rattle.std.proofs.lemmas.Float.{T_from_true, T_from_false, le_left, le_right, le_of_lt, le_of_not-lt, lt_irrefl, lt_of_le_of_lt}
 use Rattle.std.proofs.lemmas.Float as Library

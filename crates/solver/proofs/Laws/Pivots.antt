@@ -1,12 +1,6 @@
 -- The pivot search reads its own column alone, and finds one of its rows.
-use mathlib.Core.Path.{◌≡◌, refl, sym, ap, ◌∙◌}
-use mathlib.Core.Bool.{Bool, true, false, cond}
-use mathlib.Core.List.{List}
-use Prim.Native.Nat.{ℕ, suc, ◌+◌, ◌-◌, ◌*◌, ◌≤◌, ◌<◌}
-use native.Mathlib.Omega.{arith}
-use lib.ListN.{get_or, drop}
-use lib.Seq.{get_or-drop}
-use lib.Ieee.{Float, nan, lt}
+use Rattle.std.proofs.Common.{◌≡◌, refl, sym, ap, ◌∙◌, Bool, true, false, cond, List, ℕ, suc, ◌+◌, ◌-◌, ◌*◌, ◌≤◌, ◌<◌, arith, get_or, drop, get_or-drop, Float}
+use lib.Ieee.{nan, lt}
 use Rattle.solver.specs.Closeness.{abs}
 use Rattle.solver.specs.Rows.{entry, larger_in_column, pivot_row}
 use Rattle.solver.proofs.Laws.Turns.{repeat_relates}

@@ -1,8 +1,5 @@
 -- What is refused by a sequence, by a test and by a choice.
-use Prim.Native.Nat.{ℕ}
-use native.Mathlib.Omega.{arith}
-use mathlib.Core.Path.{◌≡◌, refl}
-use mathlib.Core.Bool.{Bool, true, false, cond}
+use Rattle.std.proofs.Common.{ℕ, arith, ◌≡◌, refl, Bool, true, false, cond}
 use Rattle.solver.specs.Result.{Result, ok, refused, bind, require_at}
 use Rattle.solver.specs.Refusals.{RefusesOnly, accepts, refuses}
 

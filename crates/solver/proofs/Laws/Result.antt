@@ -1,8 +1,5 @@
 -- Answers and refusals are apart; what a sequence and a test that are accepted say of their parts.
-use mathlib.Core.Path.{◌≡◌, refl, ap, ◌∙◌}
-use mathlib.Core.Bool.{Bool, true, false}
-use Prim.Native.Nat.{ℕ}
-use native.Mathlib.Omega.{arith}
+use Rattle.std.proofs.Common.{◌≡◌, refl, ap, ◌∙◌, Bool, true, false, ℕ, arith}
 use Rattle.solver.specs.Result.{Result, ok, refused, bind, require_at}
 
 module _ {A : Type 0} where

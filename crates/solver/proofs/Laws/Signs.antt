@@ -1,12 +1,6 @@
 -- Magnitudes and finiteness: std's words and those of specs/Closeness.antt say the same.
-use mathlib.Core.Path.{◌≡◌, refl, sym, ap, subst}
-use mathlib.Core.Bool.{Bool, true, false, not, ◌&&◌}
-use Prim.Native.Nat.{zero, suc, ◌*◌}
-use native.Mathlib.Nat.{pow-suc}
-use native.Mathlib.Omega.{arith}
-use lib.IntN.{ℤ, pos, negsuc}
-use lib.Dec.{T, eqb→eq}
-use lib.Ieee.{Float, nan, inf, fin, binary64, up, down, fits, eq, ne}
+use Rattle.std.proofs.Common.{◌≡◌, refl, sym, ap, subst, Bool, true, false, not, ◌&&◌, zero, suc, ◌*◌, pow-suc, arith, ℤ, pos, negsuc, T, eqb→eq, Float}
+use lib.Ieee.{nan, inf, fin, binary64, up, down, fits, eq, ne}
 use Rattle.std.specs.Float.{float_with_sign, float_is_finite}
 use Rattle.solver.specs.F64.{zero64}
 use Rattle.solver.specs.Closeness.{abs, is_finite, valid_divisor}

@@ -1,8 +1,5 @@
 -- `fast_solver` is `solve`, with a number beside the temperatures.
-use mathlib.Core.Path.{◌≡◌, refl}
-use mathlib.Core.Bool.{Bool, true, false}
-use mathlib.Core.List.{List}
-use lib.Ieee.{Float}
+use Rattle.std.proofs.Common.{◌≡◌, refl, Bool, true, false, List, Float}
 use Rattle.solver.specs.declared.system.Matrix.{Matrix}
 use Rattle.solver.specs.FastSolver.{diag_of, dense_of, all_divisors_valid, temperatures_of, temperatures_valid, solve}
 use Rattle.solver.specs.Inner.Claims.{FastSolverIs}

@@ -1,11 +1,5 @@
 -- Loops that store one place a turn, each place once: what stands where afterwards.
-use mathlib.Core.Path.{◌≡◌, refl, ap, ◌∙◌}
-use mathlib.Core.Logic.{⊎_elim}
-use mathlib.Core.List.{List}
-use Prim.Native.Nat.{ℕ, suc, ◌≤◌, ◌<◌}
-use native.Mathlib.Omega.{arith}
-use lib.ListN.{length, get_or, set, length-set}
-use lib.Seq.{get_or-set_same, get_or-set_other}
+use Rattle.std.proofs.Common.{◌≡◌, refl, ap, ◌∙◌, ⊎_elim, List, ℕ, suc, ◌≤◌, ◌<◌, arith, length, get_or, set, length-set, get_or-set_same, get_or-set_other}
 pub use Rattle.std.proofs.lemmas.Bool.{cases_lt as less_or_not}
 use Rattle.solver.specs.Repeat.{repeat}
 use Rattle.solver.proofs.Laws.Counting.{repeat_done}

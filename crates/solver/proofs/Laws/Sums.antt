@@ -1,12 +1,6 @@
 -- Loops that sum a term a turn. The invariant of such a loop is that adding what is left to the sum now gives the sum of all:
 -- `sum2_add_all a (terms i n term) ≡ sum2_add_all sum2_zero (terms 0 n term)`.
-use mathlib.Core.Path.{◌≡◌, ap, ◌∙◌}
-use mathlib.Core.List.{[], ◌∷◌}
-use Prim.Native.Nat.{ℕ, zero, suc, ◌+◌, ◌-◌, ◌≤◌, ◌<◌}
-use native.Mathlib.Numerals.{add-one}
-use native.Mathlib.Omega.{arith}
-use lib.ListN.{get_or}
-use lib.Ieee.{Float}
+use Rattle.std.proofs.Common.{◌≡◌, ap, ◌∙◌, [], ◌∷◌, ℕ, zero, suc, ◌+◌, ◌-◌, ◌≤◌, ◌<◌, add-one, arith, get_or, Float}
 use Rattle.solver.specs.declared.sums.Sum2.{Sum2}
 use Rattle.solver.specs.Sums.{sum2_add, sum2_add_all, terms_of, terms}
 

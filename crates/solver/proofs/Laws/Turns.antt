@@ -1,9 +1,5 @@
 -- Laws of `repeat` and `repeat_down` themselves: the last turn, what every turn keeps, two runs side by side.
-use mathlib.Core.Path.{◌≡◌, refl, sym, ap, ◌∙◌}
-use mathlib.Core.Bool.{Bool, ◌&&◌}
-use Prim.Native.Nat.{ℕ, zero, suc, ◌+◌, ◌-◌, ◌≤◌, ◌<◌}
-use native.Mathlib.Numerals.{add-one}
-use native.Mathlib.Omega.{arith}
+use Rattle.std.proofs.Common.{◌≡◌, refl, sym, ap, ◌∙◌, Bool, ◌&&◌, ℕ, zero, suc, ◌+◌, ◌-◌, ◌≤◌, ◌<◌, add-one, arith}
 use Rattle.std.proofs.Math.Bool.{and_assoc, and-true}
 use Rattle.solver.specs.Repeat.{repeat_of, repeat, repeat_down, all_of, all}
 use Rattle.solver.proofs.Laws.Counting.{repeat_done}

@@ -1,15 +1,7 @@
 -- The loop of the first hour above a value: what holds before an hour, one turn, and both ends.
+use Rattle.std.proofs.Common.{ℕ, ◌+◌, ◌<◌, ◌≡◌, refl, sym, subst, ◌∙◌, Bool, true, false, List, [], ◌∷◌, add-one, arith, length, drop, ltb, Float, ltb-true, ltb-false}
 use Rattle.std.specs.Prelude.{None, Some}
-use Prim.Native.Nat.{ℕ, ◌+◌, ◌<◌}
-use mathlib.Core.Path.{◌≡◌, refl, sym, subst, ◌∙◌}
-use mathlib.Core.Bool.{Bool, true, false}
-use mathlib.Core.List.{List, [], ◌∷◌}
-use native.Mathlib.Numerals.{add-one}
-use native.Mathlib.Omega.{arith}
-use lib.ListN.{length, drop}
-use lib.Dec.{ltb}
-use lib.Ieee.{Float, nan}
-use borrow.Author.Tests.{ltb-true, ltb-false}
+use lib.Ieee.{nan}
 use Rattle.tools.specs.Questions.{goes_above, first_above}
 use Rattle.tools.specs.Questions as Temperature
 use Rattle.tools.proofs.Laws.FirstHour.{first_hour_lem, no_hour, from_now, none_from}

@@ -1,13 +1,7 @@
 -- A question that is asked of a book as it is read, against the plain book's contents.
+use Rattle.std.proofs.Common.{ℕ, ◌-◌, ◌≡◌, refl, sym, ap, ◌∙◌, Bool, false, List, [], ◌∷◌, map, length, take, drop, Float, le-leb}
 use Rattle.std.specs.Prelude.{Ok, Err}
 use Rattle.std.specs.Prelude as Rust
-use Prim.Native.Nat.{ℕ, ◌-◌}
-use mathlib.Core.Path.{◌≡◌, refl, sym, ap, ◌∙◌}
-use mathlib.Core.Bool.{Bool, false}
-use mathlib.Core.List.{List, [], ◌∷◌, map}
-use lib.ListN.{length, take, drop}
-use lib.Ieee.{Float}
-use borrow.Author.Tests.{le-leb}
 use Rattle.solver.proofs.Laws.Parts.{part_to_end}
 use Rattle.zone.specs.Promise.{Result, ok, refused, bind, require}
 use Rattle.zone.specs.Calls.State.{operative_of}

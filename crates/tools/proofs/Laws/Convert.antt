@@ -1,15 +1,8 @@
 -- The converter's ways out: what it has read, against the definition.
+use Rattle.std.proofs.Common.{ℕ, ◌+◌, ◌-◌, ◌<◌, ◌≤◌, ◌≡◌, refl, sym, ap, subst, ◌∙◌, Bool, true, false, ◌&&◌, List, ◌++◌, map, append_assoc, arith, ltb, eqb, length, take, drop, length-append, length-take-le, drop-drop, take_at, drop_at, le-leb}
 use Rattle.std.specs.Prelude.{Ok, Err}
 use Rattle.std.specs.Prelude as Rust
-use Prim.Native.Nat.{ℕ, ◌+◌, ◌-◌, ◌<◌, ◌≤◌}
-use mathlib.Core.Path.{◌≡◌, refl, sym, ap, subst, ◌∙◌}
-use mathlib.Core.Bool.{Bool, true, false, ◌&&◌}
-use mathlib.Core.List.{List, ◌++◌, map, append_assoc}
-use native.Mathlib.Omega.{arith}
-use lib.Dec.{ltb, eqb}
-use lib.ListN.{length, take, drop, length-append}
-use lib.Seq.{length-take-le, drop-drop, take_at, drop_at}
-use borrow.Author.Tests.{le-leb, lt-leb}
+use borrow.Author.Tests.{lt-leb}
 use Rattle.solver.proofs.Laws.Parts.{part_to_end}
 use Rattle.zone.specs.Promise.{ok, refused}
 use Rattle.zone.proofs.Promise.{bind_ok, head_as_tested, head_yes, ok_inj, structured_few, structured_within}

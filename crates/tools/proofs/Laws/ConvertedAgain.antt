@@ -1,13 +1,6 @@
 -- A book with no fixed rate and no entry of version 1 is its own conversion. So converting again changes nothing.
-use Prim.Native.Nat.{ℕ, ◌+◌, ◌≤◌}
-use mathlib.Core.Path.{◌≡◌, refl, sym, ap, ◌∙◌}
-use mathlib.Core.Bool.{true, not, ◌&&◌}
-use mathlib.Core.List.{List, [], ◌∷◌, map}
-use native.Mathlib.Omega.{arith}
-use borrow.Author.Tests.{le-leb}
-use lib.ListN.{length, length-append}
+use Rattle.std.proofs.Common.{ℕ, ◌+◌, ◌≤◌, ◌≡◌, refl, sym, ap, ◌∙◌, true, not, ◌&&◌, List, [], ◌∷◌, map, arith, le-leb, length, length-append, eqb}
 use lib.Seq.{take-length}
-use lib.Dec.{eqb}
 use Rattle.std.specs.List.{list_all}
 use Rattle.zone.specs.Promise.{ok}
 use Rattle.zone.proofs.Promise.{and_true}

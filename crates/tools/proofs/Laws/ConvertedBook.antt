@@ -1,14 +1,7 @@
 -- A converted book: entry by entry what the plain book has for the converted hours.
-use Prim.Native.Nat.{ℕ, ◌+◌, ◌≤◌}
-use mathlib.Core.Path.{◌≡◌, refl, sym, ap, subst, ◌∙◌}
-use mathlib.Core.Bool.{Bool, true, false, not, ◌&&◌}
-use mathlib.Core.List.{List, [], ◌∷◌, ◌++◌, map, append-nil}
-use native.Mathlib.Omega.{arith}
-use native.Mathlib.Nat.{zero-add}
-use borrow.Author.Tests.{ne_eqb, eqb-false, lt-ltb}
-use lib.ListN.{length, take, drop, length-append, length-map}
-use lib.Seq.{length-take-le}
-use lib.Dec.{leb, ltb, eqb}
+use Rattle.std.proofs.Common.{ℕ, ◌+◌, ◌≤◌, ◌≡◌, refl, sym, ap, subst, ◌∙◌, Bool, true, false, not, ◌&&◌, List, [], ◌∷◌, ◌++◌, map, append-nil, arith, zero-add, ne_eqb, lt-ltb, length, take, drop, length-append, length-take-le, leb, ltb, eqb}
+use borrow.Author.Tests.{eqb-false}
+use lib.ListN.{length-map}
 use Rattle.std.specs.List.{list_all}
 use Rattle.zone.specs.Promise.{ok, require}
 use Rattle.zone.proofs.Promise.{bind_ok, ok_inj, require_ok}

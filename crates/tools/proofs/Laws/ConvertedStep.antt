@@ -1,12 +1,6 @@
 -- A converted hour is the same hour: its entry differs in the code byte and the second rate only, the state after it is the same, and an append takes it.
-use Prim.Native.Nat.{ℕ, ◌≤◌}
-use mathlib.Core.Path.{◌≡◌, refl, sym, ap, subst, ◌∙◌}
-use mathlib.Core.Bool.{Bool, true, false, cond}
-use mathlib.Core.List.{List, ◌++◌}
-use native.Mathlib.Omega.{arith}
-use lib.Dec.{eqb}
-use lib.ListN.{length, take, drop, get_or, length-append}
-use lib.Seq.{take_at, drop_at, length-take-le, get_or-append_seam}
+use Rattle.std.proofs.Common.{ℕ, ◌≤◌, ◌≡◌, refl, sym, ap, subst, ◌∙◌, Bool, true, false, cond, List, ◌++◌, arith, eqb, length, take, drop, get_or, length-append, take_at, drop_at, length-take-le}
+use lib.Seq.{get_or-append_seam}
 use Rattle.zone.specs.Promise.{ok}
 use Rattle.zone.proofs.Promise.{fixed_append, twice_append}
 use Rattle.zone.proofs.Claims.FixedRate.{retired_claims}

@@ -1,16 +1,9 @@
 -- The hours of a book as they are read, one after the other.
+use Rattle.std.proofs.Common.{ℕ, zero, suc, ◌+◌, ◌-◌, ◌^◌, ◌≤◌, ◌<◌, ◌≡◌, refl, sym, ap, ◌∙◌, Bool, true, false, cond, List, [], ◌∷◌, map, arith, length, take, drop, replicate, leb, Float, Bor}
 use Rattle.std.specs.Prelude.{None, Some}
 use Rattle.std.specs.Prelude as Rust
-use Prim.Native.Nat.{ℕ, zero, suc, ◌+◌, ◌-◌, ◌^◌, ◌≤◌, ◌<◌}
-use mathlib.Core.Path.{◌≡◌, refl, sym, ap, ◌∙◌}
-use mathlib.Core.Bool.{Bool, true, false, cond}
-use mathlib.Core.List.{List, [], ◌∷◌, map}
 use mathlib.Core.Option.{Option, none, some}
-use native.Mathlib.Omega.{arith}
-use lib.ListN.{length, take, drop, replicate, length-map}
-use lib.Dec.{leb}
-use lib.Ieee.{Float}
-use denote.Ref.{Bor}
+use lib.ListN.{length-map}
 use Rattle.solver.proofs.Laws.Parts.{part_to_end}
 use Rattle.zone.specs.Promise.{zero64}
 use Rattle.zone.specs.Inner.Temperatures.{most_nodes}

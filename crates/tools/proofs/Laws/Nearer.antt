@@ -1,8 +1,7 @@
 -- The distance by the library's `abs`, and the order of distances: `nearer` is transitive, and of two distances one of which is nearer than a third, so is
 -- the other where it is not behind the first.
-use mathlib.Core.Path.{◌≡◌, refl, sym, ◌∙◌}
-use mathlib.Core.Bool.{Bool, true, false, not, ◌&&◌, ◌||◌}
-use lib.Ieee.{Float, nan, inf, fin, binary64, is_nan, lt, le, eq}
+use Rattle.std.proofs.Common.{◌≡◌, refl, sym, ◌∙◌, Bool, true, false, not, ◌&&◌, ◌||◌, Float}
+use lib.Ieee.{nan, inf, fin, binary64, is_nan, lt, le, eq}
 use lib.Ieee.Fits.{sub-fits}
 use Rattle.std.specs.Float.{float_with_sign}
 use Rattle.solver.specs.F64.{◌-ᶠ◌}

@@ -1,14 +1,7 @@
 -- The loop of the nearest hour: what holds before an hour, one turn, and the end.
+use Rattle.std.proofs.Common.{ℕ, zero, suc, ◌+◌, ◌-◌, ◌≤◌, ◌<◌, ◌≡◌, refl, sym, ap, subst, ◌∙◌, Bool, true, false, not, List, [], ◌∷◌, arith, length, drop, ltb, Float, ltb-true, ltb-false}
 use Rattle.std.specs.Prelude.{Option, None, Some, IsTrue, MatchOption, option_map}
-use Prim.Native.Nat.{ℕ, zero, suc, ◌+◌, ◌-◌, ◌≤◌, ◌<◌}
-use mathlib.Core.Path.{◌≡◌, refl, sym, ap, subst, ◌∙◌}
-use mathlib.Core.Bool.{Bool, true, false, not}
-use mathlib.Core.List.{List, [], ◌∷◌}
-use native.Mathlib.Omega.{arith}
-use lib.ListN.{length, drop}
-use lib.Dec.{ltb}
-use lib.Ieee.{Float, nan}
-use borrow.Author.Tests.{ltb-true, ltb-false}
+use lib.Ieee.{nan}
 use Rattle.book.proofs.Model.Laws.Bytes.{true_not_false}
 use Rattle.tools.specs.Questions.{distance, nearer, none_nearer, nearest_hour}
 use Rattle.tools.specs.Questions as Temperature

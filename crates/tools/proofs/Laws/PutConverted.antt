@@ -1,12 +1,6 @@
 -- What the code writes of an entry, against the entry converted.
-use Prim.Native.Nat.{ℕ, ◌+◌, ◌≤◌}
-use mathlib.Core.Path.{◌≡◌, sym, ap, subst, ◌∙◌}
-use mathlib.Core.Bool.{true, cond}
-use mathlib.Core.List.{List, ◌∷◌, ◌++◌, append_assoc}
-use native.Mathlib.Omega.{arith}
-use lib.ListN.{length, take, drop, get_or, set}
-use lib.Seq.{length-take-le, take-add, drop-drop, drop-append-add, take-append-add, set_split, get_or-drop}
-use borrow.Author.Tests.{eq-eqb}
+use Rattle.std.proofs.Common.{ℕ, ◌+◌, ◌≤◌, ◌≡◌, sym, ap, subst, ◌∙◌, true, cond, List, ◌∷◌, ◌++◌, append_assoc, arith, length, take, drop, get_or, set, length-take-le, take-add, drop-drop, get_or-drop, eq-eqb}
+use lib.Seq.{drop-append-add, take-append-add, set_split}
 use Rattle.zone.specs.Format.FixedRate.{is_fixed, rate_twice}
 use Rattle.book.specs.Layout.{front_size}
 use Rattle.tools.specs.Inner.Convert.{converted_entry, least_entry}

@@ -1,12 +1,6 @@
 -- Whether a temperature is within a band, and the number of hours within one.
-use Prim.Native.Nat.{ℕ, zero, suc, ◌+◌, ◌≤◌, ◌<◌}
-use mathlib.Core.Path.{◌≡◌, refl, sym, ap, ◌∙◌}
-use mathlib.Core.Bool.{Bool, true, false, cond}
-use mathlib.Core.List.{List, [], ◌∷◌}
-use native.Mathlib.Omega.{arith}
+use Rattle.std.proofs.Common.{ℕ, zero, suc, ◌+◌, ◌≤◌, ◌<◌, ◌≡◌, refl, sym, ap, ◌∙◌, Bool, true, false, cond, List, [], ◌∷◌, arith, length, Float}
 use Rattle.std.specs.List.{filter}
-use lib.ListN.{length}
-use lib.Ieee.{Float}
 use Rattle.tools.specs.Questions.{after, within, hours_within}
 use Rattle.tools.specs.Claims.{count_of}
 

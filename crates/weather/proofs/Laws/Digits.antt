@@ -1,15 +1,6 @@
 -- Laws of digits and the numbers that they write, and of the loop over them.
-use Prim.Native.Nat.{ℕ, suc, ◌+◌, ◌-◌, ◌*◌, ◌^◌, ◌≤◌, ◌<◌}
-use mathlib.Core.Path.{◌≡◌, refl, sym, ap, ◌∙◌}
-use mathlib.Core.Bool.{true}
-use mathlib.Core.List.{List, [], ◌∷◌, ◌++◌}
-use native.Mathlib.Nat.{mul_assoc, mul_comm, mul_left_comm, add-mul, pow-le-pow_right, mul-le-mul_left, mul-le-mul_right}
-use native.Mathlib.Numerals.{add-one}
-use native.Mathlib.Omega.{arith}
-use lib.ListN.{length, length-drop, length-append, drop, get_or, drop_of_length-le}
-use lib.Dec.{leb}
-use lib.Pow.{pow-add}
-use borrow.Author.Tests.{leb-true}
+use Rattle.std.proofs.Common.{ℕ, suc, ◌+◌, ◌-◌, ◌*◌, ◌^◌, ◌≤◌, ◌<◌, ◌≡◌, refl, sym, ap, ◌∙◌, true, List, [], ◌∷◌, ◌++◌, mul_assoc, mul_comm, mul_left_comm, add-mul, mul-le-mul_left, mul-le-mul_right, add-one, arith, length, length-drop, length-append, drop, get_or, drop_of_length-le, leb, pow-add, leb-true}
+use native.Mathlib.Nat.{pow-le-pow_right}
 use Rattle.std.proofs.lemmas.Bool.{and_parts}
 use Rattle.std.proofs.lemmas.List.{drop_more}
 use Rattle.weather.specs.Numbers.{digit0, digit9, most_digits}

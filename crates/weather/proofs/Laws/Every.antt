@@ -1,10 +1,5 @@
 -- Every file is lines, and every line is fields.
-use Prim.Native.Nat.{ℕ}
-use mathlib.Core.Path.{◌≡◌, refl, ap, ◌∙◌}
-use mathlib.Core.Bool.{Bool, true, false}
-use mathlib.Core.List.{List, [], ◌∷◌, ◌++◌}
-use lib.Dec.{eqb}
-use borrow.Author.Tests.{eqb-true}
+use Rattle.std.proofs.Common.{ℕ, ◌≡◌, refl, ap, ◌∙◌, Bool, true, false, List, [], ◌∷◌, ◌++◌, eqb, eqb-true}
 use Rattle.weather.specs.Numbers.{line_feed, comma}
 use Rattle.weather.specs.Split.{without}
 use Rattle.weather.specs.Claims.{joined, separated, all_without, FileLines, LineFields}

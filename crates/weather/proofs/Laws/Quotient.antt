@@ -1,15 +1,9 @@
 -- The quotient of two whole numbers rounds their fraction once, and a minus before it is the fraction's.
-use Prim.Native.Nat.{ℕ, zero, suc, ◌+◌, ◌*◌, ◌^◌, ◌<◌}
-use mathlib.Core.Path.{◌≡◌, refl, sym, ap, ◌∙◌, subst}
-use mathlib.Core.Bool.{Bool, true, false, cond, true≢false}
-use native.Mathlib.Nat.{mul-one, mul_assoc, mul_comm, mul_left_comm, mul-pos, zero-mul, lt_irrefl}
-use native.Mathlib.Omega.{arith}
-use lib.Dec.{ltb}
-use lib.Ieee.{Float, Format, nan, inf, fin, binary64, round, units, odd, div, neg, up, down, prec, emax, low}
+use Rattle.std.proofs.Common.{ℕ, zero, suc, ◌+◌, ◌*◌, ◌^◌, ◌<◌, ◌≡◌, refl, sym, ap, ◌∙◌, subst, Bool, true, false, cond, true≢false, mul-one, mul_assoc, mul_comm, mul_left_comm, mul-pos, zero-mul, lt_irrefl, arith, ltb, Float, ne_eqb}
+use lib.Ieee.{Format, nan, inf, fin, binary64, round, units, odd, div, neg, up, down, prec, emax, low}
 use lib.Ieee.Exact.{HasValue}
 use lib.Ieee.Scale.{round_same}
 use lib.Ieee.Fits.{down_pos}
-use borrow.Author.Tests.{ne_eqb}
 
 pub div_of : (x y : Float) (m p : ℕ) → 0 < p → HasValue x false m 1 → HasValue y false p 1 → div binary64 x y ≡ round binary64 false m p
 unfolding div

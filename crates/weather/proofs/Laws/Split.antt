@@ -1,9 +1,8 @@
 -- Laws of splitting bytes at a separator.
-use Rattle.std.proofs.Common.{ℕ, ◌≡◌, Bool, true, false, not, cond, List, [], ◌∷◌, ◌++◌, refl, ap, eq-eqb, rules}
+use Rattle.std.proofs.Common.{ℕ, ◌≡◌, Bool, true, false, not, cond, List, [], ◌∷◌, ◌++◌, refl, ap, eq-eqb, rules, eqb}
 use Rattle.std.specs.List.{All, onto_first}
 use Rattle.std.proofs.lemmas.List.Elements.{All-cons}
 use Rattle.std.proofs.lemmas.List.Splits.{slice_split_none, slice_split_at}
-use lib.Dec.{eqb}
 use borrow.Author.Tests.{not-true}
 use Rattle.std.proofs.lemmas.Bool.{and_parts}
 use Rattle.weather.specs.Split.{split, without}

@@ -1,12 +1,6 @@
 -- Laws of files that are written line by line and of lines that are written field by field: they split into what they are written of.
-use Prim.Native.Nat.{ℕ, suc, ◌+◌, ◌≤◌, ◌<◌}
-use mathlib.Core.Path.{◌≡◌, refl, ap, ◌∙◌}
-use mathlib.Core.Bool.{true}
-use mathlib.Core.List.{List, [], ◌∷◌, ◌++◌, append_assoc}
+use Rattle.std.proofs.Common.{ℕ, suc, ◌+◌, ◌≤◌, ◌<◌, ◌≡◌, refl, ap, ◌∙◌, true, List, [], ◌∷◌, ◌++◌, append_assoc, arith, length, length-append, drop, drop_of_length-le, drop-drop, drop_at}
 use Rattle.std.specs.Prelude.{Some, None, slice_get}
-use native.Mathlib.Omega.{arith}
-use lib.ListN.{length, length-append, drop, drop_of_length-le}
-use lib.Seq.{drop-drop, drop_at}
 use Rattle.std.proofs.lemmas.Grind.{common_steps}
 use Rattle.std.proofs.lemmas.Bool.{and_parts}
 use Rattle.weather.specs.Numbers.{line_feed, carriage_return, comma, header_lines}

@@ -1,11 +1,5 @@
 -- Conditions: accepted ones have the paper's size.
-use Prim.Native.Nat.{ℕ, ◌≤◌}
-use mathlib.Core.Path.{◌≡◌, sym}
-use mathlib.Core.Bool.{true, ◌&&◌}
-use mathlib.Core.List.{List, map}
-use borrow.Author.Tests.{leb-true, eqb-true}
-use lib.Dec.{leb, eqb}
-use lib.ListN.{length, take}
+use Rattle.std.proofs.Common.{ℕ, ◌≤◌, ◌≡◌, sym, true, ◌&&◌, List, map, leb-true, eqb-true, leb, eqb, length, take}
 use Rattle.solver.specs.Result.{ok, require}
 use Rattle.solver.proofs.Laws.Result.{bind_ok, require_ok, ok_inj}
 use Rattle.zone.specs.Format.Conditions.{conditions_at, conditions_test, rate_code_valid, open_bits_valid, conditions_of}

@@ -1,14 +1,5 @@
 -- Accepted conditions determine their bytes.
-use Prim.Native.Nat.{ℕ, suc, zero, ◌+◌, ◌*◌, ◌-◌, ◌≤◌}
-use mathlib.Core.Path.{◌≡◌, refl, sym, ap, ◌∙◌}
-use mathlib.Core.Bool.{Bool, true, false, cond, ◌&&◌, true≢false}
-use mathlib.Core.List.{List, [], ◌∷◌, ◌++◌, map}
-use native.Mathlib.Omega.{arith}
-use borrow.Author.Tests.{eqb-true}
-use lib.Dec.{eqb}
-use lib.ListN.{length, take, get_or, replicate}
-use lib.Seq.{take_all, take_at}
-use lib.Ieee.{Float}
+use Rattle.std.proofs.Common.{ℕ, suc, zero, ◌+◌, ◌*◌, ◌-◌, ◌≤◌, ◌≡◌, refl, sym, ap, ◌∙◌, Bool, true, false, cond, ◌&&◌, true≢false, List, [], ◌∷◌, ◌++◌, map, arith, eqb-true, eqb, length, take, get_or, replicate, take_all, take_at, Float}
 use Rattle.solver.specs.Result.{ok, require_at}
 use Rattle.solver.proofs.Laws.Result.{bind_ok, require_ok}
 use Rattle.zone.specs.Record.Numbers.{conditions_value}

@@ -1,12 +1,6 @@
 -- Convection by direction: the three sums of an accepted update or hour step, told by the states before and after it.
-use mathlib.Core.Path.{◌≡◌, refl, sym, ap, subst, ◌∙◌}
-use mathlib.Core.Bool.{Bool, true, false, cond, not, ◌&&◌, ◌||◌}
-use mathlib.Core.List.{List}
-use Prim.Native.Nat.{ℕ, zero, suc, ◌+◌, ◌-◌, ◌*◌, ◌<◌, ◌≤◌}
-use native.Mathlib.Omega.{arith}
-use lib.ListN.{length, get_or}
-use lib.Ieee.{Float, nan, is_nan, lt, le, of_bits}
-use borrow.Author.Tests.{le-ltb}
+use Rattle.std.proofs.Common.{◌≡◌, refl, sym, ap, subst, ◌∙◌, Bool, true, false, cond, not, ◌&&◌, ◌||◌, List, ℕ, zero, suc, ◌+◌, ◌-◌, ◌*◌, ◌<◌, ◌≤◌, arith, length, get_or, Float, le-ltb}
+use lib.Ieee.{nan, is_nan, lt, le, of_bits}
 use Rattle.solver.specs.F64.{◌-ᶠ◌, ◌*ᶠ◌, decimal}
 use Rattle.solver.specs.Sums.{sum_from0, terms_of}
 use Rattle.solver.specs.Chain.{outer_slot}

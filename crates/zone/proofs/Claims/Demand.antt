@@ -1,9 +1,6 @@
 -- Every accepted demand, also that of an hour step, has heating not below 0, cooling not above it, and at most one of them that is not 0.
-use mathlib.Core.Path.{◌≡◌, refl, subst}
-use mathlib.Core.Bool.{Bool, true, false}
-use mathlib.Core.Logic.{inl, inr}
-use mathlib.Core.List.{List}
-use lib.Ieee.{Float, lt, le, eq, of_bits}
+use Rattle.std.proofs.Common.{◌≡◌, refl, subst, Bool, true, false, inl, inr, List, Float}
+use lib.Ieee.{lt, le, eq, of_bits}
 use Rattle.solver.specs.F64.{zero64}
 use Rattle.solver.specs.Result.{ok}
 use Rattle.solver.proofs.Laws.Result.{bind_ok}

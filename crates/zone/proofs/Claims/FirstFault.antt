@@ -1,10 +1,5 @@
 -- Which element is named in a refusal, and why a zone, a state and an hour's conditions are refused.
-use Prim.Native.Nat.{ℕ, zero, suc, ◌+◌}
-use mathlib.Core.Path.{◌≡◌, refl}
-use mathlib.Core.Bool.{Bool, true, false, ◌&&◌}
-use mathlib.Core.List.{List, [], ◌∷◌}
-use lib.Dec.{leb, eqb}
-use lib.ListN.{length, take}
+use Rattle.std.proofs.Common.{ℕ, zero, suc, ◌+◌, ◌≡◌, refl, Bool, true, false, ◌&&◌, List, [], ◌∷◌, leb, eqb, length, take}
 use Rattle.solver.specs.Result.{require_at}
 use Rattle.solver.specs.Refusals.{RefusesOnly, accepts, refuses}
 use Rattle.solver.proofs.Laws.Refusals.{bind_refuses}

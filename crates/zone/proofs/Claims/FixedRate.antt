@@ -1,11 +1,5 @@
 -- The claims of specs/Claims/FixedRate.antt, proved.
-use Prim.Native.Nat.{ℕ, ◌≤◌}
-use mathlib.Core.Path.{◌≡◌, refl, sym, ◌∙◌}
-use mathlib.Core.Bool.{Bool, true, false, ◌&&◌, true≢false}
-use mathlib.Core.List.{List, map}
-use lib.ListN.{length, take}
-use lib.Dec.{leb, eqb}
-use borrow.Author.Tests.{le-leb, eq-eqb}
+use Rattle.std.proofs.Common.{ℕ, ◌≤◌, ◌≡◌, refl, sym, ◌∙◌, Bool, true, false, ◌&&◌, true≢false, List, map, length, take, leb, eqb, le-leb, eq-eqb}
 use Rattle.solver.specs.Result.{ok, refused, require}
 use Rattle.solver.proofs.Laws.Result.{bind_is, bind_ok, require_ok}
 use Rattle.zone.specs.Record.Numbers.{conditions_code, conditions_size, false_entry}

@@ -1,10 +1,6 @@
 -- What the book cites beside: the most nodes of a zone, and the lengths of numbers and floats as bytes.
-use Prim.Native.Nat.{ℕ, zero, suc, ◌*◌, ◌/◌, ◌≤◌}
-use mathlib.Core.Path.{◌≡◌, refl}
-use mathlib.Core.List.{List, [], ◌∷◌}
-use native.Mathlib.Omega.{arith}
-use lib.ListN.{length, take, length-append, length-take}
-use lib.Ieee.{Float, binary64, to_bits}
+use Rattle.std.proofs.Common.{ℕ, zero, suc, ◌*◌, ◌/◌, ◌≤◌, ◌≡◌, refl, List, [], ◌∷◌, arith, length, take, length-append, length-take, Float, to_bits}
+use lib.Ieee.{binary64}
 use Rattle.solver.specs.Result.{ok}
 use Rattle.zone.specs.Record.BuildingElement.{number_of_nodes, nodes_of, node_count}
 use Rattle.zone.specs.Format.Bytes.{bytes_of}

@@ -1,12 +1,5 @@
 -- Heads: an accepted one lies within the bytes and depends on its own bytes only; its zone passes `zone_test`; its length is the paper's.
-use Prim.Native.Nat.{ℕ, suc, zero, ◌+◌, ◌≤◌}
-use mathlib.Core.Path.{◌≡◌, refl, sym, subst, ◌∙◌}
-use mathlib.Core.List.{List, ◌++◌}
-use native.Mathlib.Omega.{arith}
-use borrow.Author.Tests.{leb-true}
-use lib.Dec.{leb}
-use lib.ListN.{take, length, length-append}
-use lib.Seq.{take_at, length-take-le}
+use Rattle.std.proofs.Common.{ℕ, suc, zero, ◌+◌, ◌≤◌, ◌≡◌, refl, sym, subst, ◌∙◌, List, ◌++◌, arith, leb-true, leb, take, length, length-append, take_at, length-take-le}
 use Rattle.solver.specs.Result.{ok, bind, require}
 use Rattle.solver.proofs.Laws.Result.{ok_inj, bind_ok, require_ok}
 use Rattle.zone.specs.Record.Numbers.{structure}

@@ -1,12 +1,5 @@
 -- Accepted or refused, a head depends on its own bytes only.
-use Prim.Native.Nat.{ℕ, suc, zero, ◌+◌, ◌≤◌}
-use mathlib.Core.Path.{◌≡◌, refl}
-use mathlib.Core.Bool.{Bool, true, false}
-use mathlib.Core.List.{List}
-use native.Mathlib.Omega.{arith}
-use borrow.Author.Tests.{le-leb, leb-true}
-use lib.Dec.{leb}
-use lib.ListN.{take, length}
+use Rattle.std.proofs.Common.{ℕ, suc, zero, ◌+◌, ◌≤◌, ◌≡◌, refl, Bool, true, false, List, arith, le-leb, leb-true, leb, take, length}
 use Rattle.solver.specs.Result.{Result, ok, refused}
 use Rattle.zone.specs.Format.Layout.{length_field, count_in, first_element}
 use Rattle.zone.specs.Format.ElementLayout.{size_at}

@@ -1,14 +1,5 @@
 -- An accepted head's zone determines its bytes.
-use Prim.Native.Nat.{ℕ, suc, zero, ◌+◌, ◌*◌, ◌-◌, ◌≤◌}
-use mathlib.Core.Path.{◌≡◌, refl, sym, ap, ◌∙◌}
-use mathlib.Core.Bool.{Bool, true, cond, ◌&&◌}
-use mathlib.Core.List.{List, [], ◌∷◌, ◌++◌}
-use native.Mathlib.Omega.{arith}
-use borrow.Author.Tests.{leb-true}
-use lib.Dec.{leb}
-use lib.ListN.{length, take, get_or, replicate}
-use lib.Seq.{take_at}
-use lib.Ieee.{Float}
+use Rattle.std.proofs.Common.{ℕ, suc, zero, ◌+◌, ◌*◌, ◌-◌, ◌≤◌, ◌≡◌, refl, sym, ap, ◌∙◌, Bool, true, cond, ◌&&◌, List, [], ◌∷◌, ◌++◌, arith, leb-true, leb, length, take, get_or, replicate, take_at, Float}
 use Rattle.solver.specs.F64.{zero64}
 use Rattle.solver.specs.Result.{ok, require_at}
 use Rattle.solver.proofs.Laws.Result.{bind_ok, require_ok}

@@ -1,7 +1,5 @@
 -- The claims of heads, zones and conditions.
-use Prim.Native.Nat.{ℕ}
-use mathlib.Core.Path.{◌≡◌}
-use mathlib.Core.List.{List}
+use Rattle.std.proofs.Common.{ℕ, ◌≡◌, List}
 use Rattle.solver.specs.Result.{ok}
 use Rattle.zone.specs.Format.Head.{ReadHead, head_of}
 use Rattle.zone.specs.Claims.Head.{HeadClaims, AcceptedHead, ZoneClaims, ConditionsClaims}

@@ -1,12 +1,5 @@
 -- The index of a refused head is that of an element that its count byte counts, or 0.
-use Prim.Native.Nat.{ℕ, zero, suc, ◌+◌, ◌≤◌}
-use mathlib.Core.Path.{◌≡◌, refl}
-use mathlib.Core.Bool.{◌&&◌}
-use mathlib.Core.List.{List, [], ◌∷◌}
-use native.Mathlib.Omega.{arith}
-use borrow.Author.Tests.{leb-true}
-use lib.Dec.{leb, eqb}
-use lib.ListN.{length, take, length-take}
+use Rattle.std.proofs.Common.{ℕ, zero, suc, ◌+◌, ◌≤◌, ◌≡◌, refl, ◌&&◌, List, [], ◌∷◌, arith, leb-true, leb, eqb, length, take, length-take}
 use Rattle.solver.specs.Refusals.{RefusesOnly, accepts}
 use Rattle.solver.proofs.Laws.Refusals.{bind_refuses, test_refuses}
 use Rattle.solver.proofs.Laws.Tests.{and_true}

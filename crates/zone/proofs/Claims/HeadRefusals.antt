@@ -1,12 +1,5 @@
 -- Which numbers and indices heads, zones given as records and conditions are refused with.
-use Prim.Native.Nat.{ℕ, zero, suc, ◌+◌, ◌≤◌, ◌<◌}
-use mathlib.Core.Path.{◌≡◌, refl}
-use mathlib.Core.Bool.{◌&&◌}
-use mathlib.Core.List.{List, map}
-use native.Mathlib.Omega.{arith}
-use borrow.Author.Tests.{leb-true}
-use lib.Dec.{leb, eqb}
-use lib.ListN.{length, take, length-take}
+use Rattle.std.proofs.Common.{ℕ, zero, suc, ◌+◌, ◌≤◌, ◌<◌, ◌≡◌, refl, ◌&&◌, List, map, arith, leb-true, leb, eqb, length, take, length-take}
 use Rattle.solver.specs.Result.{ok}
 use Rattle.solver.specs.Refusals.{RefusesOnly, accepts}
 use Rattle.solver.proofs.Laws.Refusals.{bind_refuses, test_refuses}

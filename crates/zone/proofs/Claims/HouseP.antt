@@ -1,7 +1,5 @@
 -- House P's head, start-up and hour, and its marked rows, by computing.
-use mathlib.Core.Path.{◌≡◌, refl}
-use mathlib.Core.Bool.{true}
-use lib.ListN.{length}
+use Rattle.std.proofs.Common.{◌≡◌, refl, true, length}
 use Rattle.zone.specs.Format.Decode.{no_element, no_element_hour, floats_at, zone_at, elements_at}
 use Rattle.zone.specs.Format.ElementLayout.{kind_of}
 use Rattle.solver.specs.F64.{decimal}

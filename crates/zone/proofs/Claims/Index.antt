@@ -1,11 +1,5 @@
 -- The index of a refusal is that of an element of the zone, or 0.
-use Prim.Native.Nat.{ℕ, zero, suc, ◌+◌, ◌≤◌}
-use mathlib.Core.Bool.{Bool, ◌&&◌}
-use mathlib.Core.List.{List, [], ◌∷◌, map}
-use native.Mathlib.Omega.{arith}
-use lib.Dec.{leb, eqb}
-use lib.ListN.{length, take, length-take}
-use lib.Ieee.{Float}
+use Rattle.std.proofs.Common.{ℕ, zero, suc, ◌+◌, ◌≤◌, Bool, ◌&&◌, List, [], ◌∷◌, map, arith, leb, eqb, length, take, length-take, Float}
 use Rattle.solver.specs.Refusals.{RefusesOnly, SolveRefusal, accepts, refuses, solve_divisor, solve_temperature}
 use Rattle.solver.proofs.Laws.Refusals.{bind_refuses, cond_refuses, require_refuses, test_refuses}
 use Rattle.zone.specs.declared.record.building_element.Coefficients.{Coefficients}

@@ -1,7 +1,5 @@
 -- Node order and slots, there and back.
-use Prim.Native.Nat.{ℕ}
-use mathlib.Core.Bool.{Bool}
-use mathlib.Core.List.{List}
+use Rattle.std.proofs.Common.{ℕ, Bool, List}
 use Rattle.zone.specs.Claims.NodeOrder.{NodeOrder}
 use Rattle.zone.proofs.Laws.Nodes.{nodes_back, slots_again, slots_again_air}
 

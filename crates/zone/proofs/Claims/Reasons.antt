@@ -1,10 +1,5 @@
 -- Why each call is refused.
-use Prim.Native.Nat.{ℕ, zero, suc, ◌+◌, ◌<◌}
-use mathlib.Core.Path.{◌≡◌, refl, subst}
-use mathlib.Core.Bool.{true, false, ◌&&◌}
-use mathlib.Core.List.{List}
-use native.Mathlib.Omega.{arith}
-use lib.Ieee.{Float}
+use Rattle.std.proofs.Common.{ℕ, zero, suc, ◌+◌, ◌<◌, ◌≡◌, refl, subst, true, false, ◌&&◌, List, arith, Float}
 use Rattle.solver.specs.Result.{Result, ok, refused, bind}
 use Rattle.solver.specs.Refusals.{RefusesOnly, accepts, refuses}
 use Rattle.solver.proofs.Laws.Refusals.{bind_refuses, refuses_also}

@@ -1,10 +1,5 @@
 -- Refusals: which numbers and indices they have; and a refused call hands back the state that it was given.
-use mathlib.Core.Path.{◌≡◌, refl}
-use Prim.Native.Nat.{ℕ, zero, suc, ◌<◌}
-use mathlib.Core.Bool.{true, ◌&&◌}
-use mathlib.Core.List.{List, []}
-use native.Mathlib.Omega.{arith}
-use lib.Ieee.{Float}
+use Rattle.std.proofs.Common.{◌≡◌, refl, ℕ, zero, suc, ◌<◌, true, ◌&&◌, List, [], arith, Float}
 use Rattle.solver.specs.Result.{Result, ok, refused}
 use Rattle.solver.specs.Refusals.{SolveRefusal, RefusesOnly, accepts, refuses, solve_divisor, solve_temperature}
 use Rattle.solver.proofs.Laws.Result.{ok_not_refused}

@@ -1,16 +1,9 @@
 -- An hour with its fixed rate written twice is the same hour: SameHour of specs/Claims/FixedRate.antt, proved.
-use Prim.Native.Nat.{ℕ, ◌≤◌}
-use mathlib.Core.Path.{◌≡◌, refl, sym, ap, ◌∙◌}
-use mathlib.Core.Bool.{Bool, true, false, ◌&&◌, true≢false}
-use mathlib.Core.List.{List, map}
-use native.Mathlib.Omega.{arith}
-use lib.ListN.{length, take}
-use lib.Dec.{eqb}
-use lib.Ieee.{Float, le, ne, is_nan}
+use Rattle.std.proofs.Common.{ℕ, ◌≤◌, ◌≡◌, refl, sym, ap, ◌∙◌, Bool, true, false, ◌&&◌, true≢false, List, map, arith, length, take, eqb, Float, le-leb, eq-eqb}
+use lib.Ieee.{le, ne, is_nan}
 use lib.Ieee.Compare.{differs_from_itself}
 use Rattle.std.proofs.lemmas.Float.{T_from_true}
 use Rattle.solver.proofs.Laws.Order.{le_no_nan}
-use borrow.Author.Tests.{le-leb, eq-eqb}
 use Rattle.solver.specs.F64.{decimal}
 use Rattle.solver.specs.Result.{ok, require, require_at}
 use Rattle.solver.proofs.Laws.Result.{bind_is, bind_ok, require_ok}

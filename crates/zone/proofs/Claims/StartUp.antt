@@ -1,10 +1,5 @@
 -- What start-up's answers mean: 15, and the settled temperatures.
-use Prim.Native.Nat.{ℕ, zero, suc, ◌<◌}
-use mathlib.Core.Path.{◌≡◌, refl, subst, ◌∙◌}
-use mathlib.Core.Bool.{Bool, true, false, cond}
-use mathlib.Core.List.{List}
-use native.Mathlib.Omega.{arith}
-use lib.Ieee.{Float}
+use Rattle.std.proofs.Common.{ℕ, zero, suc, ◌<◌, ◌≡◌, refl, subst, ◌∙◌, Bool, true, false, cond, List, arith, Float}
 use Rattle.solver.specs.Result.{Result, ok, refused, bind}
 use Rattle.solver.proofs.Laws.Result.{bind_ok, ok_inj}
 use Rattle.solver.specs.Refusals.{RefusesOnly}

@@ -1,9 +1,5 @@
 -- A state that is handed back passes the next call's tests.
-use mathlib.Core.Path.{◌≡◌, subst}
-use mathlib.Core.Bool.{◌&&◌}
-use Prim.Native.Nat.{ℕ}
-use mathlib.Core.List.{List}
-use lib.Ieee.{Float}
+use Rattle.std.proofs.Common.{◌≡◌, subst, ◌&&◌, ℕ, List, Float}
 use Rattle.solver.specs.F64.{decimal, zero64}
 use Rattle.solver.specs.Result.{ok, require, require_at}
 use Rattle.solver.proofs.Laws.Result.{bind_ok, require_ok}

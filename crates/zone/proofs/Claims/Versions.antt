@@ -1,9 +1,6 @@
 -- What the hour step is in each entry version; that no other is answered; and what the versions share.
-use Prim.Native.Nat.{ℕ}
-use mathlib.Core.Path.{◌≡◌, refl, sym, ◌∙◌}
-use mathlib.Core.Bool.{true, false}
-use mathlib.Core.List.{List}
-use lib.Ieee.{Float, lt}
+use Rattle.std.proofs.Common.{ℕ, ◌≡◌, refl, sym, ◌∙◌, true, false, List, Float}
+use lib.Ieee.{lt}
 use Rattle.solver.specs.F64.{zero64}
 use Rattle.solver.specs.Result.{Result, ok, refused, bind}
 use Rattle.zone.specs.declared.record.building_element.Coefficients.{Coefficients}

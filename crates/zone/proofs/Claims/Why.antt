@@ -1,9 +1,5 @@
 -- Why this rate, why this load: the statements of specs/Claims/Why.antt.
-use Prim.Native.Nat.{ℕ}
-use mathlib.Core.Path.{◌≡◌, refl, sym, ap, subst, ◌∙◌}
-use mathlib.Core.Logic.{◌↔◌}
-use mathlib.Core.List.{List}
-use lib.Ieee.{Float}
+use Rattle.std.proofs.Common.{ℕ, ◌≡◌, refl, sym, ap, subst, ◌∙◌, ◌↔◌, List, Float}
 use Rattle.solver.specs.Result.{Result, ok, refused, bind}
 use Rattle.solver.specs.Refusals.{RefusesOnly, accepts, refuses}
 use Rattle.solver.proofs.Laws.Result.{bind_ok, bind_is, ok_inj, ok_not_refused}

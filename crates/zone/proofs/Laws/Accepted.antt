@@ -1,9 +1,5 @@
 -- What an accepted hour step tells of its arguments and of the state after it.
-use Prim.Native.Nat.{ℕ, ◌≤◌}
-use mathlib.Core.Path.{◌≡◌, sym, ap, ◌∙◌}
-use mathlib.Core.List.{List}
-use lib.ListN.{length}
-use lib.Ieee.{Float}
+use Rattle.std.proofs.Common.{ℕ, ◌≤◌, ◌≡◌, sym, ap, ◌∙◌, List, length, Float}
 use Rattle.solver.specs.F64.{◌+ᶠ◌}
 use Rattle.solver.specs.Result.{ok}
 use Rattle.solver.proofs.Laws.Result.{bind_is, bind_ok, ok_inj}

@@ -1,9 +1,6 @@
 -- The code's arrays hold what the definitions give as functions of the element's number: what is assembled from either is the same.
-use mathlib.Core.Path.{◌≡◌, refl, ap, ◌∙◌}
-use mathlib.Core.List.{List}
-use Prim.Native.Nat.{ℕ, ◌≤◌, ◌<◌}
-use lib.ListN.{length, get_or}
-use lib.Ieee.{Float, nan}
+use Rattle.std.proofs.Common.{◌≡◌, refl, ap, ◌∙◌, List, ℕ, ◌≤◌, ◌<◌, length, get_or, Float}
+use lib.Ieee.{nan}
 use Rattle.solver.specs.Repeat.{repeat}
 use Rattle.solver.specs.Sums.{sum2, terms}
 use Rattle.zone.specs.Physics.Slots.{with_terms}

@@ -1,8 +1,7 @@
 -- What the answers of the calls on a zone tell of the definitions that they meet.
+use Rattle.std.proofs.Common.{ℕ, ◌≡◌, sym, ap, ◌∙◌}
 use Rattle.std.specs.Prelude.{Ok, Err}
 use Rattle.std.specs.Prelude as Rust
-use Prim.Native.Nat.{ℕ}
-use mathlib.Core.Path.{◌≡◌, sym, ap, ◌∙◌}
 use Rattle.solver.specs.Result.{Result, ok, refused}
 use Rattle.solver.proofs.Laws.Result.{ok_inj, ok_not_refused}
 use Rattle.zone.specs.Answers.{number_of, index_of, answered}

@@ -1,10 +1,6 @@
 -- What an assembled hour has: lists of their lengths; and the control temperature from the areas.
-use mathlib.Core.Path.{◌≡◌, refl, ap, ◌∙◌}
-use mathlib.Core.Bool.{Bool, false}
-use mathlib.Core.List.{List}
-use Prim.Native.Nat.{ℕ, ◌+◌, ◌-◌, ◌*◌}
-use lib.ListN.{length, get_or, replicate, length-set}
-use lib.Ieee.{Float, nan, neg}
+use Rattle.std.proofs.Common.{◌≡◌, refl, ap, ◌∙◌, Bool, false, List, ℕ, ◌+◌, ◌-◌, ◌*◌, length, get_or, replicate, length-set, Float}
+use lib.Ieee.{nan, neg}
 use Rattle.solver.specs.F64.{◌-ᶠ◌, ◌*ᶠ◌, zero64}
 use Rattle.solver.specs.Repeat.{repeat}
 use Rattle.solver.specs.Rows.{set_entry}

@@ -1,10 +1,5 @@
 -- The heat balance's sums, made in one pass over the elements: nine at the external boundary, four at the internal one.
-use mathlib.Core.Path.{◌≡◌, refl, ◌∙◌}
-use mathlib.Core.Bool.{◌||◌}
-use mathlib.Core.List.{List}
-use Prim.Native.Nat.{ℕ, zero, suc, ◌-◌}
-use native.Mathlib.Omega.{arith}
-use lib.Ieee.{Float}
+use Rattle.std.proofs.Common.{◌≡◌, refl, ◌∙◌, ◌||◌, List, ℕ, zero, suc, ◌-◌, arith, Float}
 use Rattle.solver.specs.Repeat.{repeat_of, repeat}
 use Rattle.solver.specs.Sums.{sum_from, terms_of}
 use Rattle.solver.specs.FastSolver.{at_most24}

@@ -1,12 +1,6 @@
 -- A loop that moves blocks of numbers from one list to another: block e has k e numbers, from place src e to place dst e.
-use mathlib.Core.Path.{◌≡◌, refl, subst, ◌∙◌}
-use mathlib.Core.Logic.{⊎_elim}
-use mathlib.Core.List.{List}
-use Prim.Native.Nat.{ℕ, zero, suc, ◌+◌, ◌-◌, ◌≤◌, ◌<◌}
-use native.Mathlib.Nat.{eq-or-lt_of_le}
-use native.Mathlib.Omega.{arith}
-use lib.ListN.{length, get_or, length-set}
-use lib.Ieee.{Float, nan}
+use Rattle.std.proofs.Common.{◌≡◌, refl, subst, ◌∙◌, ⊎_elim, List, ℕ, zero, suc, ◌+◌, ◌-◌, ◌≤◌, ◌<◌, eq-or-lt_of_le, arith, length, get_or, length-set, Float}
+use lib.Ieee.{nan}
 use Rattle.solver.specs.Repeat.{repeat_of}
 use Rattle.zone.specs.Physics.NodeLayout.{move, copy_nodes}
 use Rattle.zone.proofs.Laws.Terms.{repeat_length, store_other, store_at}

@@ -1,14 +1,6 @@
 -- The bound of ±1e6: a solve that is accepted keeps it at every node, and the state of such temperatures passes the test of a state.
-use mathlib.Core.Path.{◌≡◌, refl, sym, subst}
-use mathlib.Core.Logic.{⊎_elim}
-use mathlib.Core.Bool.{Bool, true, false, cond}
-use mathlib.Core.List.{List, [], ◌∷◌}
-use Prim.Native.Nat.{ℕ, zero, suc, ◌+◌, ◌*◌, ◌-◌, ◌≤◌, ◌<◌}
-use native.Mathlib.Nat.{eq-or-lt_of_le}
-use native.Mathlib.Omega.{arith}
-use lib.ListN.{get_or, take, replicate}
-use lib.Ieee.{Float, nan}
-use borrow.Author.Tests.{eq-eqb}
+use Rattle.std.proofs.Common.{◌≡◌, refl, sym, subst, ⊎_elim, Bool, true, false, cond, List, [], ◌∷◌, ℕ, zero, suc, ◌+◌, ◌*◌, ◌-◌, ◌≤◌, ◌<◌, eq-or-lt_of_le, arith, get_or, take, replicate, Float, eq-eqb}
+use lib.Ieee.{nan}
 use Rattle.solver.specs.Repeat.{all_of}
 use Rattle.solver.specs.Closeness.{within_state_bound}
 use Rattle.solver.specs.Result.{ok, require}

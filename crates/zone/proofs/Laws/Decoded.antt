@@ -1,9 +1,5 @@
 -- What a loop over bytes still has to read, against what it has read: one part, and then the others; at the end none.
-use Prim.Native.Nat.{ℕ, suc, zero, ◌+◌, ◌*◌, ◌-◌, ◌<◌, ◌≤◌}
-use mathlib.Core.Path.{◌≡◌, refl, ap}
-use mathlib.Core.List.{List, [], ◌∷◌}
-use native.Mathlib.Omega.{arith}
-use lib.ListN.{length}
+use Rattle.std.proofs.Common.{ℕ, suc, zero, ◌+◌, ◌*◌, ◌-◌, ◌<◌, ◌≤◌, ◌≡◌, refl, ap, List, [], ◌∷◌, arith, length}
 use Rattle.zone.specs.Format.Bytes.{float_at, float_size}
 use Rattle.zone.specs.Format.Layout.{element_hour_size}
 use Rattle.zone.specs.Format.ElementLayout.{size_at}

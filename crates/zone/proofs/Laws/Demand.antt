@@ -1,9 +1,7 @@
 -- What an accepted demand is made of: the choice of a rate, which it keeps, and so many kWh.
+use Rattle.std.proofs.Common.{◌≡◌, refl, sym, ap, ◌∙◌, not, List, Float}
 use Rattle.std.specs.Prelude.{Option, Some, None}
-use mathlib.Core.Path.{◌≡◌, refl, sym, ap, ◌∙◌}
-use mathlib.Core.Bool.{not}
-use mathlib.Core.List.{List}
-use lib.Ieee.{Float, lt}
+use lib.Ieee.{lt}
 use Rattle.solver.specs.F64.{zero64}
 use Rattle.solver.specs.Result.{ok, require}
 use Rattle.solver.proofs.Laws.Result.{bind_ok, ok_inj}

@@ -1,14 +1,7 @@
 -- The treatments and the nodes of elements, one by one.
-use mathlib.Core.Path.{◌≡◌, sym, ◌∙◌}
-use mathlib.Core.Bool.{Bool, true, false, cond}
-use mathlib.Core.List.{List}
-use Prim.Native.Nat.{ℕ, ◌+◌, ◌≤◌, ◌<◌, ◌/◌, ◌%◌, ◌^◌}
-use native.Mathlib.Omega.{arith}
+use Rattle.std.proofs.Common.{◌≡◌, sym, ◌∙◌, Bool, true, false, cond, List, ℕ, ◌+◌, ◌≤◌, ◌<◌, ◌/◌, ◌%◌, ◌^◌, arith, length, drop, get_or, drop_of_length-le, eqb, Float}
 use Rattle.std.proofs.lemmas.Nat.{and_mask, shr-shr}
 use Rattle.std.specs.Int.Bits.{bit_and}
-use lib.ListN.{length, drop, get_or, drop_of_length-le}
-use lib.Dec.{eqb}
-use lib.Ieee.{Float}
 use Rattle.solver.specs.F64.{◌+ᶠ◌}
 use Rattle.solver.proofs.Laws.Parts.{drop_next}
 use Rattle.zone.specs.Record.BuildingElement.{add_closed, is_two_nodes, number_of_nodes, nodes_of}

@@ -1,12 +1,5 @@
 -- What a good kind and count of treatments say of an element's counts and size.
-use Prim.Native.Nat.{ℕ, ◌+◌, ◌*◌, ◌≤◌}
-use mathlib.Core.Path.{◌≡◌}
-use mathlib.Core.Bool.{Bool, true, false, cond}
-use mathlib.Core.List.{List}
-use native.Mathlib.Omega.{arith}
-use borrow.Author.Tests.{leb-true}
-use lib.Dec.{leb}
-use lib.ListN.{length, get_or}
+use Rattle.std.proofs.Common.{ℕ, ◌+◌, ◌*◌, ◌≤◌, ◌≡◌, Bool, true, false, cond, List, arith, leb-true, leb, length, get_or}
 use Rattle.solver.proofs.Laws.Tests.{and_true}
 use Rattle.zone.specs.Format.Bytes.{float_size}
 use Rattle.zone.specs.Format.Layout.{element_arrays, element_hour_size, five_nodes_size, transparent_size}

@@ -1,11 +1,6 @@
 -- The temperatures after an accepted hour step: each is a value that an f64 holds, and behind the zone's nodes stand zeros.
-use Prim.Native.Nat.{ℕ, zero, suc, ◌+◌, ◌-◌, ◌*◌}
-use mathlib.Core.Path.{◌≡◌, sym, ap, subst}
-use mathlib.Core.Bool.{Bool}
-use mathlib.Core.List.{List, ◌++◌}
-use native.Mathlib.Omega.{arith}
-use lib.ListN.{get_or, take, replicate}
-use lib.Ieee.{Float, nan, binary64}
+use Rattle.std.proofs.Common.{ℕ, zero, suc, ◌+◌, ◌-◌, ◌*◌, ◌≡◌, sym, ap, subst, Bool, List, ◌++◌, arith, get_or, take, replicate, Float}
+use lib.Ieee.{nan, binary64}
 use lib.Ieee.Bits.{of_bits-fits}
 use lib.Ieee.Fits.{nan-fits, add-fits, sub-fits, mul-fits}
 use Rattle.solver.specs.F64.{◌+ᶠ◌, zero64}

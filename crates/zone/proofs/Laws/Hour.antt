@@ -1,8 +1,5 @@
 -- The hour's calculations in the calls: what the hour's answer says of a demand, an hour step, an hour after another and one time step.
-use mathlib.Core.Path.{◌≡◌, refl, sym}
-use mathlib.Core.List.{List}
-use Prim.Native.Nat.{ℕ}
-use lib.Ieee.{Float}
+use Rattle.std.proofs.Common.{◌≡◌, refl, sym, List, ℕ, Float}
 use Rattle.std.specs.Prelude.{Ok, Err}
 use Rattle.std.specs.Prelude as Rust
 use Rattle.solver.specs.F64.{◌+ᶠ◌}

@@ -1,13 +1,7 @@
 -- Factors that are kept: the same directions, open treatments and timestep give the same, and the hour's own give its system's. What is
 -- held after an hour, and what `keep_factors` leaves.
-use mathlib.Core.Path.{◌≡◌, refl, sym, ap, subst, ◌∙◌}
-use mathlib.Core.Bool.{Bool, true, false, cond}
-use mathlib.Core.List.{List, [], ◌∷◌}
-use Prim.Native.Nat.{ℕ, ◌<◌, ◌≤◌}
-use native.Mathlib.Omega.{arith}
-use lib.Dec.{T}
-use lib.ListN.{length, get_or, replicate}
-use lib.Ieee.{Float, nan, binary64, of_bits, to_bits, fits}
+use Rattle.std.proofs.Common.{◌≡◌, refl, sym, ap, subst, ◌∙◌, Bool, true, false, cond, List, [], ◌∷◌, ℕ, ◌<◌, ◌≤◌, arith, T, length, get_or, replicate, Float, to_bits, eqb-true}
+use lib.Ieee.{nan, binary64, of_bits, fits}
 use lib.Ieee.Bits.{of_bits-to_bits}
 use Rattle.solver.specs.F64.{zero64}
 use Rattle.solver.specs.FastSolver.{at_most24}
@@ -24,7 +18,6 @@ use Rattle.zone.specs.Physics.System.{area_of, area_el_total, share_of, directio
 use Rattle.zone.specs.Inner.Assembly.{convective_by, Chains, chains, element_rows}
 use Rattle.zone.specs.Inner.Assembled.{h_ri_of, convective_sum, element_chains, couplings_of}
 use Rattle.zone.specs.Inner.Kept.{h_ci_in, rows_by, chains_by, couplings_by, convective_by_sum, Factors, factors, factors_in, factors_by, FactorsOf, Arrays, arrays, zeros, Held, held, none_held, factors_held, numbers_held, numbers_by, Key, same_key, emptied, held_with, keep_factors, Kept}
-use borrow.Author.Tests.{eqb-true}
 use Rattle.solver.proofs.Laws.Tests.{and_true}
 use Rattle.zone.proofs.Laws.Key.{elements_same}
 use Rattle.zone.proofs.Laws.Terms.{repeat_same, terms_at}

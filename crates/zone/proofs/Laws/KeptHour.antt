@@ -1,12 +1,7 @@
 -- An hour from what is held; and where that is the zone's own, it is what `prepare` makes of the hour's system.
+use Rattle.std.proofs.Common.{◌≡◌, refl, sym, ap, ◌∙◌, Bool, false, List, ℕ, ◌<◌, ◌≤◌, arith, length, get_or, replicate, Float}
 use Rattle.std.specs.Prelude.{Option, Some, None}
-use mathlib.Core.Path.{◌≡◌, refl, sym, ap, ◌∙◌}
-use mathlib.Core.Bool.{Bool, false}
-use mathlib.Core.List.{List}
-use Prim.Native.Nat.{ℕ, ◌<◌, ◌≤◌}
-use native.Mathlib.Omega.{arith}
-use lib.ListN.{length, get_or, replicate}
-use lib.Ieee.{Float, nan, binary64}
+use lib.Ieee.{nan, binary64}
 use lib.Ieee.Fits.{mul-fits}
 use Rattle.solver.specs.F64.{◌/ᶠ◌, zero64, decimal}
 use Rattle.solver.specs.FastSolver.{at_most24}

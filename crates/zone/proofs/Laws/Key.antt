@@ -1,15 +1,5 @@
 -- The key of a matrix that is kept: the timestep, the directions of heat flow and the open treatments.
-use mathlib.Core.Path.{◌≡◌, refl, sym, ap, subst, ◌∙◌}
-use mathlib.Core.Logic.{⊎_elim}
-use mathlib.Core.Bool.{Bool, true, false, ◌&&◌}
-use mathlib.Core.List.{List}
-use Prim.Native.Nat.{ℕ, suc, zero, ◌+◌, ◌-◌, ◌<◌, ◌≤◌}
-use native.Mathlib.Nat.{eq-or-lt_of_le}
-use native.Mathlib.Numerals.{add-one}
-use native.Mathlib.Omega.{arith}
-use borrow.Author.Tests.{eqb-true}
-use lib.Dec.{eqb}
-use lib.ListN.{length, get_or, take, drop}
+use Rattle.std.proofs.Common.{◌≡◌, refl, sym, ap, subst, ◌∙◌, ⊎_elim, Bool, true, false, ◌&&◌, List, ℕ, suc, zero, ◌+◌, ◌-◌, ◌<◌, ◌≤◌, eq-or-lt_of_le, add-one, arith, eqb-true, eqb, length, get_or, take, drop}
 use lib.Pointwise.{pointwise}
 use Rattle.solver.specs.Repeat.{all_of, all}
 use Rattle.solver.proofs.Laws.Parts.{drop_next}

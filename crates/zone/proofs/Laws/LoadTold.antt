@@ -1,10 +1,6 @@
 -- The load beside a reason, by the demand's numbers: heating, cooling, or neither exactly where both are zero.
-use Prim.Native.Nat.{ℕ}
-use mathlib.Core.Path.{◌≡◌, refl, subst}
-use mathlib.Core.Bool.{Bool, true, false}
-use mathlib.Core.List.{List}
-use native.Mathlib.Omega.{arith}
-use lib.Ieee.{Float, lt}
+use Rattle.std.proofs.Common.{ℕ, ◌≡◌, refl, subst, Bool, true, false, List, arith, Float}
+use lib.Ieee.{lt}
 use Rattle.solver.specs.F64.{zero64}
 use Rattle.solver.specs.Result.{ok}
 use Rattle.solver.proofs.Laws.Order.{clash, lt_irreflexive}

@@ -1,10 +1,6 @@
 -- Counting loops whose invariant is that the turns or the terms that are left, from the state now, give what all give from the state at the start:
 -- a turn keeps it, and at the end the state is the answer. For `search (rules, repeat_turn)` and `search (rules, repeat_end)`.
-use mathlib.Core.Path.{◌≡◌, sym, ap, ◌∙◌}
-use mathlib.Core.List.{List}
-use Prim.Native.Nat.{ℕ, ◌+◌, ◌≤◌, ◌<◌}
-use lib.ListN.{set}
-use lib.Ieee.{Float}
+use Rattle.std.proofs.Common.{◌≡◌, sym, ap, ◌∙◌, List, ℕ, ◌+◌, ◌≤◌, ◌<◌, set, Float}
 use Rattle.solver.specs.declared.sums.Sum2.{Sum2}
 use Rattle.solver.specs.Repeat.{repeat}
 use Rattle.solver.specs.Sums.{sum2_add, sum2_add_all, sum2_sum, terms}

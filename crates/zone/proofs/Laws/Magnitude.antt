@@ -1,15 +1,10 @@
 -- The temperatures before the first pass of start-up are within ±1e6: a mean of two numbers of at most 512 in size.
-use mathlib.Core.Path.{◌≡◌, refl, sym, ap, subst, ◌∙◌}
-use mathlib.Core.Bool.{Bool, true, false, cond, ◌&&◌, ◌||◌, beq}
-use Prim.Native.Nat.{ℕ, zero, suc, ◌+◌, ◌-◌, ◌*◌, ◌/◌, ◌%◌, ◌^◌, ◌≤◌, ◌<◌, compare}
-use native.Mathlib.Nat.{le_trans, le_of_eq, le_of_mul-le-mul_right, mul-le-mul_right, mul_assoc, mul_comm, mul-pos}
-use native.Mathlib.Omega.{arith}
-use lib.Dec.{T, ltb, eqb}
-use lib.IntN.{ℤ, pos, negsuc}
-use lib.Ieee.{Float, nan, inf, fin, binary64, prec, low, emax, up, down, unlike, nearest, size, odd, units, round, sum, add, div, lt, le, eq, neg}
+use Rattle.std.proofs.Common.{◌≡◌, refl, sym, ap, subst, ◌∙◌, Bool, true, false, cond, ◌&&◌, ◌||◌, ℕ, zero, suc, ◌+◌, ◌-◌, ◌*◌, ◌/◌, ◌%◌, ◌^◌, ◌≤◌, ◌<◌, le_trans, le_of_eq, le_of_mul-le-mul_right, mul-le-mul_right, mul_assoc, mul_comm, mul-pos, arith, T, ltb, eqb, ℤ, pos, negsuc, Float, ltb-true, lt-ltb, eqb-true}
+use mathlib.Core.Bool.{beq}
+use Prim.Native.Nat.{compare}
+use lib.Ieee.{nan, inf, fin, binary64, prec, low, emax, up, down, unlike, nearest, size, odd, units, round, sum, add, div, lt, le, eq, neg}
 use lib.Ieee.Fits.{down_pos}
 use lib.Ieee.Order.{round_mono}
-use borrow.Author.Tests.{ltb-true, lt-ltb, eqb-true}
 use Rattle.solver.specs.F64.{◌+ᶠ◌, ◌/ᶠ◌, decimal}
 use Rattle.solver.specs.Closeness.{within_state_bound}
 use Rattle.solver.proofs.Laws.Tests.{and_true}

@@ -1,8 +1,6 @@
 -- A NaN differs from itself, and nothing else does.
-use mathlib.Core.Path.{◌≡◌, refl, sym, subst, ◌∙◌}
-use mathlib.Core.Bool.{Bool, true, false, not}
-use lib.Dec.{T}
-use lib.Ieee.{Float, nan, inf, fin, is_nan, ne}
+use Rattle.std.proofs.Common.{◌≡◌, refl, sym, subst, ◌∙◌, Bool, true, false, not, T, Float}
+use lib.Ieee.{nan, inf, fin, is_nan, ne}
 use lib.Ieee.Compare.{differs_from_itself, nan_differs}
 
 -- `x != x` holds of a NaN alone

@@ -1,9 +1,5 @@
 -- An hour of a zone and a version that are tested, without its heat balance, is the hour step's: the heat balance is never refused.
-use mathlib.Core.Path.{◌≡◌, refl}
-use mathlib.Core.Bool.{true}
-use mathlib.Core.List.{List}
-use Prim.Native.Nat.{ℕ}
-use lib.Ieee.{Float}
+use Rattle.std.proofs.Common.{◌≡◌, refl, true, List, ℕ, Float}
 use Rattle.solver.specs.F64.{◌+ᶠ◌}
 use Rattle.solver.specs.Result.{Result, ok, refused, bind}
 use Rattle.zone.specs.declared.record.building_element.Coefficients.{Coefficients}

@@ -1,8 +1,5 @@
 -- An hour in a sequence: where it is `next_hour`, and what is held after it.
-use mathlib.Core.Path.{◌≡◌, refl, sym, ap, ◌∙◌}
-use mathlib.Core.List.{List}
-use Prim.Native.Nat.{ℕ}
-use lib.ListN.{replicate}
+use Rattle.std.proofs.Common.{◌≡◌, refl, sym, ap, ◌∙◌, List, ℕ, replicate}
 use Rattle.solver.specs.F64.{zero64}
 use Rattle.solver.specs.Result.{Result, ok, refused}
 use Rattle.zone.specs.declared.record.zone_record.Zone.{Zone}

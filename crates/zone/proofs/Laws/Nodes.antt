@@ -1,17 +1,8 @@
 -- Node order to slots and back.
-use mathlib.Core.Path.{◌≡◌, refl, sym, subst, ◌∙◌}
-use mathlib.Core.Logic.{⊎_elim}
-use mathlib.Core.Bool.{Bool, true, false, cond}
-use mathlib.Core.List.{List}
-use Prim.Native.Nat.{ℕ, zero, suc, ◌+◌, ◌-◌, ◌*◌, ◌≤◌, ◌<◌}
+use Rattle.std.proofs.Common.{◌≡◌, refl, sym, subst, ◌∙◌, ⊎_elim, Bool, true, false, cond, List, ℕ, zero, suc, ◌+◌, ◌-◌, ◌*◌, ◌≤◌, ◌<◌, eq-or-lt_of_le, add-one, arith, length, get_or, replicate, length-set, get_or-set_same, get_or-set_other, ext_get_or, Float, le-ltb}
 use Rattle.std.proofs.lemmas.Bool.{cases_lt}
-use native.Mathlib.Nat.{eq-or-lt_of_le}
-use native.Mathlib.Numerals.{add-one}
-use native.Mathlib.Omega.{arith}
-use lib.ListN.{length, get_or, replicate, get_or-replicate, length-set, length-replicate}
-use lib.Seq.{get_or-set_same, get_or-set_other, ext_get_or}
-use lib.Ieee.{Float, nan}
-use borrow.Author.Tests.{le-ltb}
+use lib.ListN.{get_or-replicate, length-replicate}
+use lib.Ieee.{nan}
 use Rattle.solver.specs.F64.{zero64}
 use Rattle.solver.specs.Repeat.{repeat}
 use Rattle.solver.specs.Chain.{outer_slot}

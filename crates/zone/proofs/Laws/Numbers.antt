@@ -1,7 +1,6 @@
 -- What lies in a range of document 01 is a number.
-use mathlib.Core.Path.{◌≡◌}
-use mathlib.Core.Bool.{true}
-use lib.Ieee.{Float, neg, le, lt}
+use Rattle.std.proofs.Common.{◌≡◌, true, Float}
+use lib.Ieee.{neg, le, lt}
 use Rattle.solver.specs.F64.{decimal}
 use Rattle.zone.specs.Check.Ranges.{area_range, pitch_range, coefficient_range, h_pli_range, k_pli_range, fraction_range, sky_range, delta_r_range, irradiance_range, gains_range, rate_range, temperature_range, heating_setpoint_range, setpoint_range, hour_length_range}
 use Rattle.zone.proofs.Laws.RoundTrip.{Number, in_number}

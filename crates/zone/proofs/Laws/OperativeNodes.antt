@@ -1,11 +1,6 @@
 -- The operative temperature of node temperatures as the code finds it, without slots.
-use Prim.Native.Nat.{ℕ, ◌+◌, ◌-◌, ◌*◌, ◌<◌}
-use mathlib.Core.Path.{◌≡◌, sym, ap, ◌∙◌}
-use mathlib.Core.Bool.{Bool}
-use mathlib.Core.List.{List}
-use native.Mathlib.Omega.{arith}
-use lib.ListN.{get_or, take, replicate}
-use lib.Ieee.{Float, nan}
+use Rattle.std.proofs.Common.{ℕ, ◌+◌, ◌-◌, ◌*◌, ◌<◌, ◌≡◌, sym, ap, ◌∙◌, Bool, List, arith, get_or, take, replicate, Float}
+use lib.Ieee.{nan}
 use Rattle.solver.specs.F64.{◌*ᶠ◌, ◌/ᶠ◌, zero64}
 use Rattle.solver.specs.Sums.{sum2, terms}
 use Rattle.solver.specs.Chain.{outer_slot}

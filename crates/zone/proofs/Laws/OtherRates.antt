@@ -1,8 +1,6 @@
 -- The demand of an hour with its fixed rate as target and windows open both is that of the hour with the fixed rate.
-use mathlib.Core.Path.{◌≡◌, refl}
-use mathlib.Core.Bool.{false}
-use mathlib.Core.List.{List}
-use lib.Ieee.{Float, ne}
+use Rattle.std.proofs.Common.{◌≡◌, refl, false, List, Float}
+use lib.Ieee.{ne}
 use Rattle.zone.specs.declared.record.building_element.Coefficients.{Coefficients}
 use Rattle.zone.specs.declared.record.zone_record.Zone.{Zone}
 use Rattle.zone.specs.declared.format.conditions.Conditions.{Conditions}

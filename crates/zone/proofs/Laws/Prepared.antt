@@ -1,11 +1,6 @@
 -- An hour that is prepared (specs/Inner/Prepared.antt) against `calc_temperatures`: a rate that is not valid is refused with 12, and a load by the last
 -- column of a valid rate gives what the definition gives.
-use mathlib.Core.Path.{◌≡◌, refl, sym, ap, ◌∙◌}
-use mathlib.Core.Bool.{Bool, true, false}
-use mathlib.Core.List.{List}
-use Prim.Native.Nat.{ℕ}
-use lib.ListN.{length, set, replicate, length-set}
-use lib.Ieee.{Float}
+use Rattle.std.proofs.Common.{◌≡◌, refl, sym, ap, ◌∙◌, Bool, true, false, List, ℕ, length, set, replicate, length-set, Float}
 use Rattle.solver.specs.F64.{zero64}
 use Rattle.solver.specs.Result.{ok, refused, bind}
 use Rattle.solver.specs.FastSolver.{at_most24, solve}

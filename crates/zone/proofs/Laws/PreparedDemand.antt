@@ -1,11 +1,9 @@
 -- The demand of an hour that is prepared (specs/Inner/Demand.antt, Hour.antt) against the definitions: each part hands on the last column of the rate
 -- that it leaves, and that rate is valid.
+use Rattle.std.proofs.Common.{◌≡◌, refl, Bool, true, false, cond, not, ◌&&◌, List, ℕ, Float}
 use Rattle.std.specs.Prelude.{None, Option, Some}
-use mathlib.Core.Path.{◌≡◌, refl, fun_ext}
-use mathlib.Core.Bool.{Bool, true, false, cond, not, ◌&&◌}
-use mathlib.Core.List.{List}
-use Prim.Native.Nat.{ℕ}
-use lib.Ieee.{Float, lt, ne}
+use mathlib.Core.Path.{fun_ext}
+use lib.Ieee.{lt, ne}
 use Rattle.solver.specs.Closeness.{close_in_windows_test}
 use Rattle.solver.specs.Result.{Result, ok, refused, bind, require}
 use Rattle.solver.specs.FastSolver.{at_most24}

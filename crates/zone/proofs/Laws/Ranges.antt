@@ -1,18 +1,9 @@
 -- The constants of ranges, and the tests of lists, of open treatments and of counts.
-use Prim.Native.Nat.{ℕ, ◌*◌, ◌%◌, ◌^◌, ◌<◌, ◌≤◌}
-use mathlib.Core.Path.{◌≡◌, refl, ap}
-use mathlib.Core.Bool.{Bool, true, ◌&&◌}
-use mathlib.Core.List.{List, [], ◌∷◌}
-use native.Mathlib.Omega.{arith}
-use native.Mathlib.Nat.{mod-eq_of_lt, one-mul}
-use borrow.Author.Tests.{leb-true}
-use lib.Pow.{pow_mono}
-use lib.Dec.{leb}
-use lib.Ieee.{Float, of_bits, neg}
+use lib.Ieee.{of_bits, neg}
 use Rattle.solver.specs.F64.{decimal}
 use Rattle.std.specs.List.{list_all}
 use Rattle.std.specs.Ordering.{partial_le, nat_cmp}
-use Rattle.std.proofs.Common.{Some, rules, tests}
+use Rattle.std.proofs.Common.{Some, rules, tests, ℕ, ◌*◌, ◌%◌, ◌^◌, ◌<◌, ◌≤◌, ◌≡◌, refl, ap, Bool, true, ◌&&◌, List, [], ◌∷◌, arith, mod-eq_of_lt, one-mul, leb-true, pow_mono, leb, Float}
 use Rattle.solver.specs.Result.{ok, require}
 use Rattle.solver.proofs.Laws.Result.{bind_ok, require_ok}
 use Rattle.zone.specs.Record.Numbers.{structure}

@@ -1,11 +1,7 @@
 -- The bytes of an hour whose fixed rate is written twice, with code 1: what is read of them.
-use Prim.Native.Nat.{ℕ, suc, zero, ◌+◌, ◌*◌, ◌-◌, ◌<◌, ◌≤◌}
-use mathlib.Core.Path.{◌≡◌, refl, sym, ap, subst, ◌∙◌}
-use mathlib.Core.List.{List, [], ◌∷◌, ◌++◌, append_assoc}
-use native.Mathlib.Omega.{arith}
-use lib.ListN.{take, drop, length, get_or, get_or-append, length-drop, length-append}
-use lib.Dec.{eqb}
-use lib.Seq.{take-append-le, drop-append-le, get_or-drop, drop-drop, drop-append-add, take-append_seam, get_or-append_seam, length-take-le}
+use Rattle.std.proofs.Common.{ℕ, suc, zero, ◌+◌, ◌*◌, ◌-◌, ◌<◌, ◌≤◌, ◌≡◌, refl, sym, ap, subst, ◌∙◌, List, [], ◌∷◌, ◌++◌, append_assoc, arith, take, drop, length, get_or, length-drop, length-append, eqb, get_or-drop, drop-drop, length-take-le}
+use lib.ListN.{get_or-append}
+use lib.Seq.{take-append-le, drop-append-le, drop-append-add, take-append_seam, get_or-append_seam}
 use lib.Ieee.{binary64, of_bits}
 use Rattle.zone.specs.Format.Layout.{rate_code, first_rate, second_rate, first_element_hour, open_byte, element_hour_size}
 use Rattle.zone.specs.Format.Bytes.{big_endian, float_at, float_size}

@@ -1,10 +1,6 @@
 -- The reason of an accepted demand is the earliest of the list that holds, and tells the rate that the demand chose.
-use Prim.Native.Nat.{ℕ}
-use mathlib.Core.Path.{◌≡◌, refl, sym, ap, subst, ◌∙◌}
-use mathlib.Core.Bool.{Bool, true, false, ◌&&◌}
-use mathlib.Core.List.{List, ◌∷◌}
-use native.Mathlib.Omega.{arith}
-use lib.Ieee.{Float, lt, eq, ne}
+use Rattle.std.proofs.Common.{ℕ, ◌≡◌, refl, sym, ap, subst, ◌∙◌, Bool, true, false, ◌&&◌, List, ◌∷◌, arith, Float}
+use lib.Ieee.{lt, eq, ne}
 use Rattle.solver.specs.Result.{Result, ok}
 use Rattle.solver.specs.Closeness.{close_in_windows_test}
 use Rattle.solver.proofs.Laws.Result.{bind_ok, ok_inj}

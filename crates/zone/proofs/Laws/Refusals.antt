@@ -1,13 +1,8 @@
 -- Why a solve and a demand are refused; and what the tests, a demand, a step and a pass of start-up are refused with, by every family that allows
 -- what they are made of.
+use Rattle.std.proofs.Common.{ℕ, ◌≡◌, refl, sym, ◌∙◌, Bool, true, false, cond, not, ◌&&◌, List, eqb, take, Float}
 use Rattle.std.specs.Prelude.{Option, Some, None}
-use Prim.Native.Nat.{ℕ}
-use mathlib.Core.Path.{◌≡◌, refl, sym, ◌∙◌}
-use mathlib.Core.Bool.{Bool, true, false, cond, not, ◌&&◌}
-use mathlib.Core.List.{List}
-use lib.Dec.{eqb}
-use lib.ListN.{take}
-use lib.Ieee.{Float, ne, lt}
+use lib.Ieee.{ne, lt}
 use Rattle.solver.specs.F64.{◌-ᶠ◌, zero64}
 use Rattle.solver.specs.Closeness.{close_in_demand}
 use Rattle.solver.specs.FastSolver.{all_divisors_valid, temperatures_of, temperatures_valid, solve}

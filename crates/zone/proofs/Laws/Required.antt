@@ -1,10 +1,5 @@
 -- A test of each of a list, one by one.
-use Prim.Native.Nat.{ℕ, zero, suc, ◌+◌, ◌<◌, ◌≤◌}
-use mathlib.Core.Path.{◌≡◌, refl, sym, ◌∙◌}
-use mathlib.Core.Bool.{Bool, true, false}
-use mathlib.Core.List.{List, [], ◌∷◌}
-use native.Mathlib.Omega.{arith}
-use lib.ListN.{length, take, drop, get_or, drop_of_length-le}
+use Rattle.std.proofs.Common.{ℕ, zero, suc, ◌+◌, ◌<◌, ◌≤◌, ◌≡◌, refl, sym, ◌∙◌, Bool, true, false, List, [], ◌∷◌, arith, length, take, drop, get_or, drop_of_length-le}
 use Rattle.solver.specs.Result.{Result, ok, refused, require_at}
 use Rattle.solver.specs.Refusals.{RefusesOnly, accepts}
 use Rattle.solver.proofs.Laws.Refusals.{test_refuses}

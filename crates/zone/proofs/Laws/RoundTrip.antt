@@ -1,14 +1,7 @@
 -- Bytes that were read, written again; and values that were written, read back.
-use Prim.Native.Nat.{ℕ, suc, zero, ◌+◌, ◌*◌, ◌/◌, ◌%◌, ◌^◌, ◌<◌, ◌≤◌}
-use mathlib.Core.Path.{◌≡◌, refl, ap, ◌∙◌}
-use mathlib.Core.Bool.{Bool, true, false, not, ◌&&◌}
-use mathlib.Core.List.{List, [], ◌∷◌, ◌++◌, append_assoc}
-use native.Mathlib.Omega.{arith, pow_step}
-use native.Mathlib.Nat.{div-add-mod'}
-use lib.Dec.{T}
-use lib.ListN.{take, drop, length, get_or, length-append, length-drop}
-use lib.Seq.{take_at, drop_at, take-suc, get_or-drop, take-add, drop-drop, drop-cons}
-use lib.Ieee.{Float, nan, inf, fin, binary64, is_nan, le, lt, eq, of_bits, to_bits, fits}
+use Rattle.std.proofs.Common.{ℕ, suc, zero, ◌+◌, ◌*◌, ◌/◌, ◌%◌, ◌^◌, ◌<◌, ◌≤◌, ◌≡◌, refl, ap, ◌∙◌, Bool, true, false, not, ◌&&◌, List, [], ◌∷◌, ◌++◌, append_assoc, arith, div-add-mod', T, take, drop, length, get_or, length-append, length-drop, take_at, drop_at, take-suc, get_or-drop, take-add, drop-drop, drop-cons, Float, to_bits}
+use native.Mathlib.Omega.{pow_step}
+use lib.Ieee.{nan, inf, fin, binary64, is_nan, le, lt, eq, of_bits, fits}
 use lib.Ieee.Bits.{to_bits-of_bits, of_bits-to_bits, to_bits-lt}
 use Rattle.zone.specs.Format.Bytes.{Bytes, big_endian_from, big_endian, num_at, float_at, bytes_of, float_size}
 use Rattle.zone.specs.Format.Decode.{floats_at}

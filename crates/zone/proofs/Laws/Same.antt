@@ -1,10 +1,6 @@
 -- Two byte strings whose first n bytes are equal: what is read within these is equal.
-use Prim.Native.Nat.{ℕ, suc, zero, ◌+◌, ◌*◌, ◌<◌, ◌≤◌}
-use mathlib.Core.Path.{◌≡◌, refl, sym, ap, ◌∙◌}
-use mathlib.Core.List.{List, ◌∷◌}
-use native.Mathlib.Omega.{arith}
-use lib.ListN.{take, drop, length, get_or, take-append-drop, length-drop}
-use lib.Seq.{take-append-le, drop-append-le, get_or-take, length-take-le}
+use Rattle.std.proofs.Common.{ℕ, suc, zero, ◌+◌, ◌*◌, ◌<◌, ◌≤◌, ◌≡◌, refl, sym, ap, ◌∙◌, List, ◌∷◌, arith, take, drop, length, get_or, take-append-drop, length-drop, get_or-take, length-take-le}
+use lib.Seq.{take-append-le, drop-append-le}
 use lib.Ieee.{binary64, of_bits}
 use Rattle.solver.specs.Result.{ok}
 use Rattle.zone.specs.Format.Layout.{basis_at, count_at, limit_at, limit_size, zone_floats, count_in, first_element, element_floats, element_arrays, open_byte, element_hour_size}

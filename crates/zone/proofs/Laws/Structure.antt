@@ -1,12 +1,6 @@
 -- The structure of a head, step by step, and what an accepted one tells.
-use Prim.Native.Nat.{ℕ, suc, ◌+◌, ◌-◌, ◌<◌, ◌≤◌}
-use mathlib.Core.Path.{◌≡◌, refl, ap, ◌∙◌}
-use mathlib.Core.Bool.{Bool, true, false, ◌&&◌}
-use mathlib.Core.List.{List}
-use native.Mathlib.Omega.{arith}
-use borrow.Author.Tests.{le-leb, lt-leb, leb-true, eq-eqb, ne_eqb, eqb-true}
-use lib.Dec.{leb, eqb}
-use lib.ListN.{length}
+use Rattle.std.proofs.Common.{ℕ, suc, ◌+◌, ◌-◌, ◌<◌, ◌≤◌, ◌≡◌, refl, ap, ◌∙◌, Bool, true, false, ◌&&◌, List, arith, le-leb, leb-true, eq-eqb, ne_eqb, eqb-true, leb, eqb, length}
+use borrow.Author.Tests.{lt-leb}
 use Rattle.solver.specs.Result.{ok, refused, require, require_at}
 use Rattle.solver.proofs.Laws.Result.{bind_ok, require_ok, ok_inj}
 use Rattle.zone.specs.Record.Numbers.{head_short, head_length, head_version, structure}

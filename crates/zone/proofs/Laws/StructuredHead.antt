@@ -1,11 +1,5 @@
 -- A head whose structure is right, before any value is judged: what it says, and that its zone then passes or fails as the head does.
-use Prim.Native.Nat.{ℕ, suc, zero, ◌+◌, ◌-◌, ◌≤◌}
-use mathlib.Core.Path.{◌≡◌, refl, sym, ap, subst, ◌∙◌}
-use mathlib.Core.List.{List}
-use borrow.Author.Tests.{le-leb}
-use lib.Ieee.{Float}
-use lib.ListN.{take, length, get_or, replicate}
-use lib.Seq.{take_at}
+use Rattle.std.proofs.Common.{ℕ, suc, zero, ◌+◌, ◌-◌, ◌≤◌, ◌≡◌, refl, sym, ap, subst, ◌∙◌, List, le-leb, Float, take, length, get_or, replicate, take_at}
 use Rattle.solver.specs.Result.{Result, ok, refused, bind}
 use Rattle.solver.proofs.Laws.Result.{ok_inj, bind_ok}
 use Rattle.zone.specs.Record.Numbers.{structure}

@@ -1,9 +1,5 @@
 -- What is assembled from the arrays that `assemble_elements` fills is what the definitions give.
-use mathlib.Core.Path.{◌≡◌, refl, ◌∙◌}
-use mathlib.Core.List.{List}
-use Prim.Native.Nat.{ℕ, ◌≤◌}
-use lib.ListN.{length}
-use lib.Ieee.{Float}
+use Rattle.std.proofs.Common.{◌≡◌, refl, ◌∙◌, List, ℕ, ◌≤◌, length, Float}
 use Rattle.solver.specs.Repeat.{repeat}
 use Rattle.solver.specs.Sums.{sum2, terms}
 use Rattle.zone.specs.declared.record.building_element.Element.{Element}

@@ -1,12 +1,7 @@
 -- What the code assembles in arrays of zeros, once for a time step, is System's matrix at each rate and right side at each load.
-use mathlib.Core.Path.{◌≡◌, refl, sym, ap, ◌∙◌}
-use mathlib.Core.Bool.{Bool, true, false, cond}
-use mathlib.Core.List.{List, [], ◌∷◌}
-use Prim.Native.Nat.{ℕ, zero, suc, ◌+◌, ◌-◌, ◌*◌, ◌<◌}
-use native.Mathlib.Omega.{arith}
-use lib.ListN.{get_or, set, replicate}
-use lib.Seq.{get_or-set_other, set_comm}
-use lib.Ieee.{Float, nan}
+use Rattle.std.proofs.Common.{◌≡◌, refl, sym, ap, ◌∙◌, Bool, true, false, cond, List, [], ◌∷◌, ℕ, zero, suc, ◌+◌, ◌-◌, ◌*◌, ◌<◌, arith, get_or, set, replicate, get_or-set_other, Float}
+use lib.Seq.{set_comm}
+use lib.Ieee.{nan}
 use Rattle.solver.specs.F64.{◌+ᶠ◌, zero64}
 use Rattle.solver.specs.Repeat.{repeat_of}
 use Rattle.solver.specs.FastSolver.{at_most24}

@@ -1,14 +1,6 @@
 -- Loops and lists whose turns or entries are functions of a number.
-use mathlib.Core.Path.{◌≡◌, refl, sym, ap, subst, ◌∙◌}
-use mathlib.Core.Logic.{⊎_elim}
-use mathlib.Core.List.{List, [], ◌∷◌}
-use Prim.Native.Nat.{ℕ, zero, suc, ◌+◌, ◌-◌, ◌≤◌, ◌<◌}
-use native.Mathlib.Nat.{eq-or-lt_of_le}
-use native.Mathlib.Numerals.{add-one}
-use native.Mathlib.Omega.{arith}
-use lib.ListN.{length, get_or, set, take, drop, length-set}
-use lib.Seq.{get_or-set_same, get_or-set_other}
-use lib.Ieee.{Float, nan}
+use Rattle.std.proofs.Common.{◌≡◌, refl, sym, ap, subst, ◌∙◌, ⊎_elim, List, [], ◌∷◌, ℕ, zero, suc, ◌+◌, ◌-◌, ◌≤◌, ◌<◌, eq-or-lt_of_le, add-one, arith, length, get_or, set, take, drop, length-set, get_or-set_same, get_or-set_other, Float}
+use lib.Ieee.{nan}
 use Rattle.solver.specs.Repeat.{repeat_of, repeat}
 use Rattle.solver.specs.Sums.{sum2, terms_of, terms}
 use Rattle.solver.proofs.Laws.Parts.{drop_next}

@@ -1,12 +1,6 @@
 -- The entry versions that hours have, and the tests of an hour step beside those of a demand.
-use Prim.Native.Nat.{ℕ, zero, suc, ◌≤◌}
-use mathlib.Core.Path.{◌≡◌, refl, sym, ◌∙◌}
-use mathlib.Core.Logic.{◌≢◌}
-use mathlib.Core.Bool.{Bool, true, false, cond}
-use mathlib.Core.List.{List}
-use native.Mathlib.Omega.{arith}
-use lib.Dec.{leb}
-use borrow.Author.Tests.{leb-true, le-leb, lt-leb}
+use Rattle.std.proofs.Common.{ℕ, zero, suc, ◌≤◌, ◌≡◌, refl, sym, ◌∙◌, ◌≢◌, Bool, true, false, cond, List, arith, leb, leb-true, le-leb}
+use borrow.Author.Tests.{lt-leb}
 use Rattle.solver.specs.Result.{Result, ok, refused, require}
 use Rattle.solver.proofs.Laws.Result.{bind_ok, require_ok}
 use Rattle.solver.proofs.Laws.Tests.{and_true}

@@ -1,17 +1,12 @@
 -- A time step is accepted only of a zone that has all the elements that it counts: the diagonal of the outer surface of one that is missing is a
 -- zero or a NaN, which no chain divides by.
-use Prim.Native.Nat.{ℕ, zero, suc, ◌+◌, ◌-◌, ◌*◌, ◌≤◌, ◌<◌}
-use mathlib.Core.Path.{◌≡◌, refl, sym, ap, subst, ◌∙◌}
-use mathlib.Core.Logic.{⊎_elim}
-use mathlib.Core.Bool.{Bool, true, false, cond}
-use mathlib.Core.List.{List}
-use native.Mathlib.Nat.{eq-or-lt_of_le, mul-pos, zero-lt-suc, zero-mul}
-use native.Mathlib.Omega.{arith}
-use lib.Dec.{eqb, eqb-suc-zero}
-use lib.IntN.{ℤ, pos}
-use lib.ListN.{length, get_or, replicate, length-set, length-replicate, get_or-eq_default}
-use lib.Seq.{get_or-set_other}
-use lib.Ieee.{Float, nan, inf, fin, binary64, unlike, up, down, add, div, round, of_bits, eq}
+use Rattle.std.proofs.Common.{ℕ, suc, ◌+◌, ◌-◌, ◌*◌, ◌≤◌, ◌<◌, ◌≡◌, sym, ap, subst, ◌∙◌, ⊎_elim, Bool, true, cond, List, eq-or-lt_of_le, mul-pos, zero-lt-suc, zero-mul, arith, eqb, ℤ, pos, length, get_or, replicate, length-set, get_or-set_other, Float}
+use Prim.Native.Nat.{zero}
+use mathlib.Core.Path.{refl}
+use mathlib.Core.Bool.{false}
+use lib.Dec.{eqb-suc-zero}
+use lib.ListN.{length-replicate, get_or-eq_default}
+use lib.Ieee.{nan, inf, fin, binary64, unlike, up, down, add, div, round, of_bits, eq}
 use lib.Ieee.Fits.{up_pos}
 use lib.Ieee.Scale.{round_same}
 use Rattle.solver.specs.F64.{◌+ᶠ◌, ◌/ᶠ◌, zero64}

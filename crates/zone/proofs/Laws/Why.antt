@@ -1,10 +1,6 @@
 -- The temperatures of free.rt, the tests of reason.rt as the definition has them, and the ways out of why.rt.
-use Prim.Native.Nat.{ℕ, min}
-use mathlib.Core.Path.{◌≡◌, refl, ◌∙◌}
-use mathlib.Core.Bool.{Bool, true, false, cond, not, ◌&&◌}
-use mathlib.Core.List.{List}
-use lib.ListN.{take}
-use lib.Ieee.{Float, lt, eq}
+use Rattle.std.proofs.Common.{ℕ, min, ◌≡◌, refl, ◌∙◌, Bool, true, false, cond, not, ◌&&◌, List, take, Float}
+use lib.Ieee.{lt, eq}
 use Rattle.solver.specs.Result.{Result, ok, refused, bind}
 use Rattle.solver.specs.Sums.{sum2}
 use Rattle.solver.specs.Closeness.{close_in_windows_test}

@@ -1,12 +1,5 @@
 -- The bytes behind the used ones stay as they were, whatever a begin or an append answers.
-use mathlib.Core.Path.{◌≡◌, refl, ap, ◌∙◌, subst}
-use mathlib.Core.List.{List, ◌++◌}
-use Prim.Native.Nat.{ℕ, ◌+◌, ◌≤◌}
-use native.Mathlib.Omega.{arith}
-use lib.ListN.{length, take, drop, length-append}
-use lib.Seq.{drop_at, length-take-le}
-use lib.Dec.{leb, ltb}
-use borrow.Author.Tests.{leb-true}
+use Rattle.std.proofs.Common.{◌≡◌, refl, ap, ◌∙◌, subst, List, ◌++◌, ℕ, ◌+◌, ◌≤◌, arith, length, take, drop, length-append, drop_at, length-take-le, leb, ltb, leb-true}
 use Rattle.zone.specs.Promise.{Result, ok, refused, require}
 use Rattle.zone.proofs.Promise.{bind_ok, require_ok, ok_inj}
 use Rattle.book.specs.Numbers.{buffer_short, book_full}

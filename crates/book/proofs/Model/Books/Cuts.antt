@@ -1,15 +1,6 @@
 -- An append and a cut of a well-formed book are made; a cut of it is never refused, keeps the first items, and what it took is held again once it is accepted anew.
-use mathlib.Core.Path.{◌≡◌, refl, sym, ap, ◌∙◌, subst}
-use mathlib.Core.Bool.{Bool, true, false, ◌&&◌}
-use mathlib.Core.List.{List, [], ◌∷◌, ◌++◌, map, append_assoc, append-nil}
+use Rattle.std.proofs.Common.{◌≡◌, refl, sym, ap, ◌∙◌, subst, Bool, true, false, ◌&&◌, List, [], ◌∷◌, ◌++◌, map, append_assoc, append-nil, ℕ, ◌+◌, ◌≤◌, ◌<◌, zero-add, arith, length, take, drop, length-append, drop_at, drop-drop, leb, ltb, leb-true, leb-false, le-leb, lt-ltb}
 use mathlib.Core.Option.{none, some}
-use Prim.Native.Nat.{ℕ, ◌+◌, ◌≤◌, ◌<◌}
-use native.Mathlib.Nat.{zero-add}
-use native.Mathlib.Omega.{arith}
-use lib.ListN.{length, take, drop, length-append}
-use lib.Seq.{drop_at, drop-drop}
-use lib.Dec.{leb, ltb}
-use borrow.Author.Tests.{leb-true, leb-false, le-leb, lt-ltb}
 use Rattle.zone.specs.Promise.{Result, ok, refused, require}
 use Rattle.zone.proofs.Promise.{bind_ok, ok_inj, and_true}
 use Rattle.book.specs.Numbers.{buffer_short, book_full}

@@ -1,9 +1,6 @@
 -- Two books are equal byte for byte exactly when their heads and items are equal.
-use mathlib.Core.Path.{◌≡◌, refl, sym, ap, ◌∙◌, subst}
-use mathlib.Core.List.{List, [], ◌∷◌, ◌++◌, map, append_cancel_left}
-use Prim.Native.Nat.{ℕ, ◌+◌}
-use lib.ListN.{length, take}
-use lib.Seq.{take_at, drop_at}
+use Rattle.std.proofs.Common.{◌≡◌, refl, sym, ap, ◌∙◌, subst, List, [], ◌∷◌, ◌++◌, map, ℕ, ◌+◌, length, take, take_at, drop_at}
+use mathlib.Core.List.{append_cancel_left}
 use Rattle.zone.specs.Promise.{ok}
 use Rattle.zone.proofs.Promise.{ok_inj}
 use Rattle.book.specs.Model.Interface.{Interface}

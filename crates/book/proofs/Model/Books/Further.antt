@@ -1,13 +1,6 @@
 -- A take-up of a book's bytes with further ones behind them: the book's own entries are accepted, and the further bytes are judged from its state on.
-use mathlib.Core.Path.{◌≡◌, refl, sym, ap, ◌∙◌, subst}
-use mathlib.Core.List.{List, [], ◌∷◌, ◌++◌, append_assoc}
+use Rattle.std.proofs.Common.{◌≡◌, refl, sym, ap, ◌∙◌, subst, List, [], ◌∷◌, ◌++◌, append_assoc, ℕ, ◌+◌, ◌≤◌, ◌<◌, add-zero, zero-add, arith, length, length-append, take_at, drop_at, lt-ltb, le-ltb}
 use mathlib.Core.Option.{none, some}
-use Prim.Native.Nat.{ℕ, ◌+◌, ◌≤◌, ◌<◌}
-use native.Mathlib.Nat.{add-zero, zero-add}
-use native.Mathlib.Omega.{arith}
-use lib.ListN.{length, length-append}
-use lib.Seq.{take_at, drop_at}
-use borrow.Author.Tests.{lt-ltb, le-ltb}
 use Rattle.zone.specs.Promise.{Result, ok, refused}
 use Rattle.zone.proofs.Promise.{ok_inj}
 use Rattle.book.specs.Numbers.{book_full, false_entry}

@@ -1,14 +1,7 @@
 -- Which bytes are taken up, and which number and index there is otherwise.
-use mathlib.Core.Path.{◌≡◌, refl, sym, ap, ◌∙◌, subst}
-use mathlib.Core.Bool.{Bool, true, false, ◌||◌, cond}
-use mathlib.Core.List.{List}
+use Rattle.std.proofs.Common.{◌≡◌, refl, sym, ap, ◌∙◌, subst, Bool, true, false, ◌||◌, cond, List, ℕ, ◌≤◌, ◌<◌, zero-add, arith, take, drop, eqb, leb, ltb, eqb-true, eq-eqb, ne_eqb, leb-true, leb-false, ltb-true, ltb-false}
 use mathlib.Core.Option.{some}
-use Prim.Native.Nat.{ℕ, ◌≤◌, ◌<◌}
-use native.Mathlib.Nat.{zero-add}
-use native.Mathlib.Omega.{arith}
-use lib.ListN.{take, drop}
-use lib.Dec.{eqb, leb, ltb}
-use borrow.Author.Tests.{eqb-true, eqb-false, eq-eqb, ne_eqb, leb-true, leb-false, ltb-true, ltb-false}
+use borrow.Author.Tests.{eqb-false}
 use Rattle.zone.specs.Promise.{Result, ok, refused}
 use Rattle.zone.proofs.Promise.{bind_is}
 use Rattle.zone.specs.Format.Head.{ReadHead}

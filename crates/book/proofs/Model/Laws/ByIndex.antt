@@ -1,16 +1,9 @@
 -- The plain book's take-up, which goes by index, against the whole entries as a list.
-use mathlib.Core.Path.{◌≡◌, refl, sym, ap, ◌∙◌, subst}
-use mathlib.Core.Logic.{◌⊎◌, inl, inr}
-use mathlib.Core.Bool.{Bool, true, false, not, ◌||◌, cond}
-use mathlib.Core.List.{List, [], ◌∷◌, ◌++◌, map, map-append, nil≢cons}
+use Rattle.std.proofs.Common.{◌≡◌, refl, sym, ap, ◌∙◌, subst, ◌⊎◌, inl, inr, Bool, true, false, not, ◌||◌, cond, List, [], ◌∷◌, ◌++◌, map, ℕ, zero, suc, ◌+◌, ◌≤◌, ◌<◌, zero-add, arith, length, take, drop, get_or, take-suc, drop-cons, take-take, get_or-take, length-take-le, eqb, eq-eqb, ne_eqb}
+use mathlib.Core.List.{map-append, nil≢cons}
 use mathlib.Core.Option.{Option, none, some}
-use Prim.Native.Nat.{ℕ, zero, suc, ◌+◌, ◌≤◌, ◌<◌}
-use native.Mathlib.Nat.{zero-add}
-use native.Mathlib.Omega.{arith}
-use lib.ListN.{length, take, drop, get_or, length-map}
-use lib.Seq.{take-suc, drop-cons, split_at, drop-nil, drop-length, take-length, take-take, get_or-take, get_or_at, length-take-le}
-use lib.Dec.{eqb}
-use borrow.Author.Tests.{eq-eqb, ne_eqb}
+use lib.ListN.{length-map}
+use lib.Seq.{split_at, drop-nil, drop-length, take-length, get_or_at}
 use Rattle.zone.specs.Promise.{Result, ok, refused}
 use Rattle.zone.proofs.Promise.{bind_is}
 use Rattle.book.specs.Numbers.{book_full, false_entry}

@@ -1,14 +1,8 @@
 -- Laws of reading whole entries back from bytes, and from the bytes before a cut.
-use mathlib.Core.Path.{◌≡◌, refl, sym, ap, ◌∙◌, subst}
-use mathlib.Core.Bool.{Bool, true, false}
-use mathlib.Core.List.{List, [], ◌∷◌, ◌++◌, map, append_assoc}
+use Rattle.std.proofs.Common.{◌≡◌, refl, sym, ap, ◌∙◌, subst, Bool, true, false, List, [], ◌∷◌, ◌++◌, map, append_assoc, ℕ, zero, suc, ◌+◌, ◌-◌, ◌≤◌, ◌<◌, arith, length, take, drop, length-drop, take-append-drop, take_at, drop_at, leb, leb-true, leb-false, le-leb}
 use mathlib.Core.Option.{Option, none, some}
-use Prim.Native.Nat.{ℕ, zero, suc, ◌+◌, ◌-◌, ◌≤◌, ◌<◌}
-use native.Mathlib.Omega.{arith}
-use lib.ListN.{length, take, drop, length-drop, take-append-drop}
-use lib.Seq.{take-append-le, take-append-add, take_at, drop_at, take-nil}
-use lib.Dec.{leb}
-use borrow.Author.Tests.{leb-true, leb-false, le-leb, lt-leb}
+use lib.Seq.{take-append-le, take-append-add, take-nil}
+use borrow.Author.Tests.{lt-leb}
 use Rattle.zone.specs.Promise.{ok}
 use Rattle.zone.proofs.Promise.{bind_is, ok_inj}
 use Rattle.book.specs.Model.Bytes.{concat, from_option}

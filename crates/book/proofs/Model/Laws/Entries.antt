@@ -1,10 +1,7 @@
 -- Laws of the plain book's entries.
-use mathlib.Core.Path.{◌≡◌, refl, sym, ap, ◌∙◌, subst}
-use mathlib.Core.List.{List, [], ◌∷◌, ◌++◌, map, map-append}
-use Prim.Native.Nat.{ℕ, suc, ◌+◌}
-use native.Mathlib.Nat.{add-zero}
-use native.Mathlib.Omega.{arith}
-use lib.ListN.{length, length-map}
+use Rattle.std.proofs.Common.{◌≡◌, refl, sym, ap, ◌∙◌, subst, List, [], ◌∷◌, ◌++◌, map, ℕ, suc, ◌+◌, add-zero, arith, length}
+use mathlib.Core.List.{map-append}
+use lib.ListN.{length-map}
 use Rattle.zone.specs.Promise.{ok}
 use Rattle.zone.proofs.Promise.{bind_ok, bind_is, ok_inj}
 use Rattle.book.specs.Model.Bytes.{concat}

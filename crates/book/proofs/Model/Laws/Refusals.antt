@@ -1,11 +1,5 @@
 -- What begin, append and take-up are refused with: by every family that allows what the layers refuse with, and the numbers of the book.
-use Prim.Native.Nat.{ℕ, ◌+◌, ◌<◌}
-use mathlib.Core.Path.{◌≡◌}
-use mathlib.Core.Bool.{Bool, true, false, cond}
-use mathlib.Core.List.{List, [], ◌∷◌}
-use lib.Dec.{leb, ltb}
-use lib.ListN.{length, drop}
-use borrow.Author.Tests.{ltb-true}
+use Rattle.std.proofs.Common.{ℕ, ◌+◌, ◌<◌, ◌≡◌, Bool, true, false, cond, List, [], ◌∷◌, leb, ltb, length, drop, ltb-true}
 use Rattle.zone.specs.Promise.{Result, ok, refused, RefusesOnly, accepts, refuses}
 use Rattle.zone.proofs.Promise.{bind_refuses, test_refuses}
 use Rattle.book.specs.Numbers.{buffer_short, book_full, false_entry}

@@ -1,5 +1,4 @@
-use Rattle.std.proofs.Common.{ap, ◌∙◌, Err, ◌≡◌, rules}
-use native.Mathlib.Omega.{arith}
+use Rattle.std.proofs.Common.{ap, ◌∙◌, Err, ◌≡◌, rules, arith}
 use Rattle.book.proofs.TakeUp.{entry_alone, entry_long, check_many, check_false, check_right}
 use Rattle.book.proofs.entries.check_entries.Goals as goal
 

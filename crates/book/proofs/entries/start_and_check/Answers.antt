@@ -1,4 +1,4 @@
-use mathlib.Core.Path.{refl, sym}
+use Rattle.std.proofs.Common.{refl, sym}
 use Rattle.std.specs.Prelude.{Ok}
 use Rattle.zone.proofs.Promise.{none_kept_in}
 use Rattle.book.proofs.Laws.Heads.{head_inside, start_up_passed}

@@ -1,5 +1,4 @@
-use Rattle.std.proofs.Common.{sym}
-use lib.Seq.{length-take-le}
+use Rattle.std.proofs.Common.{sym, length-take-le}
 use Rattle.book.proofs.Laws.Rest.{record_bounds}
 use Rattle.book.proofs.reader.read_entry.Goals as goal
 

@@ -1,5 +1,4 @@
-use Rattle.std.proofs.Common.{sym, ap, ◌∙◌}
-use mathlib.Core.Logic.{inl}
+use Rattle.std.proofs.Common.{sym, ap, ◌∙◌, inl}
 use Rattle.tools.proofs.Laws.Hours.{numbers_fit}
 use Rattle.tools.proofs.Laws.Above.{above_none, above_found, above_turn}
 use Rattle.tools.proofs.above.hour_above.Goals as goal

@@ -1,4 +1,4 @@
-use mathlib.Core.Path.{refl}
+use Rattle.std.proofs.Common.{refl}
 use Rattle.tools.proofs.Laws.Asked.{asked_yes}
 use Rattle.tools.proofs.asked.asked_book.Goals as goal
 

@@ -1,7 +1,5 @@
-use Rattle.std.proofs.Common.{arith, refl, sym, ◌∙◌, drop}
+use Rattle.std.proofs.Common.{arith, refl, sym, ◌∙◌, drop, length-drop, length-take-le}
 use native.Mathlib.Nat.{add-sub_cancel_left}
-use lib.ListN.{length-drop}
-use lib.Seq.{length-take-le}
 use Rattle.tools.proofs.Laws.ConvertLoop.{part_last, part_turn, fits_in, fits_out, c_long, c_least}
 use Rattle.tools.proofs.converter.convert_entries.Goals as goal
 

@@ -1,5 +1,4 @@
-use Rattle.std.proofs.Common.{rules, ap, ◌∙◌}
-use mathlib.Core.Logic.{inl}
+use Rattle.std.proofs.Common.{rules, ap, ◌∙◌, inl}
 use Rattle.tools.proofs.Laws.Hours.{numbers_fit}
 use Rattle.tools.proofs.Laws.Nearest.{nearest_end, nearest_changes, nearest_stays}
 use Rattle.tools.proofs.nearest.hour_nearest.Goals as goal

@@ -1,5 +1,4 @@
-use Rattle.std.proofs.Common.{rules, length, ap, ◌∙◌, arith}
-use mathlib.Core.Logic.{inl}
+use Rattle.std.proofs.Common.{rules, length, ap, ◌∙◌, arith, inl}
 use Rattle.std.proofs.lemmas.Iterator.Consumers.{YieldsList-from_first, YieldsList-from_filter, count_from_yields_List}
 use Rattle.tools.specs.Questions.{within}
 use Rattle.tools.specs.Inner.Hours.{hours_left}

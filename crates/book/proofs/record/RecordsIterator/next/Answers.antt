@@ -1,6 +1,4 @@
-use Rattle.std.proofs.Common.{ap, ◌∙◌, length}
-use native.Mathlib.Omega.{arith}
-use lib.ListN.{length-drop}
+use Rattle.std.proofs.Common.{ap, ◌∙◌, length, arith, length-drop}
 use Rattle.book.proofs.Laws.Rest.{record_bounds}
 use Rattle.book.proofs.record.RecordsIterator.next.Goals as goal
 

@@ -1,5 +1,4 @@
-use Rattle.std.proofs.Common.{◌≡◌, replicate}
-use lib.Ieee.{Float}
+use Rattle.std.proofs.Common.{◌≡◌, replicate, Float}
 use Rattle.solver.specs.Repeat.{repeat}
 use Rattle.solver.specs.F64.{zero64}
 use Rattle.solver.specs.Inner.Reduced.{gathered_inner}

@@ -1,6 +1,4 @@
-use Rattle.std.proofs.Common.{◌+◌}
-use mathlib.Core.Path.{refl}
-use native.Mathlib.Omega.{arith}
+use Rattle.std.proofs.Common.{◌+◌, refl, arith}
 use Rattle.solver.specs.Inner.Columns.{factor_column, factor_column_by}
 use Rattle.solver.proofs.Laws.RowsBelow.{put_below}
 use Rattle.solver.proofs.lu.Lu.factor_column.Goals as goal

@@ -1,5 +1,5 @@
-use Rattle.std.proofs.Common.{◌*◌, ◌^◌, ◌≤◌, arith}
-use native.Mathlib.Nat.{pow-le-pow_right, mul-le-mul_left}
+use Rattle.std.proofs.Common.{◌*◌, ◌^◌, ◌≤◌, arith, mul-le-mul_left}
+use native.Mathlib.Nat.{pow-le-pow_right}
 use Rattle.weather.proofs.fraction.Fraction.is.Goals as goal
 
 pub overflow_mul-result : goal.overflow_mul-result

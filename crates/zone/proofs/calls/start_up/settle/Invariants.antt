@@ -1,5 +1,4 @@
-use mathlib.Core.Path.{◌≡◌}
-use Prim.Native.Nat.{◌-◌}
+use Rattle.std.proofs.Common.{◌≡◌, ◌-◌}
 use Rattle.zone.specs.Calls.StartUp.{start_state, settle}
 use Rattle.zone.specs.Calls.State.{slots_of}
 use Rattle.zone.specs.Inner.Kept.{Kept}

@@ -1,5 +1,4 @@
-use Rattle.std.proofs.Common.{◌≡◌, ◌+◌, ℕ, Bool, drop}
-use denote.Ref.{Bor}
+use Rattle.std.proofs.Common.{◌≡◌, ◌+◌, ℕ, Bool, drop, Bor}
 use Rattle.zone.specs.Check.ZoneTest.{all_required}
 use Rattle.zone.proofs.check.zone_tests.all_required.Given as goal
 

@@ -1,5 +1,4 @@
-use Rattle.std.proofs.Common.{◌∙◌, ap, rules, ℕ}
-use lib.Ieee.{Float}
+use Rattle.std.proofs.Common.{◌∙◌, ap, rules, ℕ, Float}
 use Rattle.solver.specs.F64.{◌/ᶠ◌}
 use Rattle.solver.specs.Sums.{sum2, terms}
 use Rattle.zone.specs.Physics.Slots.{air}

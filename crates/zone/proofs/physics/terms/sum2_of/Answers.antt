@@ -1,5 +1,4 @@
-use Rattle.std.proofs.Common.{◌∙◌, refl, ap}
-use lib.Ieee.{Float}
+use Rattle.std.proofs.Common.{◌∙◌, refl, ap, Float}
 use Rattle.solver.specs.Sums.{sum2_add}
 use Rattle.zone.proofs.Laws.Loops.{sum2_turn, sum2_end}
 use Rattle.zone.proofs.physics.terms.sum2_of.Goals as goal

@@ -1,5 +1,4 @@
-use Rattle.std.proofs.Common.{◌≡◌, ℕ, ◌<◌}
-use lib.Ieee.{Float}
+use Rattle.std.proofs.Common.{◌≡◌, ℕ, ◌<◌, Float}
 use Rattle.solver.specs.Sums.{sum2_add_all, terms}
 use Rattle.zone.proofs.physics.terms.sum2_of.Given as goal
 

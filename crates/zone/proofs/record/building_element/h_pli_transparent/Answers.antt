@@ -1,5 +1,5 @@
-use Rattle.std.proofs.Common.{◌≡◌, ℕ, List, length, take, rules, ap, ◌∙◌, eq-eqb, ne_eqb}
-use lib.Ieee.{Float, nan}
+use Rattle.std.proofs.Common.{◌≡◌, ℕ, List, length, take, rules, ap, ◌∙◌, eq-eqb, ne_eqb, Float}
+use lib.Ieee.{nan}
 use Rattle.solver.specs.F64.{◌/ᶠ◌, one64}
 use Rattle.zone.specs.Record.BuildingElement.{add_closed, h_pli_transparent}
 use Rattle.zone.proofs.Laws.Element.{closed_next, closed_end}

@@ -1,4 +1,4 @@
-use mathlib.Core.Path.{refl}
+use Rattle.std.proofs.Common.{refl}
 use lib.Ieee.{of_bits}
 use Rattle.solver.specs.F64.{decimal}
 use Rattle.zone.specs.Record.BuildingElement.{standard_coefficients}

@@ -1,4 +1,4 @@
-use mathlib.Core.Path.{refl}
+use Rattle.std.proofs.Common.{refl}
 use Rattle.zone.proofs.Laws.KeptHour.{held_hour}
 use Rattle.zone.proofs.hour.kept.KeptMatrix.prepared.Goals as goal
 
