@@ -15,9 +15,10 @@ use Rattle.book.proofs.Model.CodeLaws.{AnswerOfCall, of_begin, of_append, of_tak
 use Rattle.hem_zone.specs.Code.{answer_code, lent_after, answered}
 use Rattle.hem_zone.specs.Arrays.{limits_of}
 use Rattle.hem_zone.specs.Zone.{with_zone}
-use Rattle.hem_zone.specs.Book.{CBookState, c_book_state, book_state_of, c_book_state_of, book_out, hem_begin_outcome, hem_append_outcome, hem_take_up_outcome}
+use Rattle.hem_zone.specs.Book.{CBookState, book_state_of, c_book_state_of, book_out, hem_begin_outcome, hem_append_outcome, hem_take_up_outcome}
 use Rattle.hem_zone.specs.BookTypes.{answer_of, reply_in, c_types}
 use Rattle.hem_zone.proofs.BookTypes.{answer_back}
+use Rattle.hem_zone.proofs.BookParameters.{BeginGiven, AppendGiven, TakeUpGiven, begin_given, begin_left, append_given, append_left, take_up_given, take_up_left}
 use Rattle.hem_zone.proofs.book_calls.hem_begin.Kinds as begin_kinds
 use Rattle.hem_zone.proofs.book_calls.hem_begin.Reads as begin_reads
 use Rattle.hem_zone.proofs.book_calls.hem_append.Kinds as append_kinds
@@ -66,41 +67,30 @@ take_up_is bytes held = answered_is held (Book.take_up_res year_interface bytes)
 pub take_up_meets : (bytes : List ℕ) (held : CBookState) → answer_of (hem_take_up_outcome bytes held) ≡ Book.take_up year_interface (book_state_of held) bytes
 take_up_meets bytes held = ap answer_of (take_up_is bytes held) ∙ answer_back _ (of_take_up (book_state_of held) bytes)
 
--- ---- the contracts. e has what was lent as the call left it; `temps`, `nodes`, `count`, `used` and `last_version` are named as they were given and as they were left.
--- These statements stand in proofs/, since specs/ cannot name a function's contract; of the definitions the same is said in specs/Engine.antt
+-- ---- the contracts: a has the parameters as a call was given them, e what was lent as it left it; each is named in BookParameters.antt. These statements stand in
+-- proofs/, since specs/ cannot name a function's contract; of the definitions the same is said in specs/Engine.antt
 
--- fn hem_begin(head, buf, temps, nodes, count, used, last_version)
 module _ (κs : Lfts 7) (a : Dens κs begin_kinds.ps) (r : ℕ) (e : AtExit (ended_of 7 begin_kinds.ps begin_kinds.r) κs) where
-  abbrev begin_given : CBookState
-  begin_given = c_book_state a.1.1.0.now a.1.1.1.0.now a.1.1.1.1.0.now a.1.1.1.1.1.0.now a.1.1.1.1.1.1.0.now
-
-  abbrev begin_left : CBookState
-  begin_left = c_book_state e.1.1.0.now e.1.1.1.0.now e.1.1.1.1.0.now e.1.1.1.1.1.0.now e.1.1.1.1.1.1.0.now
+  abbrev begun : BeginGiven
+  begun = begin_given κs a
 
   pub begin_ensures : begin_reads.Post κs a r e
-      → CallSpec year_interface c_types (r, begin_left) e.1.0.now (Book.begin year_interface a.0.now (book_state_of begin_given) a.1.0.now)
+      → CallSpec year_interface c_types (r, (begin_left κs e).1) (begin_left κs e).0 (Book.begin year_interface begun.head (book_state_of begun.held) begun.buf)
   begin_ensures p = begin_meets _ _ _ _ _ _ p
 
--- fn hem_append(head, buf, temps, nodes, count, used, last_version, conditions, version, heating_limit, cooling_limit). The head handed in is the book's own, as it stands at the front of its used bytes,
--- with any bytes behind it.
+-- The head handed in is the book's own, as it stands at the front of its used bytes, with any bytes behind it.
 module _ (κs : Lfts 8) (a : Dens κs append_kinds.ps) (r : ℕ) (e : AtExit (ended_of 8 append_kinds.ps append_kinds.r) κs) where
-  abbrev append_given : CBookState
-  append_given = c_book_state a.1.1.0.now a.1.1.1.0.now a.1.1.1.1.0.now a.1.1.1.1.1.0.now a.1.1.1.1.1.1.0.now
+  abbrev appended : AppendGiven
+  appended = append_given κs a
 
-  abbrev append_left : CBookState
-  append_left = c_book_state e.1.1.0.now e.1.1.1.0.now e.1.1.1.1.0.now e.1.1.1.1.1.0.now e.1.1.1.1.1.1.0.now
-
-  pub append_ensures : (used behind : List ℕ) (h : ReadHead Zone) → head_of used ≡ ok h → a.0.now ≡ take h.length used ++ behind → append_reads.Post κs a r e
-      → CallSpec year_interface c_types (r, append_left) e.1.0.now (Book.append year_interface h.zone (book_state_of append_given) (hour_item a.1.1.1.1.1.1.1.1.0 a.1.1.1.1.1.1.1.0.now (limits_of a.1.1.1.1.1.1.1.1.1.0 a.1.1.1.1.1.1.1.1.1.1.0)) a.1.0.now)
+  pub append_ensures : (used behind : List ℕ) (h : ReadHead Zone) → head_of used ≡ ok h → appended.head ≡ take h.length used ++ behind → append_reads.Post κs a r e
+      → CallSpec year_interface c_types (r, (append_left κs e).1) (append_left κs e).0
+      (Book.append year_interface h.zone (book_state_of appended.held) (hour_item appended.version appended.conditions (limits_of appended.heating_limit appended.cooling_limit)) appended.buf)
   append_ensures used behind h k q p = append_of _ _ _ _ _ _ _ h _ _ _ (ap head_of q ∙ head_then used behind h k) p
 
--- fn hem_take_up(bytes, temps, nodes, count, used, last_version)
 module _ (κs : Lfts 6) (a : Dens κs take_up_kinds.ps) (r : ℕ) (e : AtExit (ended_of 6 take_up_kinds.ps take_up_kinds.r) κs) where
-  abbrev take_up_given : CBookState
-  take_up_given = c_book_state a.1.0.now a.1.1.0.now a.1.1.1.0.now a.1.1.1.1.0.now a.1.1.1.1.1.0.now
+  abbrev taken_up : TakeUpGiven
+  taken_up = take_up_given κs a
 
-  abbrev take_up_left : CBookState
-  take_up_left = c_book_state e.1.0.now e.1.1.0.now e.1.1.1.0.now e.1.1.1.1.0.now e.1.1.1.1.1.0.now
-
-  pub take_up_ensures : take_up_reads.Post κs a r e → answer_of (r, take_up_left) ≡ Book.take_up year_interface (book_state_of take_up_given) a.0.now
+  pub take_up_ensures : take_up_reads.Post κs a r e → answer_of (r, take_up_left κs e) ≡ Book.take_up year_interface (book_state_of taken_up.held) taken_up.bytes
   take_up_ensures p = ap answer_of p ∙ take_up_meets _ _

@@ -34,7 +34,8 @@ impl HeldBook<'_> {
     // What a call returns; where the book accepts it, the values that it hands back are written.
     #[tactic(auto, unfolding(crate::specs::Inner::Answers::by_answer))]
     fn reply_out(self, reply: Reply) -> u32
-        ensures { (result, c_book_state self.exit.0.now self.exit.1.0.now self.exit.1.1.0.now self.exit.1.1.1.0.now self.exit.1.1.1.1.0.now) ≡ by_answer (answer_of reply) (held_in self.entry) }
+        ensures { let (temps, (nodes, (count, (used, (last_version, _))))) = self.exit in
+            (result, c_book_state temps.now nodes.now count.now used.now last_version.now) ≡ by_answer (answer_of reply) (held_in self.entry) }
     {
         match reply.answer {
             Err(e) => error_code(e.into()),
