@@ -17,7 +17,7 @@ use Rattle.book.specs.Numbers.{buffer_short, book_full, false_entry}
 use Rattle.book.specs.Layout.{most_entries, whole_length}
 use Rattle.book.specs.Entry.{entry_of}
 use Rattle.book.specs.Model.Calls.{BookState, append_res}
-use Rattle.book.specs.Year.{Item, hour, Carried, may_follow, limits_part, hour_entry, body_limits, body_conditions}
+use Rattle.book.specs.Year.{body_of, Carried, may_follow, limits_part, hour_entry, body_limits, body_conditions}
 use Rattle.book.specs.PlantLimits.{AreF64, appended, append, PlantClaims, LimitsApart}
 use Rattle.book.proofs.Laws.Body.{by_parts, conditions_are, limits_are, part_length, part_back}
 use Rattle.book.proofs.Laws.Accepted.{hour_entry_lem}
@@ -102,14 +102,11 @@ plant_claims z given conditions buf l =
 
 -- ---- limits told apart
 
-abbrev hour_body_of : Item → List ℕ
-hour_body_of (hour version body) = body
-
 pub limits_apart : LimitsApart
 limits_apart =
     record {
       version_3 = λ c c' l l' f f' e.
-          let b : c ++ limits_part 3 l ≡ c' ++ limits_part 3 l' = ap hour_body_of e in (
+          let b : c ++ limits_part 3 l ≡ c' ++ limits_part 3 l' = ap body_of e in (
             sym (conditions_are 3 c (limits_part 3 l) (part_length 3 l)) ∙ ap (body_conditions 3) b ∙ conditions_are 3 c' (limits_part 3 l') (part_length 3 l'),
             sym (part_back 3 l f.heating f.cooling refl)
                 ∙ sym (limits_are 3 c (limits_part 3 l) (part_length 3 l))

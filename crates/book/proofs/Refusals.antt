@@ -13,8 +13,7 @@ use Rattle.zone.proofs.Claims.Refusals.{known_step_refusals, start_up_refusals}
 use Rattle.book.specs.Numbers.{false_entry}
 use Rattle.book.specs.Model.Calls.{BookState, begin_res, append_res, take_up_res}
 use Rattle.book.proofs.Model.Laws.Refusals.{begin_refuses_by, append_refuses_by, take_up_refuses_by}
-use Rattle.book.specs.Year.{Item, hour, body_conditions, body_limits, Carried, may_follow, start_up, hour_entry, year_interface}
-use Rattle.book.specs.VersionOrder.{version_of}
+use Rattle.book.specs.Year.{Item, hour, version_of, body_conditions, body_limits, Carried, may_follow, start_up, hour_entry, year_interface}
 use Rattle.book.specs.Refusals.{
   BeginRefusal,
   begin_head,

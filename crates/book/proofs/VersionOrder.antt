@@ -20,8 +20,8 @@ use Rattle.book.specs.Layout.{most_entries, whole_length}
 use Rattle.book.specs.Model.Interface.{Written}
 use Rattle.book.specs.Model.Calls.{BookState, append_res, take_up_res}
 use Rattle.book.specs.Model.Plain.{Entry, last_state, entries_of, used_bytes, WellFormed}
-use Rattle.book.specs.Year.{Item, hour, Carried, no_entry_version, may_follow, start_up, hour_entry, body_in, item_in, year_interface}
-use Rattle.book.specs.VersionOrder.{version_of, NeverFall, last_version_of, MayNotFollow, InOrder, VersionClaims}
+use Rattle.book.specs.Year.{Item, hour, version_of, Carried, no_entry_version, may_follow, start_up, hour_entry, body_in, item_in, year_interface}
+use Rattle.book.specs.VersionOrder.{versions_of, NeverFall, last_version_of, MayNotFollow, InOrder, VersionClaims}
 use Rattle.book.proofs.Model.Laws.Bytes.{some_inj}
 use Rattle.book.proofs.Model.Laws.Entries.{entries_cons}
 use Rattle.book.proofs.Model.Laws.Refusals.{append_refuses_by}
@@ -44,17 +44,17 @@ module _ (z : Zone) where
       let f = and_true (hour_version version) (leb s.last_version version) a.follows in
       (f.0, leb-true s.last_version version f.1, sym (ap (λ x. x.after.last_version) a.gives))
 
-  entries_never_fall : (k : ℕ) (s : Carried) (is : List Item) (es : List (Entry year_interface)) → entries_of year_interface z k s is ≡ ok es → NeverFall s.last_version is
+  entries_never_fall : (k : ℕ) (s : Carried) (is : List Item) (es : List (Entry year_interface)) → entries_of year_interface z k s is ≡ ok es → NeverFall s.last_version (versions_of is)
   unfolding NeverFall
   entries_never_fall k s [] es h = tt
   entries_never_fall k s (i ∷ is) es h =
       let c = entries_cons year_interface z k s i is es h in
       let v = step_version k s i c.e c.stepped in
       let b = hour_version_bounds (version_of i) v.0 in
-      (b.0, b.1, v.1, subst (λ x. NeverFall x is) v.2 (entries_never_fall (k + 1) c.e.after is c.others c.rest))
+      (b.0, b.1, v.1, subst (λ x. NeverFall x (versions_of is)) v.2 (entries_never_fall (k + 1) c.e.after is c.others c.rest))
 
   entries_last : (k : ℕ) (s : Carried) (is : List Item) (es : List (Entry year_interface)) → entries_of year_interface z k s is ≡ ok es
-      → (last_state s es).last_version ≡ last_version_of s.last_version is
+      → (last_state s es).last_version ≡ last_version_of s.last_version (versions_of is)
   unfolding entries_of last_version_of
   entries_last k s [] es h = ap (λ x. (last_state s x).last_version) (sym (ok_inj h))
   entries_last k s (i ∷ is) es h =
@@ -62,7 +62,7 @@ module _ (z : Zone) where
       let v = step_version k s i c.e c.stepped in
       sym (ap (λ x. (last_state s x).last_version) c.joined)
       ∙ entries_last (k + 1) c.e.after is c.others c.rest
-      ∙ ap (λ x. last_version_of x is) v.2
+      ∙ ap (λ x. last_version_of x (versions_of is)) v.2
 
   first_version_lem : (s : Carried) → start_up z ≡ ok s → s.last_version ≡ no_entry_version
   first_version_lem s e =
@@ -72,16 +72,16 @@ module _ (z : Zone) where
 -- ---- of a well-formed book
 
 module _ (head : List ℕ) (is : List Item) (S : WellFormed year_interface head is) where
-  last_held : (last_state S.contents.start S.contents.entries).last_version ≡ last_version_of no_entry_version is
+  last_held : (last_state S.contents.start S.contents.entries).last_version ≡ last_version_of no_entry_version (versions_of is)
   last_held =
       let c = S.contents in
-      entries_last c.zone 0 c.start is c.entries S.entries_are ∙ ap (λ x. last_version_of x is) (first_version_lem c.zone c.start S.start_is)
+      entries_last c.zone 0 c.start is c.entries S.entries_are ∙ ap (λ x. last_version_of x (versions_of is)) (first_version_lem c.zone c.start S.start_is)
 
   in_order : InOrder head is
   in_order =
       let c = S.contents in
       record {
-        never_fall = subst (λ x. NeverFall x is) (first_version_lem c.zone c.start S.start_is) (entries_never_fall c.zone 0 c.start is c.entries S.entries_are);
+        never_fall = subst (λ x. NeverFall x (versions_of is)) (first_version_lem c.zone c.start S.start_is) (entries_never_fall c.zone 0 c.start is c.entries S.entries_are);
         last_version_lem = λ v f. ap (λ x. x.values.state.last_version) (some_inj (sym f ∙ snapshot_is year_interface head is S)) ∙ last_held;
       }
 
@@ -136,7 +136,7 @@ module _ (z : Zone) (given : BookState Carried) (version : ℕ) (body buf : List
 -- ---- 18 at a take-up
 
 take_up_18 : (head : List ℕ) (is : List Item) (S : WellFormed year_interface head is) → length is < most_entries
-    → (entry rest : List ℕ) → (version_in entry ≡ 1) ⊎ (version_in entry ≡ 2) → version_in entry < last_version_of no_entry_version is
+    → (entry rest : List ℕ) → (version_in entry ≡ 1) ⊎ (version_in entry ≡ 2) → version_in entry < last_version_of no_entry_version (versions_of is)
     → length entry ≡ whole_length S.contents.zone (version_in entry)
     → take_up_res year_interface (used_bytes year_interface head S.contents ++ (entry ++ rest)) ≡ refused false_entry (length is)
 unfolding item_in
@@ -144,7 +144,7 @@ take_up_18 head is S few entry rest known below long =
     let z = S.contents.zone in
     let v = version_in entry in
     let s = last_state S.contents.start S.contents.entries in
-    let f : may_follow s.last_version v ≡ false = ap (λ (x : ℕ). may_follow x v) (last_held head is S) ∙ not_follow (last_version_of no_entry_version is) v (inr below) in
+    let f : may_follow s.last_version v ≡ false = ap (λ (x : ℕ). may_follow x v) (last_held head is S) ∙ not_follow (last_version_of no_entry_version (versions_of is)) v (inr below) in
     let same : version_in (entry ++ rest) ≡ v = get_or-append entry rest 0 version_at (omega (arith, long)) in
     let l = length-append entry rest in
     refused_behind year_interface year_laws head is S few entry rest

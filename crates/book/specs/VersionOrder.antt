@@ -1,6 +1,6 @@
 -- Document 02 (a), "a book may pass from 1 to 2 but never back", and (b), version 3 "may follow versions 1 and 2, never the reverse": the versions of the
 -- hours that a book holds, and when 18 is answered for a version.
-use Rattle.std.specs.Prelude.{ℕ, ◌≤◌, ◌<◌, ◌≡◌, ◌↔◌, ◌≢◌, ◌⊎◌, List, [], ◌∷◌, ◌++◌, length}
+use Rattle.std.specs.Prelude.{ℕ, ◌≤◌, ◌<◌, ◌≡◌, ◌↔◌, ◌≢◌, ◌⊎◌, List, [], ◌∷◌, ◌++◌, map, length}
 use Rattle.std.proofs.Math.Option.{some}
 use Rattle.zone.specs.Promise.{ok, refused}
 use Rattle.zone.specs.Check.ZoneTest.{zone_test}
@@ -11,29 +11,30 @@ use Rattle.book.specs.Layout.{most_entries, whole_length}
 use Rattle.book.specs.Model.Calls.{BookState, append_res, take_up_res}
 use Rattle.book.specs.Model.Plain.{empty, book, Snapshot, snapshot, used_bytes, WellFormed}
 use Rattle.book.specs.Model.Run.{Calls, plain_after}
-use Rattle.book.specs.Year.{Item, hour, Carried, no_entry_version, year_interface}
+use Rattle.book.specs.Year.{Item, hour, version_of, Carried, no_entry_version, year_interface}
 
-abbrev pub version_of : Item → ℕ
-version_of (hour version body) = version
+-- the versions of the hours, in their order
+abbrev pub versions_of : List Item → List ℕ
+versions_of is = map version_of is
 
--- each hour has version 1, 2 or 3, and not one below that of the hour before it; before the first stands `last`
-unfoldable pub NeverFall : (last : ℕ) → List Item → Type 0
+-- each is 1, 2 or 3, and not below the one before it; before the first stands `last`
+unfoldable pub NeverFall : (last : ℕ) → (versions : List ℕ) → Type 0
 NeverFall last [] = Unit {0}
-NeverFall last (i ∷ is) = (1 ≤ version_of i) × (version_of i ≤ 3) × (last ≤ version_of i) × NeverFall (version_of i) is
+NeverFall last (v ∷ vs) = (1 ≤ v) × (v ≤ 3) × (last ≤ v) × NeverFall v vs
 
 -- the version of the last hour, `last` where there is none
-unfoldable pub last_version_of : (last : ℕ) → List Item → ℕ
+unfoldable pub last_version_of : (last : ℕ) → (versions : List ℕ) → ℕ
 last_version_of last [] = last
-last_version_of last (i ∷ is) = last_version_of (version_of i) is
+last_version_of last (v ∷ vs) = last_version_of v vs
 
 -- "a version that no hour has", or one that passes back
 abbrev pub MayNotFollow : (last version : ℕ) → Type 0
 MayNotFollow last version = ((version ≢ 1) × (version ≢ 2) × (version ≢ 3)) ⊎ (version < last)
 
 pub record InOrder (head : List ℕ) (is : List Item) : Type 0 where
-  pub never_fall : NeverFall no_entry_version is
+  pub never_fall : NeverFall no_entry_version (versions_of is)
   -- "the version of the last entry, 1 where there is none" is what belongs to the book and is handed back.
-  pub last_version_lem : (v : Snapshot Carried) → snapshot year_interface (book head is) ≡ some v → v.values.state.last_version ≡ last_version_of no_entry_version is
+  pub last_version_lem : (v : Snapshot Carried) → snapshot year_interface (book head is) ≡ some v → v.values.state.last_version ≡ last_version_of no_entry_version (versions_of is)
 
 pub record VersionClaims : Type 0 where
   -- Versions never fall in a book that calls have made,
@@ -46,6 +47,6 @@ pub record VersionClaims : Type 0 where
       ↔ ((zone_test z ≡ ok tt) × (given.count < most_entries) × MayNotFollow given.state.last_version version × (index ≡ given.count))
   -- A take-up has 18 at the later entry: the bytes of a book, then a whole entry of a version that passes back, and any bytes behind it.
   pub take_up_refused : (head : List ℕ) (is : List Item) (S : WellFormed year_interface head is) → length is < most_entries
-      → (entry rest : List ℕ) → (version_in entry ≡ 1) ⊎ (version_in entry ≡ 2) → version_in entry < last_version_of no_entry_version is
+      → (entry rest : List ℕ) → (version_in entry ≡ 1) ⊎ (version_in entry ≡ 2) → version_in entry < last_version_of no_entry_version (versions_of is)
       → length entry ≡ whole_length S.contents.zone (version_in entry)
       → take_up_res year_interface (used_bytes year_interface head S.contents ++ (entry ++ rest)) ≡ refused false_entry (length is)

@@ -24,6 +24,13 @@ use Rattle.book.specs.Entry.{entry_of}
 pub data Item : Type 0 where
   hour : (version : ℕ) (body : List ℕ) → Item
 
+-- an hour's version and body: what speaks of every item goes by these, and only a rule of an item's own by the constructor
+abbrev pub version_of : Item → ℕ
+version_of (hour version body) = version
+
+abbrev pub body_of : Item → List ℕ
+body_of (hour version body) = body
+
 -- the hour of a call: its conditions, and its limits where the version has them
 abbrev pub limits_part : (version : ℕ) → Limits → List ℕ
 limits_part version l = cond (has_limits version) (limits_bytes l) []

@@ -96,12 +96,15 @@ module _ (fixed : FixedRate) (z : Zone) (k : ℕ) (s : Carried) (version : ℕ) 
   step_state =
       sym (ap (λ x. state_in z x.bytes) made.gives) ∙ ap (state_in z) entry_is ∙ whole_state ∙ ap (λ x. x.after.state) made.gives
 
+entry_state : (z : Zone) (k : ℕ) (s : Carried) (i : Item) (e : Written Carried) → hour_entry StillTaken z k s i ≡ ok e → state_in z e.bytes ≡ e.after.state
+entry_state z k s (hour version body) e p = step_state StillTaken z k s version body e p
+
 -- of all entries of a plain book
 pub states_read : (z : Zone) (k : ℕ) (s : Carried) (is : List Item) (es : Entries year_interface) → entries_of year_interface z k s is ≡ ok es
     → map (λ c. (state_in z c).temps) (bytes_of es) ≡ map (λ x. x.after.state.temps) es
 unfolding entries_of
 states_read z k s [] es h = rw (sym (ok_inj h)) refl
-states_read z k s (hour version i ∷ is) es h =
-    let a = entries_cons year_interface z k s (hour version i) is es h in
+states_read z k s (i ∷ is) es h =
+    let a = entries_cons year_interface z k s i is es h in
     subst (λ x. map (λ c. (state_in z c).temps) (bytes_of x) ≡ map (λ y. y.after.state.temps) x) a.joined
-    (λ t. (step_state StillTaken z k s version i a.e a.stepped t).temps ∷ states_read z (k + 1) a.e.after is a.others a.rest t)
+    (λ t. (entry_state z k s i a.e a.stepped t).temps ∷ states_read z (k + 1) a.e.after is a.others a.rest t)

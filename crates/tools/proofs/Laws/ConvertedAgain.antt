@@ -1,19 +1,19 @@
 -- A book with no fixed rate and no entry of version 1 is its own conversion. So converting again changes nothing.
-use Rattle.std.proofs.Common.{ℕ, ◌+◌, ◌≤◌, ◌≡◌, refl, sym, ap, ◌∙◌, true, not, ◌&&◌, List, [], ◌∷◌, map, arith, le-leb, length, length-append, eqb}
+use Rattle.std.proofs.Common.{ℕ, ◌+◌, ◌≤◌, ◌≡◌, refl, sym, ap, ◌∙◌, true, false, not, ◌&&◌, List, [], ◌∷◌, map, arith, le-leb, length, length-append, eqb}
 use lib.Seq.{take-length}
 use Rattle.std.specs.List.{list_all}
 use Rattle.zone.specs.Promise.{ok}
 use Rattle.zone.proofs.Promise.{and_true}
-use Rattle.zone.specs.Format.FixedRate.{is_fixed}
 use Rattle.zone.specs.declared.record.zone_record.Zone.{Zone}
 use Rattle.book.specs.Model.Plain.{Entry, entry_bytes, used_bytes, book, items_ending_by, entries_of, WellFormed}
 use Rattle.book.specs.Model.PlainTakeUp.{take_up_plain}
+use Rattle.book.specs.VersionOrder.{versions_of}
 use Rattle.book.specs.Year.{Item, hour, Carried, year_interface}
 use Rattle.book.proofs.Laws.Interface.{year_laws}
 use Rattle.book.proofs.Model.Agreement.{contents_is}
 use Rattle.book.proofs.Model.AppendCut.{cut_is, cut_take_up}
 use Rattle.book.proofs.Model.Laws.Entries.{Entries, entries_cons, items_are}
-use Rattle.tools.specs.Convert.{converted_body, converted_item, has_fixed_rate, is_version_1, convert_items, convert_in}
+use Rattle.tools.specs.Convert.{converted_item, has_fixed_rate, is_version_1, convert_items, convert_in}
 use Rattle.tools.proofs.Laws.Nearer.{not_true}
 use Rattle.tools.proofs.Laws.ConvertedStep.{fixed_gone}
 
@@ -28,18 +28,27 @@ none_fixed z k s (i ∷ is) es h =
     let a = entries_cons year_interface z k s i is es h in
     rw (fixed_gone z k s i a.e a.stepped) (none_fixed z (k + 1) a.e.after is a.others a.rest)
 
--- and what has none stays as it is
+-- what has none stays as it is, and its version in any case
+item_stays : (i : Item) → has_fixed_rate i ≡ false → converted_item i ≡ i
+item_stays (hour version body) h = rw h refl
+
+version_stays : (i : Item) → is_version_1 (converted_item i) ≡ is_version_1 i
+version_stays (hour version body) = refl
+
+-- whether it is 1 is told by the versions alone
+pub by_versions : (is : List Item) → list_all (λ i. not (is_version_1 i)) is ≡ list_all (λ v. not (eqb v 1)) (versions_of is)
+by_versions [] = refl
+by_versions (hour version body ∷ is) = ap (λ b. not (eqb version 1) && b) (by_versions is)
+
 same_items : (is : List Item) → list_all (λ i. not (has_fixed_rate i)) is ≡ true → map converted_item is ≡ is
 same_items [] h = refl
-same_items (hour version body ∷ is) h =
-    let both = and_true (not (is_fixed body)) (list_all (λ i. not (has_fixed_rate i)) is) h in
-    let same : converted_body body ≡ body = rw (not_true (is_fixed body) both.0) refl in
-    λ t. hour version (same t) ∷ same_items is both.1 t
+same_items (i ∷ is) h =
+    let both = and_true (not (has_fixed_rate i)) (list_all (λ i. not (has_fixed_rate i)) is) h in
+    λ t. item_stays i (not_true (has_fixed_rate i) both.0) t ∷ same_items is both.1 t
 
--- versions stay
 pub versions_stay : (is : List Item) → list_all (λ i. not (is_version_1 i)) (map converted_item is) ≡ list_all (λ i. not (is_version_1 i)) is
 versions_stay [] = refl
-versions_stay (hour version body ∷ is) = ap (λ b. not (eqb version 1) && b) (versions_stay is)
+versions_stay (i ∷ is) = λ t. not (version_stays i t) && versions_stay is t
 
 -- ---- a book
 

@@ -12,15 +12,14 @@ use Rattle.book.specs.Model.Bytes.{concat}
 use Rattle.book.specs.Model.Calls.{BookState, whole_entries, check_entries, take_up_res}
 use Rattle.book.specs.Model.Plain.{Entry, Contents, entries_of, entry_bytes, last_state, own_book_state, WellFormed, used_bytes}
 use Rattle.book.specs.Model.PlainTakeUp.{take_up_plain}
-use Rattle.zone.specs.declared.format.conditions.FixedRate.TheVariants.{StillTaken}
 use Rattle.zone.specs.Format.Layout.{version_at, version_in}
 use Rattle.std.proofs.Math.Option.{Option, none, some}
 use Rattle.std.proofs.lemmas.List.{get_or-take}
 use Rattle.book.proofs.Laws.Rest.{begins, begins_within, rest_under}
 use Rattle.book.proofs.Model.Laws.Decode.{whole_none, whole_some}
-use Rattle.book.specs.VersionOrder.{NeverFall}
+use Rattle.book.specs.VersionOrder.{NeverFall, versions_of}
 use Rattle.book.proofs.VersionOrder.{version_claims}
-use Rattle.book.specs.Year.{Item, hour, body_in, entry_length, no_entry_version, Carried, start_up, item_in, year_interface}
+use Rattle.book.specs.Year.{Item, entry_length, no_entry_version, Carried, start_up, item_in, year_interface}
 use Rattle.book.specs.Model.PlainTakeUp.{contents_in}
 use Rattle.book.proofs.Model.Contents.{contents_taken, contents_of_book}
 use Rattle.book.proofs.Model.Agreement.{contents_is, head_alone}
@@ -28,14 +27,14 @@ use Rattle.book.proofs.Model.Books.Further.{dropped_behind}
 use Rattle.book.proofs.Model.Laws.ByIndex.{items_in_lem, tests_ok}
 use Rattle.book.proofs.Model.Laws.Checking.{Checked, check_accepted}
 use Rattle.book.proofs.Model.Laws.Entries.{Entries, bytes_of, entries_cons, cons_entries, items_are, length_bytes_of}
-use Rattle.book.proofs.Laws.Interface.{step_length, year_laws}
+use Rattle.book.proofs.Laws.Interface.{year_laws}
 use Rattle.tools.specs.Numbers.{version_1_entry}
 use Rattle.tools.specs.Inner.Convert.{converted_entry, AllLong, converted_bytes, conversion_of}
 use Rattle.tools.specs.Convert.{converted_item, has_fixed_rate, is_version_1, ConvertedBook, convert_items, convert_in}
 use Rattle.tools.specs.ConvertClaims.{Appended, Converts}
 use Rattle.tools.proofs.Laws.ConvertLoop.{same_lengths}
-use Rattle.tools.proofs.Laws.ConvertedAgain.{none_fixed, unchanged_lem, versions_stay}
-use Rattle.tools.proofs.Laws.ConvertedStep.{step_anew, step_converted}
+use Rattle.tools.proofs.Laws.ConvertedAgain.{by_versions, none_fixed, unchanged_lem, versions_stay}
+use Rattle.tools.proofs.Laws.ConvertedStep.{entry_long, step_anew, step_converted}
 
 abbrev pub converted : Entry year_interface → Entry year_interface
 converted e = record { item = converted_item e.item; bytes = converted_entry e.bytes; after = e.after }
@@ -62,29 +61,26 @@ bytes_converted : (es : Entries year_interface) → entry_bytes (map converted e
 bytes_converted [] = refl
 bytes_converted (e ∷ es) = ap (λ l. converted_entry e.bytes ++ l) (bytes_converted es)
 
--- an entry that the hour step gives has all that stands before its elements' parts
 entries_long : (z : Zone) (k : ℕ) (s : Carried) (is : List Item) (es : Entries year_interface) → entries_of year_interface z k s is ≡ ok es → AllLong (bytes_of es)
 unfolding entries_of AllLong
 entries_long z k s [] es h = subst (λ x. AllLong (bytes_of x)) (ok_inj h) tt
-entries_long z k s (hour version body ∷ is) es h =
-    let a = entries_cons year_interface z k s (hour version body) is es h in
-    let l = step_length StillTaken z k s version body a.e a.stepped in
-    subst (λ x. AllLong (bytes_of x)) a.joined (omega (arith, l), entries_long z (k + 1) a.e.after is a.others a.rest)
+entries_long z k s (i ∷ is) es h =
+    let a = entries_cons year_interface z k s i is es h in
+    subst (λ x. AllLong (bytes_of x)) a.joined (entry_long z k s i a.e a.stepped, entries_long z (k + 1) a.e.after is a.others a.rest)
 
 -- versions never fall: behind one from 2 on none is 1
-none_behind : (last : ℕ) (is : List Item) → 2 ≤ last → NeverFall last is → list_all (λ i. not (is_version_1 i)) is ≡ true
+none_behind : (last : ℕ) (vs : List ℕ) → 2 ≤ last → NeverFall last vs → list_all (λ v. not (eqb v 1)) vs ≡ true
 unfolding NeverFall
 none_behind last [] h n = refl
-none_behind last (hour version body ∷ is) h n = rw (ne_eqb version 1 (λ q. omega (arith, q, h, n.2))) (none_behind version is (omega (arith, h, n.2)) n.3)
+none_behind last (v ∷ vs) h n = rw (ne_eqb v 1 (λ q. omega (arith, q, h, n.2))) (none_behind v vs (omega (arith, h, n.2)) n.3)
 
-first_tells : (version : ℕ) (body : List ℕ) (is : List Item) → NeverFall no_entry_version (hour version body ∷ is)
-    → list_all (λ i. not (is_version_1 i)) (hour version body ∷ is) ≡ not (eqb version 1)
+first_tells : (version : ℕ) (vs : List ℕ) → NeverFall no_entry_version (version ∷ vs) → list_all (λ v. not (eqb v 1)) (version ∷ vs) ≡ not (eqb version 1)
 unfolding NeverFall
-first_tells version body is n = go (eqb version 1) refl
+first_tells version vs n = go (eqb version 1) refl
   where
-    go : (b : Bool) → eqb version 1 ≡ b → (not (eqb version 1) && list_all (λ i. not (is_version_1 i)) is) ≡ not (eqb version 1)
+    go : (b : Bool) → eqb version 1 ≡ b → (not (eqb version 1) && list_all (λ v. not (eqb v 1)) vs) ≡ not (eqb version 1)
     go true t = rw t refl
-    go false t = rw t (none_behind version is (omega (arith, eqb-false version 1 t, n.0)) n.3)
+    go false t = rw t (none_behind version vs (omega (arith, eqb-false version 1 t, n.0)) n.3)
 
 -- what a take-up accepts
 module _ (bytes : List ℕ) (z : Zone) (n : ℕ) (s : Carried) (v : BookState Carried) (p : head_of bytes ≡ ok (record { zone = z; length = n }))
@@ -125,7 +121,7 @@ module _ (bytes : List ℕ) (z : Zone) (n : ℕ) (s : Carried) (v : BookState Ca
   pub all_long : AllLong (whole_entries year_interface z (drop n bytes))
   all_long = subst AllLong J.same (entries_long z 0 s is J.es J.entries_are)
 
-  never : NeverFall no_entry_version is
+  never : NeverFall no_entry_version (versions_of is)
   never = (version_claims.formed_in_order head is S).never_fall
 
   pub version_told : list_all (λ i. not (is_version_1 i)) is ≡ not (ltb 0 (length cs) && eqb (version_in (drop n bytes)) 1)
@@ -141,7 +137,8 @@ module _ (bytes : List ℕ) (z : Zone) (n : ℕ) (s : Carried) (v : BookState Ca
           let five = (begins_within z (drop n bytes) m (begins z (drop n bytes) m h)).0 in
           let same : version_in c ≡ version_in (drop n bytes) = get_or-take m (drop n bytes) version_at 0 (omega (arith, five)) in
           rw (o, lt-ltb 0 (length {A = List ℕ} (c ∷ others)) (omega arith))
-          (first_tells (version_in c) (body_in z (version_in c) c) (map (item_in z) others) (subst (λ l. NeverFall no_entry_version (map (item_in z) l)) o never)
+          (by_versions (map (item_in z) (c ∷ others))
+          ∙ first_tells (version_in c) (versions_of (map (item_in z) others)) (subst (λ l. NeverFall no_entry_version (versions_of (map (item_in z) l))) o never)
           ∙ ap (λ x. not (eqb x 1)) same)
 
   made_is : entry_bytes (map converted J.es) ≡ concat (map converted_entry cs)

@@ -17,10 +17,10 @@ use Rattle.book.specs.Entry.{front_bytes, demand_bytes, temperature_bytes, entry
 use Rattle.book.specs.Model.Interface.{Written}
 use Rattle.book.specs.Year.{Item, hour, body_conditions, body_limits, Carried, carried, hour_entry}
 use Rattle.book.proofs.Laws.Entry.{length_front}
-use Rattle.book.proofs.Laws.Interface.{HourEntered, step_hour, year_laws}
+use Rattle.book.proofs.Laws.Interface.{HourEntered, step_hour, step_length, year_laws}
 use Rattle.book.proofs.Laws.Twice.{conditions, behind, parts, long, stepped_twice}
 use Rattle.tools.specs.Convert.{converted_body, converted_item, has_fixed_rate}
-use Rattle.tools.specs.Inner.Convert.{converted_entry}
+use Rattle.tools.specs.Inner.Convert.{converted_entry, least_entry}
 
 module _ (z : Zone) (k : ℕ) (s : Carried) (version : ℕ) (body : List ℕ) (e : Written Carried) (p : hour_entry StillTaken z k s (hour version body) ≡ ok e) where
   abbrev made : HourEntered StillTaken z s version body e
@@ -71,7 +71,11 @@ module _ (z : Zone) (version : ℕ) (body : List ℕ) (d : Demand) (s : State) (
       (λ t. take_at front (body ++ behind) front_size (length_front z version) t ++ converted_body (drop_at front (body ++ behind) front_size (length_front z version) t))
       ∙ ap (λ l. front ++ l) (body_converted body behind long)
 
--- ---- an hour
+-- ---- an item
+
+-- its entry has all that stands before its elements' parts
+pub entry_long : (z : Zone) (k : ℕ) (s : Carried) (i : Item) (e : Written Carried) → hour_entry StillTaken z k s i ≡ ok e → least_entry ≤ length e.bytes
+entry_long z k s (hour version body) e p = let l = step_length StillTaken z k s version body e p in omega (arith, l)
 
 -- an append takes the converted hour, and writes its entry as converted
 pub step_anew : (z : Zone) (k : ℕ) (s : Carried) (i : Item) (e : Written Carried) → hour_entry StillTaken z k s i ≡ ok e
