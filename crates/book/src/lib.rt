@@ -16,5 +16,7 @@ mod versions;
 pub use book::{BookState, Reply, append, begin};
 pub use book_error::BookError;
 pub use entries::{ReadBook, read_book, take_up};
+pub use layout::{FRONT_SIZE, LENGTH_SIZE};
 pub use promised::promises;
-pub use reader::read_entry;
+pub use reader::read_record;
+pub use record::ReadRecord;

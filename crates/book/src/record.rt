@@ -1,8 +1,8 @@
-// Where the first record of a rest of the book ends, and all its records. Nothing else says it.
+// Where the first record of a rest of the book ends, and all its records; what a record is. Nothing else says it.
 ghost use Rattle.std.specs.Prelude.{◌≡◌, length};
 ghost use Rattle.std.specs.Iterator.{at_most};
 ghost use Rattle.book.specs.Year.{entry_length};
-ghost use Rattle.book.specs.Inner.Record.{record_length, NextRecord};
+ghost use Rattle.book.specs.Inner.Record.{record_length, length_of, NextRecord};
 
 use crate::entry::EntryLayout;
 use crate::layout::{FRONT_SIZE, LENGTH_SIZE};
@@ -25,6 +25,22 @@ pub fn record_in(layout: &EntryLayout<'_>, rest: &[u8]) -> Option<usize>
         return Some(length);
     }
     Some(rest.len())
+}
+
+// What a record of a book that was taken up is, and its length. Each of them is an hour's entry; who goes through a book says what it does with each kind.
+#[derive(Clone, Copy)]
+pub enum ReadRecord {
+    Hour(usize),
+}
+
+impl ReadRecord {
+    pub fn length(self) -> usize
+        ensures { result ≡ length_of self }
+    {
+        match self {
+            ReadRecord::Hour(length) => length,
+        }
+    }
 }
 
 // The whole records of a rest of the book, one behind the other; a rest that counts for none ends them.

@@ -8,7 +8,7 @@ ghost use Rattle.tools.specs.ConvertAnswers.{answered, convert_outcome};
 ghost use Rattle.tools.specs.Inner.Convert.{converted_entry, AllLong, least_entry, Accepts};
 
 use crate::convert_error::ConvertError;
-use book::{BookError, BookState, read_book, read_entry};
+use book::{BookError, BookState, FRONT_SIZE, LENGTH_SIZE, ReadRecord, read_book, read_record};
 use zone::{State, Zone};
 
 // Of a converted book: the number of its hours, and its used length.
@@ -19,17 +19,17 @@ pub struct Converted {
 }
 
 // In an entry: its version.
-const VERSION: usize = 4;
+const VERSION: usize = LENGTH_SIZE;
 
 // The rate code, and behind it the two rates.
-const RATE_CODE: usize = 101;
+const RATE_CODE: usize = FRONT_SIZE + zone::RATE_CODE;
 
-const FIRST_RATE: usize = 102;
+const FIRST_RATE: usize = FRONT_SIZE + zone::FIRST_RATE;
 
-const SECOND_RATE: usize = 110;
+const SECOND_RATE: usize = FRONT_SIZE + zone::SECOND_RATE;
 
 // Behind them its elements' parts: an entry has all the bytes before these.
-const LEAST_ENTRY: usize = 118;
+const LEAST_ENTRY: usize = FRONT_SIZE + zone::FIRST_ELEMENT_HOUR;
 
 // An entry, into as many bytes, its fixed rate twice.
 #[tactic(auto, using(crate::proofs::Laws::PutConverted::put_fixed))]
@@ -54,9 +54,11 @@ fn convert_entries(z: &Zone, entries: &[u8], out: &mut [u8])
 {
     let mut temps = [0.0; 121];
     let mut at = 0;
-    while let Some(length) = read_entry(z, &entries[at..], &mut temps) {
-        let next = at + length;
-        put_converted(&entries[at..next], &mut out[at..next]);
+    while let Some(record) = read_record(z, &entries[at..], &mut temps) {
+        let next = at + record.length();
+        match record {
+            ReadRecord::Hour(_) => put_converted(&entries[at..next], &mut out[at..next]),
+        }
         at = next;
     }
 }

@@ -2,7 +2,7 @@
 ghost use Rattle.std.specs.Iterator.{YieldsFirst, item_count};
 ghost use Rattle.tools.specs.Inner.Hours.{hours_left};
 
-use book::read_entry;
+use book::{ReadRecord, read_record};
 use zone::{Zone, operative_of};
 
 // The operative temperatures after the hours whose entries stand in these bytes.
@@ -22,8 +22,10 @@ impl<'a> Iterator for Hours<'a> {
     #[tactic(auto, using(crate::proofs::Laws::Hours::no_hour_left, crate::proofs::Laws::Hours::hour_next))]
     fn next(&mut self) -> Option<f64> {
         let mut temps = [0.0; 121];
-        let length = read_entry(self.zone, self.entries, &mut temps)?;
-        self.entries = &self.entries[length..];
-        Some(operative_of(self.zone, &temps))
+        let record = read_record(self.zone, self.entries, &mut temps)?;
+        self.entries = &self.entries[record.length()..];
+        match record {
+            ReadRecord::Hour(_) => Some(operative_of(self.zone, &temps)),
+        }
     }
 }

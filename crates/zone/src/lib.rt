@@ -15,6 +15,7 @@ pub use check::versions::{has_limits, hour_version};
 pub use check::zone_tests::zone_test;
 pub use format::conditions::{AirChangesPerHourArgument, FixedRate};
 pub use format::head::read_head;
+pub use format::layout::{FIRST_ELEMENT_HOUR, FIRST_RATE, RATE_CODE, SECOND_RATE};
 pub use format::limits::{Limits, read_limits};
 pub use format::temperatures::read_temperatures;
 pub use hour::kept::KeptMatrix;

@@ -12,7 +12,8 @@ use Rattle.book.specs.Layout.{front_size}
 use Rattle.book.specs.Model.Bytes.{concat}
 use Rattle.book.specs.Model.Calls.{whole_entries}
 use Rattle.book.specs.Year.{entry_length, year_interface}
-use Rattle.book.specs.Inner.Record.{record_length}
+use Rattle.book.specs.Inner.Record.{length_of, length_read}
+use Rattle.book.specs.declared.record.ReadRecord.{ReadRecord}
 use Rattle.book.specs.Inner.Reader.{read_length}
 use Rattle.book.proofs.Laws.Interface.{year_laws}
 use Rattle.book.proofs.Laws.Rest.{begins, begins_within}
@@ -79,13 +80,13 @@ module _ (z : Zone) (few : z.count ≤ 24) (entries before out : List ℕ) (at :
   abbrev left : List ℕ
   left = drop at entries
 
-  length_read : (r : Rust.Option ℕ) → record_length r ≡ read_length z (take (length entries - at) left) → record_length r ≡ entry_length z left
-  length_read r e = e ∙ rw (part_to_end entries at, le-leb z.count 24 few) refl
+  length_here : (r : Rust.Option ReadRecord) → length_read r ≡ read_length z (take (length entries - at) left) → length_read r ≡ entry_length z left
+  length_here r e = e ∙ rw (part_to_end entries at, le-leb z.count 24 few) refl
 
   -- no entry is left
-  pub part_last : (r : Rust.Option ℕ) → record_length r ≡ read_length z (take (length entries - at) left) → r ≡ None → out ≡ concat (map converted_entry (whole_entries year_interface z entries))
+  pub part_last : (r : Rust.Option ReadRecord) → length_read r ≡ read_length z (take (length entries - at) left) → r ≡ None → out ≡ concat (map converted_entry (whole_entries year_interface z entries))
   part_last r e d =
-      let last = whole_none year_interface year_laws z left (sym (length_read r e) ∙ ap record_length d) in
+      let last = whole_none year_interface year_laws z left (sym (length_here r e) ∙ ap length_read d) in
       let all : whole_entries year_interface z entries ≡ P.done = P.split ∙ ap (λ l. P.done ++ l) last ∙ append-nil P.done in
       let full : length before ≡ at = room ∙ ap (λ l. length (concat l)) all ∙ P.at_is in
       P.made
@@ -93,9 +94,9 @@ module _ (z : Zone) (few : z.count ≤ 24) (entries before out : List ℕ) (at :
       ∙ append-nil (concat (map converted_entry P.done))
       ∙ ap (λ l. concat (map converted_entry l)) (sym all)
 
-  module _ (r : Rust.Option ℕ) (e : record_length r ≡ read_length z (take (length entries - at) left)) (n : ℕ) (w : r ≡ Some n) where
+  module _ (r : Rust.Option ReadRecord) (e : length_read r ≡ read_length z (take (length entries - at) left)) (x : ReadRecord) (w : r ≡ Some x) (n : ℕ) (n_is : n ≡ length_of x) where
     whole : entry_length z left ≡ some n
-    whole = sym (length_read r e) ∙ ap record_length w
+    whole = sym (length_here r e) ∙ ap length_read w ∙ ap some (sym n_is)
 
     abbrev c : List ℕ
     c = take n left

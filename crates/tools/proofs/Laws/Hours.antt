@@ -13,7 +13,8 @@ use Rattle.book.specs.Model.Calls.{whole_entries_up_to, whole_entries}
 use Rattle.book.specs.Model.Bytes.{from_option}
 use Rattle.book.specs.Year.{entry_length, year_interface}
 use Rattle.book.specs.Inner.Reader.{most_elements, read_length, read_first}
-use Rattle.book.specs.Inner.Record.{record_length}
+use Rattle.book.specs.Inner.Record.{length_of, length_read}
+use Rattle.book.specs.declared.record.ReadRecord.{ReadRecord}
 use Rattle.book.proofs.Model.Laws.Bytes.{none_not_some}
 use Rattle.book.proofs.Model.Laws.Decode.{whole_none, whole_some}
 use Rattle.book.proofs.Laws.Interface.{year_laws}
@@ -21,14 +22,14 @@ use Rattle.book.proofs.Laws.Rest.{begins, begins_within}
 use Rattle.tools.specs.Inner.Hours.{entry_temperature, temperatures_in, hours_left}
 use Rattle.tools.specs.declared.hours.Hours.{Hours}
 
-pub hour_inside : (z : Zone) (bs : List ℕ) (r : Rust.Option ℕ) → record_length r ≡ read_length z bs → (n : ℕ) → r ≡ Some n → n ≤ length bs
-hour_inside z bs r length_is n w = go (leb z.count most_elements) (sym length_is ∙ ap record_length w)
+pub hour_inside : (z : Zone) (bs : List ℕ) (r : Rust.Option ReadRecord) → length_read r ≡ read_length z bs → (x : ReadRecord) → r ≡ Some x → (n : ℕ) → n ≡ length_of x → n ≤ length bs
+hour_inside z bs r length_is x w n n_is = go (leb z.count most_elements) (sym length_is ∙ ap length_read w ∙ ap some (sym n_is))
   where
     go : (b : Bool) → cond b (entry_length z bs) none ≡ some n → n ≤ length bs
     go false q = none_not_some n q
     go true q = (begins_within z bs n (begins z bs n q)).1
 
-module _ (h : Hours) (r : Rust.Option ℕ) (length_is : record_length r ≡ read_length h.zone.now h.entries.now) where
+module _ (h : Hours) (r : Rust.Option ReadRecord) (length_is : length_read r ≡ read_length h.zone.now h.entries.now) where
   abbrev z : Zone
   z = h.zone.now
 
@@ -37,17 +38,17 @@ module _ (h : Hours) (r : Rust.Option ℕ) (length_is : record_length r ≡ read
 
   pub no_hour_left : r ≡ None → hours_left h ≡ []
   unfolding hours_left
-  no_hour_left d = go (leb z.count most_elements) refl (sym length_is ∙ ap record_length d)
+  no_hour_left d = go (leb z.count most_elements) refl (sym length_is ∙ ap length_read d)
     where
       go : (b : Bool) → leb z.count most_elements ≡ b → cond b (entry_length z bs) none ≡ none → cond b (temperatures_in z bs) [] ≡ []
       go false e q = refl
       go true e q = ap (map (entry_temperature z)) (whole_none year_interface year_laws z bs q)
 
-  module _ (n : ℕ) (w : r ≡ Some n) where
+  module _ (x : ReadRecord) (w : r ≡ Some x) (n : ℕ) (n_is : n ≡ length_of x) where
     pub hour_next : (out : List Float) → out ≡ read_first z bs (replicate most_nodes zero64) → (others : Bor (List ℕ)) → others.now ≡ take (length bs - n) (drop n bs)
         → hours_left h ≡ operative_of z out ∷ hours_left (record { zone = h.zone; entries = others })
     unfolding hours_left
-    hour_next out out_is others others_are = go (leb z.count most_elements) refl (sym length_is ∙ ap record_length w)
+    hour_next out out_is others others_are = go (leb z.count most_elements) refl (sym length_is ∙ ap length_read w ∙ ap some (sym n_is))
       where
         go : (b : Bool) → leb z.count most_elements ≡ b → cond b (entry_length z bs) none ≡ some n
             → cond b (temperatures_in z bs) [] ≡ operative_of z out ∷ cond b (temperatures_in z others.now) []

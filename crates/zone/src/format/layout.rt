@@ -75,6 +75,8 @@ pub const ELEMENT_HOUR_SIZE: usize = OPEN_BYTE + 1;
 // Conditions: twelve floats, a rate code with two rates, the elements' parts.
 pub const RATE_CODE: usize = FLOAT_SIZE * 12;
 
-pub const SECOND_RATE: usize = RATE_CODE + 1 + FLOAT_SIZE;
+pub const FIRST_RATE: usize = RATE_CODE + 1;
+
+pub const SECOND_RATE: usize = FIRST_RATE + FLOAT_SIZE;
 
 pub const FIRST_ELEMENT_HOUR: usize = SECOND_RATE + FLOAT_SIZE;

@@ -1,6 +1,6 @@
 use Rattle.std.proofs.Common.{sym, length-take-le}
 use Rattle.book.proofs.Laws.Rest.{record_bounds}
-use Rattle.book.proofs.reader.read_entry.Goals as goal
+use Rattle.book.proofs.reader.read_record.Goals as goal
 
 pub slice_bounds-read_state-end : goal.slice_bounds-read_state-end
 slice_bounds-read_state-end c =
