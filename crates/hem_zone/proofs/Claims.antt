@@ -1,4 +1,4 @@
--- The claims of specs/Claims.antt, proved: every refusal has a number from 1 to 24 and an index of at most 8,783, so nothing of it is cut off.
+-- The claims of specs/Claims.antt, proved: every refusal has a number from 1 to the last and an index of at most 8,783, so nothing of it is cut off.
 use Rattle.std.proofs.Common.{ℕ, ◌+◌, ◌*◌, ◌%◌, ◌/◌, ◌≡◌, refl, ap, List, [], arith}
 use Rattle.zone.specs.Promise.{Result, RefusesOnly, accepts, refuses}
 use Rattle.zone.proofs.Promise.{bind_refuses, refuses_also}
@@ -52,7 +52,7 @@ module _ {P : ℕ → ℕ → Type 0} (numbered : (number index : ℕ) → P num
           index = i;
           is_refused = refl;
           allowed = p;
-          in_answer = record { from_1 = q.from_1; to_24 = q.to_24; room = omega (arith, q.few) };
+          in_answer = record { from_1 = q.from_1; to_last = q.to_last; room = omega (arith, q.few) };
           exact = e;
           HEM_NUMBER = code_number n i q;
           HEM_INDEX = code_index n i q;

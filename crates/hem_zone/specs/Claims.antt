@@ -33,10 +33,14 @@ pub data AfterHead (P : (number index : ℕ) → Type 0) : (number index : ℕ) 
   of_head : {number index : ℕ} → HeadRefusal number index → AfterHead P number index
   of_call : {number index : ℕ} → P number index → AfterHead P number index
 
+-- the last number of a refusal
+abbrev pub last_number : ℕ
+last_number = 24
+
 -- a number of the papers, and an index for which the 32 bits of an answer have room beside it
 pub record InAnswer (number index : ℕ) : Type 0 where
   pub from_1 : 1 ≤ number
-  pub to_24 : number ≤ 24
+  pub to_last : number ≤ last_number
   pub room : index < 16777216
 
 -- Replies are told apart: no refusal is returned as acceptance is, and two that are returned as one number are one refusal

@@ -1,4 +1,4 @@
--- Every refusal of the papers has a number from 1 to 24 and an index of at most 8,783: family by family.
+-- Every refusal of the papers has a number from 1 to the last and an index of at most 8,783: family by family.
 use Rattle.std.proofs.Common.{ℕ, ◌≤◌, rules}
 use Rattle.zone.specs.Promise.{SolveRefusal, solve_divisor, solve_temperature}
 use Rattle.zone.specs.Claims.HeadRefusals as Head
@@ -6,12 +6,12 @@ use Rattle.zone.specs.Claims.Refusals as Zone
 use Rattle.book.specs.Refusals as Book
 use Rattle.tools.specs.Refusals.{QuestionRefusal, question_take_up, question_invalid, ConvertRefusal, convert_take_up, convert_version_1, convert_buffer_short}
 use Rattle.weather.specs.Refusals.{WeatherRefusal, weather_absent, weather_invalid, weather_missing}
-use Rattle.hem_zone.specs.Claims.{AfterHead, of_head, of_call}
+use Rattle.hem_zone.specs.Claims.{AfterHead, of_head, of_call, last_number}
 
 -- a refusal of the papers
 pub record Numbered (number index : ℕ) : Type 0 where
   pub from_1 : 1 ≤ number
-  pub to_24 : number ≤ 24
+  pub to_last : number ≤ last_number
   pub few : index ≤ 8783
 
 solve_numbered : (n i : ℕ) → SolveRefusal n i → Numbered n i
