@@ -1,6 +1,7 @@
 pub mod Nearer
 pub mod FirstHour
 pub mod Hours
+pub mod FirstRecord
 pub mod Above
 pub mod Within
 pub mod Nearest

@@ -1,11 +1,11 @@
 // The converter: the hours of a book with the fixed rate, code 0, written anew with code 1 and the rate twice.
-ghost use Rattle.std.specs.Prelude.{◌≡◌, ◌≤◌, ◌<◌, ◌^◌, ◌&&◌, length, map, eqb, ltb};
+ghost use Rattle.std.specs.Prelude.{◌≡◌, ◌≤◌, ◌<◌, ◌^◌, length, map, eqb};
 ghost use Rattle.book.specs.Model.Bytes.{concat};
 ghost use Rattle.book.specs.Model.Calls.{whole_entries};
 ghost use Rattle.book.specs.Year.{year_interface};
 ghost use Rattle.zone.specs.Format.Layout.{version_in};
 ghost use Rattle.tools.specs.ConvertAnswers.{answered, convert_outcome};
-ghost use Rattle.tools.specs.Inner.Convert.{converted_entry, AllLong, least_entry, Accepts};
+ghost use Rattle.tools.specs.Inner.Convert.{converted_entry, AllLong, least_entry, first_is_version_1, Accepts};
 
 use crate::convert_error::ConvertError;
 use book::{BookError, BookState, FRONT_SIZE, LENGTH_SIZE, ReadRecord, read_book, read_record};
@@ -63,11 +63,24 @@ fn convert_entries(z: &Zone, entries: &[u8], out: &mut [u8])
     }
 }
 
-// Whether the first of so many entries is of version 1. Versions never fall: where the first is of a later one, so are all.
-fn begins_with_version_1(entries: &[u8], count: usize) -> bool
-    ensures { result ≡ (ltb 0 count && eqb (version_in entries.now) 1) }
+// Whether the version byte of the first record is 1.
+fn is_version_1(entries: &[u8]) -> bool
+    ensures { result ≡ eqb (version_in entries.now) 1 }
 {
-    0 < count && entries.get(VERSION).is_some_and(|version| *version == 1)
+    entries.get(VERSION).is_some_and(|version| *version == 1)
+}
+
+// Whether the first hour is of version 1. Versions never fall: where the first is of a later one, so are all.
+#[tactic(auto, using(crate::proofs::Laws::FirstRecord::no_first))]
+fn begins_with_version_1(z: &Zone, entries: &[u8]) -> bool
+    requires { z.now.count ≤ 24 }
+    ensures { result ≡ first_is_version_1 (whole_entries year_interface z.now entries.now) }
+{
+    let mut temps = [0.0; 121];
+    match read_record(z, entries, &mut temps) {
+        None => false,
+        Some(ReadRecord::Hour(_)) => is_version_1(entries),
+    }
 }
 
 // A book that is accepted: its head's length and its values. The zone of its head goes to the one that is lent.
@@ -91,7 +104,7 @@ pub fn convert(bytes: &[u8], out: &mut [u8]) -> Result<Converted, ConvertError>
 {
     let mut zone = Zone::none();
     let (head, values) = read_accepted(bytes, &mut zone)?;
-    if begins_with_version_1(&bytes[head..], values.count) {
+    if begins_with_version_1(&zone, &bytes[head..]) {
         return Err(ConvertError::Version1Entry);
     }
     if out.len() < values.used {

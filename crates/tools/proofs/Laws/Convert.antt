@@ -1,5 +1,5 @@
 -- The converter's ways out: what it has read, against the definition.
-use Rattle.std.proofs.Common.{ℕ, ◌+◌, ◌-◌, ◌<◌, ◌≤◌, ◌≡◌, refl, sym, ap, subst, ◌∙◌, Bool, true, false, ◌&&◌, List, ◌++◌, map, append_assoc, arith, ltb, eqb, length, take, drop, length-append, length-take-le, drop-drop, take_at, drop_at, le-leb}
+use Rattle.std.proofs.Common.{ℕ, ◌+◌, ◌-◌, ◌<◌, ◌≤◌, ◌≡◌, refl, sym, ap, subst, ◌∙◌, Bool, true, false, List, ◌++◌, map, append_assoc, arith, length, take, drop, length-append, length-take-le, drop-drop, take_at, drop_at, le-leb}
 use Rattle.std.specs.Prelude.{Ok, Err}
 use Rattle.std.specs.Prelude as Rust
 use borrow.Author.Tests.{lt-leb}
@@ -9,7 +9,6 @@ use Rattle.zone.proofs.Promise.{bind_ok, head_as_tested, head_yes, ok_inj, struc
 use Rattle.zone.specs.Answers.{number_of as number_of_refusal, index_of as index_of_refusal}
 use Rattle.zone.specs.Check.ZoneTest.{zone_test}
 use Rattle.zone.specs.Format.Head.{ReadHead}
-use Rattle.zone.specs.Format.Layout.{version_in}
 use Rattle.zone.specs.Inner.Head.{structured_head, head_read}
 use Rattle.zone.specs.declared.record.refusal.Refusal.{Refusal}
 use Rattle.zone.specs.declared.record.zone_record.Zone.{Zone}
@@ -26,7 +25,7 @@ use Rattle.book.proofs.Model.Contents.{plain_refused}
 use Rattle.book.proofs.Laws.Interface.{year_laws}
 use Rattle.tools.specs.Convert.{convert_in}
 use Rattle.tools.specs.ConvertAnswers.{convert_outcome}
-use Rattle.tools.specs.Inner.Convert.{converted_entry, converted_bytes, Known, Accepts}
+use Rattle.tools.specs.Inner.Convert.{converted_entry, converted_bytes, first_is_version_1, Known, Accepts}
 use Rattle.tools.proofs.Laws.ConvertedBook.{conversion}
 use Rattle.tools.proofs.Laws.ConvertLoop.{same_lengths}
 
@@ -83,16 +82,16 @@ module _ (bytes : List ℕ) (z : Zone) (n : ℕ) (v : BookState) (K : Known byte
         K.used_is,
       )
 
-  pub convert_version_1 : (ltb 0 v.count && eqb (version_in (drop n bytes)) 1) ≡ true → (refused 24 0, out) ≡ convert_outcome bytes out
-  convert_version_1 t = rw (K.converts out, K.version, K.count_is, t) refl
+  pub convert_version_1 : first_is_version_1 (whole_entries year_interface z (drop n bytes)) ≡ true → (refused 24 0, out) ≡ convert_outcome bytes out
+  convert_version_1 t = rw (K.converts out, K.version, t) refl
 
-  module _ (other : (ltb 0 v.count && eqb (version_in (drop n bytes)) 1) ≡ false) where
+  module _ (other : first_is_version_1 (whole_entries year_interface z (drop n bytes)) ≡ false) where
     pub convert_short : length out < v.used → (refused 16 0, out) ≡ convert_outcome bytes out
-    convert_short t = rw (K.converts out, K.version, K.count_is, other, made_long, lt-leb v.used (length out) t) refl
+    convert_short t = rw (K.converts out, K.version, other, K.count_is, made_long, lt-leb v.used (length out) t) refl
 
     pub convert_done : v.used ≤ length out → (ok (v.count, v.used), converted_bytes z n bytes ++ drop v.used out) ≡ convert_outcome bytes out
     convert_done t =
-        rw (K.converts out, K.version, K.count_is, other, made_long, le-leb v.used (length out) t)
+        rw (K.converts out, K.version, other, K.count_is, made_long, le-leb v.used (length out) t)
         (λ u. (ok (v.count, sym made_long u), converted_bytes z n bytes ++ drop (sym made_long u) out))
 
 -- ---- a refusal that `read_accepted` tells
@@ -120,9 +119,10 @@ module _ (bytes : List ℕ) (z : Zone) (n : ℕ) (v : BookState) (K : Known byte
       ∙ ap (λ m. take n bytes ++ (made ++ drop m out)) at
       ∙ sym (append_assoc (take n bytes) made (drop v.used out))
 
--- the first entry's version, in the part of the bytes that the code hands over
-pub same_version : (bytes : List ℕ) (n k : ℕ) (b : Bool) → b ≡ (ltb 0 k && eqb (version_in (take (length bytes - n) (drop n bytes))) 1) → (ltb 0 k && eqb (version_in (drop n bytes)) 1) ≡ b
-same_version bytes n k b e = sym (e ∙ ap (λ l. ltb 0 k && eqb (version_in l) 1) (part_to_end bytes n))
+-- the first hour's version, in the part of the bytes that the code hands over
+pub same_version : (z : Zone) (bytes : List ℕ) (n : ℕ) (b : Bool) → b ≡ first_is_version_1 (whole_entries year_interface z (take (length bytes - n) (drop n bytes)))
+    → first_is_version_1 (whole_entries year_interface z (drop n bytes)) ≡ b
+same_version z bytes n b e = sym (e ∙ ap (λ l. first_is_version_1 (whole_entries year_interface z l)) (part_to_end bytes n))
 
 pub same_entries : (z : Zone) (bytes : List ℕ) (n : ℕ) (l : List ℕ) → l ≡ concat (map converted_entry (whole_entries year_interface z (take (length bytes - n) (drop n bytes))))
     → l ≡ concat (map converted_entry (whole_entries year_interface z (drop n bytes)))

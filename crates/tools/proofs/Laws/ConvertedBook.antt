@@ -1,5 +1,5 @@
 -- A converted book: entry by entry what the plain book has for the converted hours.
-use Rattle.std.proofs.Common.{ℕ, ◌+◌, ◌≤◌, ◌≡◌, refl, sym, ap, subst, ◌∙◌, Bool, true, false, not, ◌&&◌, List, [], ◌∷◌, ◌++◌, map, append-nil, arith, zero-add, ne_eqb, lt-ltb, length, take, drop, length-append, length-take-le, leb, ltb, eqb}
+use Rattle.std.proofs.Common.{ℕ, ◌+◌, ◌≤◌, ◌≡◌, refl, sym, ap, subst, ◌∙◌, Bool, true, false, not, ◌&&◌, List, [], ◌∷◌, ◌++◌, map, append-nil, arith, zero-add, ne_eqb, length, take, drop, length-append, length-take-le, leb, eqb}
 use borrow.Author.Tests.{eqb-false}
 use lib.ListN.{length-map}
 use Rattle.std.specs.List.{list_all}
@@ -12,14 +12,11 @@ use Rattle.book.specs.Model.Bytes.{concat}
 use Rattle.book.specs.Model.Calls.{BookState, whole_entries, check_entries, take_up_res}
 use Rattle.book.specs.Model.Plain.{Entry, Contents, entries_of, entry_bytes, last_state, own_book_state, WellFormed, used_bytes}
 use Rattle.book.specs.Model.PlainTakeUp.{take_up_plain}
-use Rattle.zone.specs.Format.Layout.{version_at, version_in}
-use Rattle.std.proofs.Math.Option.{Option, none, some}
-use Rattle.std.proofs.lemmas.List.{get_or-take}
-use Rattle.book.proofs.Laws.Rest.{begins, begins_within, rest_under}
-use Rattle.book.proofs.Model.Laws.Decode.{whole_none, whole_some}
+use Rattle.zone.specs.Format.Layout.{version_in}
+use Rattle.book.proofs.Laws.Rest.{rest_under}
 use Rattle.book.specs.VersionOrder.{NeverFall, versions_of}
 use Rattle.book.proofs.VersionOrder.{version_claims}
-use Rattle.book.specs.Year.{Item, entry_length, no_entry_version, Carried, start_up, item_in, year_interface}
+use Rattle.book.specs.Year.{Item, no_entry_version, Carried, start_up, item_in, year_interface}
 use Rattle.book.specs.Model.PlainTakeUp.{contents_in}
 use Rattle.book.proofs.Model.Contents.{contents_taken, contents_of_book}
 use Rattle.book.proofs.Model.Agreement.{contents_is, head_alone}
@@ -29,7 +26,7 @@ use Rattle.book.proofs.Model.Laws.Checking.{Checked, check_accepted}
 use Rattle.book.proofs.Model.Laws.Entries.{Entries, bytes_of, entries_cons, cons_entries, items_are, length_bytes_of}
 use Rattle.book.proofs.Laws.Interface.{year_laws}
 use Rattle.tools.specs.Numbers.{version_1_entry}
-use Rattle.tools.specs.Inner.Convert.{converted_entry, AllLong, converted_bytes, conversion_of}
+use Rattle.tools.specs.Inner.Convert.{converted_entry, AllLong, first_is_version_1, converted_bytes, conversion_of}
 use Rattle.tools.specs.Convert.{converted_item, has_fixed_rate, is_version_1, ConvertedBook, convert_items, convert_in}
 use Rattle.tools.specs.ConvertClaims.{Appended, Converts}
 use Rattle.tools.proofs.Laws.ConvertLoop.{same_lengths}
@@ -124,22 +121,13 @@ module _ (bytes : List ℕ) (z : Zone) (n : ℕ) (s : Carried) (v : BookState Ca
   never : NeverFall no_entry_version (versions_of is)
   never = (version_claims.formed_in_order head is S).never_fall
 
-  pub version_told : list_all (λ i. not (is_version_1 i)) is ≡ not (ltb 0 (length cs) && eqb (version_in (drop n bytes)) 1)
+  pub version_told : list_all (λ i. not (is_version_1 i)) is ≡ not (first_is_version_1 cs)
   unfolding item_in
-  version_told = go (entry_length z (drop n bytes)) refl
+  version_told = go cs never
     where
-      go : (o : Option ℕ) → entry_length z (drop n bytes) ≡ o → list_all (λ i. not (is_version_1 i)) is ≡ not (ltb 0 (length cs) && eqb (version_in (drop n bytes)) 1)
-      go none h = rw (whole_none year_interface year_laws z (drop n bytes) h) refl
-      go (some m) h =
-          let o = whole_some year_interface year_laws z (drop n bytes) m h in
-          let c : List ℕ = take m (drop n bytes) in
-          let others : List (List ℕ) = whole_entries year_interface z (drop m (drop n bytes)) in
-          let five = (begins_within z (drop n bytes) m (begins z (drop n bytes) m h)).0 in
-          let same : version_in c ≡ version_in (drop n bytes) = get_or-take m (drop n bytes) version_at 0 (omega (arith, five)) in
-          rw (o, lt-ltb 0 (length {A = List ℕ} (c ∷ others)) (omega arith))
-          (by_versions (map (item_in z) (c ∷ others))
-          ∙ first_tells (version_in c) (versions_of (map (item_in z) others)) (subst (λ l. NeverFall no_entry_version (versions_of (map (item_in z) l))) o never)
-          ∙ ap (λ x. not (eqb x 1)) same)
+      go : (l : List (List ℕ)) → NeverFall no_entry_version (versions_of (map (item_in z) l)) → list_all (λ i. not (is_version_1 i)) (map (item_in z) l) ≡ not (first_is_version_1 l)
+      go [] n = refl
+      go (c ∷ others) n = by_versions (map (item_in z) (c ∷ others)) ∙ first_tells (version_in c) (versions_of (map (item_in z) others)) n
 
   made_is : entry_bytes (map converted J.es) ≡ concat (map converted_entry cs)
   made_is = bytes_converted J.es ∙ ap (λ l. concat (map converted_entry l)) J.same
@@ -256,7 +244,7 @@ module _ (bytes : List ℕ) (v : BookState Carried) (e : ok v ≡ take_up_res ye
     pub count_is : length (whole_entries year_interface h.zone (drop h.length bytes)) ≡ v.count
     pub long : AllLong (whole_entries year_interface h.zone (drop h.length bytes))
     pub version : list_all (λ i. not (is_version_1 i)) (map (item_in h.zone) (whole_entries year_interface h.zone (drop h.length bytes)))
-        ≡ not (ltb 0 (length (whole_entries year_interface h.zone (drop h.length bytes))) && eqb (version_in (drop h.length bytes)) 1)
+        ≡ not (first_is_version_1 (whole_entries year_interface h.zone (drop h.length bytes)))
     pub items : (c : Contents year_interface) → contents_in year_interface bytes ≡ ok c
         → map (λ e. e.item) c.entries ≡ map (item_in h.zone) (whole_entries year_interface h.zone (drop h.length bytes))
     pub made_long : length (converted_bytes h.zone h.length bytes) ≡ v.used

@@ -1,5 +1,5 @@
 -- Entries, as the converter writes them anew.
-use Rattle.std.specs.Prelude.{ℕ, ◌+◌, ◌≤◌, ◌≡◌, not, ◌&&◌, List, [], ◌∷◌, ◌++◌, map, length, take, drop, leb, ltb, eqb, Ok, Err}
+use Rattle.std.specs.Prelude.{ℕ, ◌+◌, ◌≤◌, ◌≡◌, Bool, false, not, List, [], ◌∷◌, ◌++◌, map, length, take, drop, leb, eqb, Ok, Err}
 use Rattle.std.specs.Prelude as Rust
 use Rattle.std.specs.List.{list_all}
 use Rattle.zone.specs.Promise.{Result, ok, refused, bind, require}
@@ -29,6 +29,11 @@ unfoldable pub AllLong : List (List ℕ) → Type 0
 AllLong [] = Unit {0}
 AllLong (c ∷ cs) = (least_entry ≤ length c) × AllLong cs
 
+-- whether the first hour of these is of version 1
+abbrev pub first_is_version_1 : (entries : List (List ℕ)) → Bool
+first_is_version_1 [] = false
+first_is_version_1 (c ∷ cs) = eqb (version_in c) 1
+
 -- what converting gives of these bytes: z is the zone of their head, of n bytes
 abbrev pub converted_bytes : Zone → (n : ℕ) → (bytes : List ℕ) → List ℕ
 converted_bytes z n bytes = take n bytes ++ concat (map converted_entry (whole_entries year_interface z (drop n bytes)))
@@ -47,7 +52,7 @@ pub record Known (bytes : List ℕ) (z : Zone) (n : ℕ) (v : BookState) : Type 
   pub count_is : length (whole_entries year_interface z (drop n bytes)) ≡ v.count
   pub long : AllLong (whole_entries year_interface z (drop n bytes))
   pub version : list_all (λ i. not (is_version_1 i)) (map (item_in z) (whole_entries year_interface z (drop n bytes)))
-      ≡ not (ltb 0 (length (whole_entries year_interface z (drop n bytes))) && eqb (version_in (drop n bytes)) 1)
+      ≡ not (first_is_version_1 (whole_entries year_interface z (drop n bytes)))
   pub converts : (out : List ℕ) → convert_in bytes out ≡ conversion_of z n bytes out
 
 -- what reading it answers: its head's length and its values, or the take-up's refusal

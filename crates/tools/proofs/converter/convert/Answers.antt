@@ -12,7 +12,7 @@ returns-in_err-head c =
 pub returns-then-out-values : goal.returns-then-out-values
 returns-then-out-values c =
     convert_short c.args.bytes.now _ _ _ (c.in_ok-head.ensures {u = tt}) c.args.out.now
-    (same_version c.args.bytes.now c.in_ok-head.head c.in_ok-head.values.count _ (c.if-begins_with_version_1.ensures {u = tt})) c.if-out-values.true
+    (same_version _ c.args.bytes.now c.in_ok-head.head _ (c.if-begins_with_version_1.ensures {u = tt})) c.if-out-values.true
 
 pub returns : goal.returns
 returns c =
@@ -20,4 +20,4 @@ returns c =
     rw (same_entries _ c.args.bytes.now c.in_ok-head.head _ c.convert_entries.ensures)
     (ap (λ l. (ok (c.in_ok-head.values.count, c.in_ok-head.values.used), l)) (written c.args.bytes.now _ _ _ K c.args.out.now _ c.copy_from_slice.ensures.after c.if-out-values.false)
     ∙ convert_done c.args.bytes.now _ _ _ K c.args.out.now
-    (same_version c.args.bytes.now c.in_ok-head.head c.in_ok-head.values.count _ (c.if-begins_with_version_1.ensures {u = tt})) c.if-out-values.false)
+    (same_version _ c.args.bytes.now c.in_ok-head.head _ (c.if-begins_with_version_1.ensures {u = tt})) c.if-out-values.false)
