@@ -3,8 +3,8 @@
 
 Has the oracle's binary PROGRAM answer the file CASES, as gen_cases.py writes it, and writes its lines to ANSWERS for
 host/examples/replay.rs. Each hour with the fixed rate is asked with the rate twice too, and must have the same line
-(`check_rate_twice`, making/oracle.py). Behind each demand that is answered with values stand its reason and its load (document 02
-(e)), as 16 hexadecimal digits, worked out as for data/cases (making/why_cases.py). How many demands hold what of them is
+(`check_rate_twice`, making/oracle.py). Behind each demand that is answered with values stand its reason and its load, as
+16 hexadecimal digits, worked out as for data/cases (making/why_cases.py). How many demands hold what of them is
 printed.
 """
 import collections

@@ -11,7 +11,7 @@ greatest number of elements and the start-up limit that stand there. A case and 
     u32   length of what follows
     u8    profile (0 house, 1 mild, 2 edge, 3 tight), u8 operation (1 demand, 2 update, 3 start-up, 4, 5, 6 hour step
           of version 1, 2, 3)
-    u8    0 where the answer is values, else document 01's number
+    u8    0 where the answer is values, else the refusal's number
     u16   length, the head; u16 count, the node temperatures; u16 length, the conditions
     3 f64 own floats: update's gains, fraction and rate; of an hour step of version 3 greatest heating, greatest
           cooling and 0; of the other operations zeros
@@ -21,7 +21,7 @@ greatest number of elements and the start-up limit that stand there. A case and 
           internal boundary, 14 of the external boundary); of start-up the node temperatures; of an hour step the
           first five of a demand and all of an update
 
-Hours stand in a case as the Rust takes them, also those with one fixed rate, code 0 (its `Cooling`), which document 02 (g)
+Hours stand in a case as the Rust takes them, also those with one fixed rate, code 0 (its `Cooling`), which is
 retired. Each of them is asked of the Rust a second time, with code 1 and this rate as target and with windows open (its
 `TargetAndWindowsOpen`), and the two lines must be the same (`check_rate_twice`, making/oracle.py), so that one answer is
 stored for both. The program asks for it with code 1, and lays beside it what a call, `why`, a book and the converter say
@@ -34,16 +34,16 @@ that hold, are met exactly, or do not hold (making/limited_cases.py). The Rust k
 limits leave, the total gains with it and their share are calculated there, and the Rust's update with them gives the
 temperatures and the balance; demand, rate and trigger are the Rust's own, uncut. Where no limit holds, the answer
 must be that of version 2, which came another way. Numbers of the answers that are no values: see NUMBERS. Left out
-are cases whose values lie beyond a million (13 in the paper, a value in the Rust).
+are cases whose values lie beyond a million (13 here, a value in the Rust).
 
 Of the 28 values of a heat balance 25 are the Rust's. The other three, the terms of its convective total summed by
-direction of heat flow (document 02 (d)), are worked out by making/convection.py from the head and from the Rust's own
-node temperatures before and after the step, with the operations in the papers' order; all terms together must give the
+direction of heat flow, are worked out by making/convection.py from the head and from the Rust's own
+node temperatures before and after the step, with the operations in the order of docs/SPECIFICATION.md; all terms together must give the
 Rust's total, bit for bit. How many cases hold each direction, all three, elements whose direction would be another by
 the temperatures after the step, pitches of 60 and 120, and sums that another order of their terms would change, is
 printed, and there are at least as many of each as HELD (making/direction_cases.py) says.
 
-Reason and load of a demand (document 02 (e)) are no values of the Rust. making/why.py has the paper's tests in the
+Reason and load of a demand are no values of the Rust. making/why.py has the tests of docs/SPECIFICATION.md in their
 paper's order; making/why_cases.py takes them on temperatures of the Rust's own update, at the target rate, at the rate
 of open windows and at the rate found, with the demand's gains and their share. The rate found is worked out there by
 the Rust's formula; by the same formula come the rate that triggers heating and the chosen rate, which must be those of
@@ -54,9 +54,8 @@ of open windows, and a room in which the rate found misses its setpoint. How man
 load, two reasons of which the earlier is named, and the others of these is printed, and there are at least as many of
 each as WHY_HELD says.
 
-data/refusals: rows made from the papers' rules alone (document 01, document 02's (a) for entry versions, (b) for limits,
-(c) for the three questions and (g) for fixed rates and the converter). making/order.py has the papers' tests in the
-papers' order; the houses that give 12 to 15 are constructed, the entries of take-up rows are those of House P in balance,
+data/refusals: rows made from the rules of docs/SPECIFICATION.md alone (entry versions, limits, the three questions, fixed rates and the
+converter too). making/order.py has the tests in their order; the houses that give 12 to 15 are constructed, the entries of take-up rows are those of House P in balance,
 where every result is 0 and every temperature 20, or heated and cooled by hand, with and without a limit
 (making/houses.py, making/limit_rows.py). The books of questions have hours that are worked out in
 making/question_rows.py, of House P and of one with a second element. Hours with the fixed rate stand in

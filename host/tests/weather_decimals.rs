@@ -9,7 +9,7 @@ use epw::one;
 use generated::Chance;
 use hem_zone::{weather, Refusal, Weather};
 
-/// A decimal of the paper: so many digits, of which the last `places` stand behind the point.
+/// A decimal of a weather file: so many digits, of which the last `places` stand behind the point.
 #[derive(Clone, Copy, Debug)]
 struct Decimal {
     minus: bool,

@@ -1,5 +1,5 @@
 //! Why an hour has its rate and its load: the engine's answer beside one that is worked out here, for many
-//! houses and hours whose setpoints lie where the tests of the paper turn.
+//! houses and hours whose setpoints lie where the tests of a reason turn.
 #[path = "common/generated.rs"]
 mod generated;
 #[path = "common/softened.rs"]

@@ -37,8 +37,8 @@ pub whole_lists : WholeLists year_interface rust_types
 whole_lists = whole_lists_at rust_types rust_laws
 
 -- The lists of calls that have a session are those whose calls may all be made, and the contracts of `begin`, `append` and `take_up` leave each of
--- these one list of events, the plain book's. Any begin and any take-up may be made; "appends and cuts come once there is" a book; a cut lies from "the
--- head's end to the used length".
+-- these one list of events, the plain book's. Any begin and any take-up may be made; appends and cuts come once there is a book; a cut lies from the
+-- head's end to the used length.
 pub session_exactly : SessionFrom year_interface rust_types empty
 session_exactly = session_exactly_at rust_types rust_laws
 

@@ -1,4 +1,5 @@
--- What the functions answer, for what the definitions say: the papers' number and index of a refusal, and the values handed back.
+-- What the functions answer, for what the definitions say: number and index of a refusal, and the values handed back.
+-- Specification, Table of refusals; Values of a book.
 use Rattle.std.specs.Prelude.{ℕ, Ok, Err}
 use Rattle.std.specs.Prelude as Rust
 use Rattle.zone.specs.Answers as Zone

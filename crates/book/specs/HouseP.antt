@@ -1,4 +1,5 @@
--- House P's book at the layers of the year: "Head of P 180 bytes, entry 216: cut at 395, no entry; at 396, one."
+-- House P's book at the layers of the year: Head of P 180 bytes, entry 216: cut at 395, no entry; at 396, one.
+-- Specification, House P; Fixed rate.
 use Rattle.std.specs.Prelude.{◌≡◌, List, ◌++◌, ℕ, ◌+◌, ◌≤◌, length, take, drop}
 use Rattle.zone.specs.Promise.{ok, zero64}
 use Rattle.zone.specs.Format.Limits.{limits_bytes}
@@ -28,8 +29,8 @@ pub record BookOfP (version : ℕ) (body : List ℕ) (size : ℕ) : Type 0 where
 abbrev pub no_power : Limits
 no_power = record { heating = zero64; cooling = zero64 }
 
--- "entry 216: cut at 395, no entry; at 396, one", of version 1 and of version 2; of version 3 16 bytes more. So too of the hour as it was written before, with
--- the fixed rate 0: "Entries .. with code 0 already written are still taken up"
+-- entry 216: cut at 395, no entry; at 396, one, of version 1 and of version 2; of version 3 16 bytes more. So too of the hour as it was written before, with
+-- the fixed rate 0: entries with code 0 that are already written are still taken up
 pub record BooksOfP : Type 0 where
   pub version_1 : BookOfP 1 hour_of_p 216
   pub old_hour : BookOfP 1 old_hour_of_p 216

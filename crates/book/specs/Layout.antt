@@ -1,4 +1,5 @@
 -- Sizes in the bytes of a book.
+-- Specification, Entry.
 use Rattle.std.specs.Prelude.{ℕ, ◌+◌, ◌*◌, cond}
 use Rattle.zone.specs.Record.BuildingElement.{node_count}
 use Rattle.zone.specs.Format.Bytes.{float_size}
@@ -11,18 +12,18 @@ use Rattle.zone.specs.declared.record.zone_record.Zone.{Zone}
 abbrev pub most_entries : ℕ
 most_entries = 8784
 
--- "4-byte length of what follows, then version byte"
+-- 4-byte length of what follows, then version byte
 abbrev pub version_size : ℕ
 version_size = 1
 
 abbrev pub front_size : ℕ
 front_size = length_size + version_size
 
--- "Length 147 + 41n + 8N, fixed by the head": of what follows the 4 bytes in which it stands; with limits more, below
+-- Length 147 + 41n + 8N, fixed by the head: of what follows the 4 bytes in which it stands; with limits more, below
 abbrev pub fixed_length : ℕ
 fixed_length = 147
 
--- document 02 (b), "Entry version 3 adds two floats after the conditions .. The entry grows by 16 bytes"
+-- version 3 has two floats more, behind the conditions: its entry grows by 16 bytes
 abbrev pub limits_length : (version : ℕ) → ℕ
 limits_length version = cond (has_limits version) power_limits_size 0
 

@@ -1,5 +1,6 @@
--- Document 02 (b), a plant with a limit, at an append: its whole outcome by the hour step with the limits that the call names, when these change nothing, and
+-- A plant with a limit, at an append: its whole outcome by the hour step with the limits that the call names, when these change nothing, and
 -- that books tell them apart.
+-- Specification, Limits of the plant; Append; Equality of books.
 use Rattle.std.specs.Prelude.{ℕ, ◌+◌, ◌*◌, ◌<◌, ◌≡◌, ◌⊎◌, true, List, ◌++◌, T, leb, ltb, length, take, drop}
 use Rattle.std.specs.Float.{binary64}
 use Rattle.std.specs.Float.Ieee.{fits}
@@ -48,7 +49,7 @@ module _ (z : Zone) (given : BookState Carried) (conditions buf : List ℕ) (l :
         bind (hour_step Retired standard_coefficients z version l given.state.state conditions) λ h.
         bind (require (leb (given.used + whole_length z version) (length buf)) buffer_short) λ _.
         ok (appended version h))
-    -- "Length 147 + 41n + 8N" with its own 4 bytes; "The entry grows by 16 bytes"
+    -- Length 147 + 41n + 8N with its own 4 bytes; The entry grows by 16 bytes
     pub size : (version : ℕ) → (version ≡ 1) ⊎ (version ≡ 2) → whole_length z version ≡ 151 + 41 * z.count + 8 * node_count z
     pub size_3 : whole_length z 3 ≡ 167 + 41 * z.count + 8 * node_count z
     -- An hour whose power is within both limits ends as version 2's: one demand, one state, and entries that differ in length, version byte and limits only.
@@ -57,7 +58,7 @@ module _ (z : Zone) (given : BookState Carried) (conditions buf : List ℕ) (l :
         → Within l (delivered h d))
         → (r r' : BookState Carried × List ℕ) → append 3 ≡ ok r → append 2 ≡ ok r' → (h : HourResult) × (r ≡ appended 3 h) × (r' ≡ appended 2 h)
 
--- "Equality of books covers the limits too, bit for bit": two hours of version 3 that a book holds as one have the same limits; of an earlier version they play
+-- Equality of books covers the limits too, bit for bit: two hours of version 3 that a book holds as one have the same limits; of an earlier version they play
 -- no part
 pub record LimitsApart : Type 0 where
   pub version_3 : (c c' : List ℕ) (l l' : Limits) → AreF64 l → AreF64 l' → hour_item 3 c l ≡ hour_item 3 c' l' → (c ≡ c') × (l ≡ l')

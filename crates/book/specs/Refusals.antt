@@ -1,4 +1,5 @@
--- Document 01, "Refused, operation by operation": which numbers and indices begin, append and take-up can be refused with.
+-- Which numbers and indices begin, append and take-up can be refused with.
+-- Specification, Order of tests; Table of refusals.
 use Rattle.std.specs.Prelude.{ℕ, ◌<◌, ◌≡◌, List}
 use Rattle.zone.specs.Promise.{RefusesOnly}
 use Rattle.zone.specs.declared.record.zone_record.Zone.{Zone}
@@ -12,14 +13,14 @@ use Rattle.book.specs.RetiredAppends.{RetiredAppends}
 use Rattle.book.specs.Answers.{number_of, index_of}
 use Rattle.book.specs.declared.book_error.BookError.{BookError}
 
--- "Begin book: head, start-up, then buffer too short, 16."
+-- Begin book: head, start-up, then buffer too short, 16.
 pub data BeginRefusal : (number index : ℕ) → Type 0 where
   begin_head : {number index : ℕ} → HeadRefusal number index → BeginRefusal number index
   begin_start_up : {number index : ℕ} → StartUpRefusal number index → BeginRefusal number index
   begin_buffer_short : BeginRefusal buffer_short 0
 
--- "Append: 8,784 entries held, 17; the hour step's; buffer, 16." The zone is tested first; 18 comes "after 17, its index the count held"; the hour
--- step's have 19, "a limit out of range, after 9".
+-- Append: 8,784 entries held, 17; the hour step's; buffer, 16. The zone is tested first; 18 comes after 17, its index the count held; the hour
+-- step's have 19, a limit out of range, after 9.
 pub data AppendRefusal (count : ℕ) : (number index : ℕ) → Type 0 where
   append_zone : {number index : ℕ} → ZoneRefusal number index → AppendRefusal count number index
   append_book_full : AppendRefusal count book_full 0
@@ -27,7 +28,7 @@ pub data AppendRefusal (count : ℕ) : (number index : ℕ) → Type 0 where
   append_hour : {number index : ℕ} → KnownHourRefusal number index → AppendRefusal count number index
   append_buffer_short : AppendRefusal count buffer_short 0
 
--- "Take up: head; start-up; then per whole entry, a 8,785th 17, a false one 18", with the entry's index from 0
+-- Take up: head; start-up; then per whole entry, a 8,785th 17, a false one 18, with the entry's index from 0
 pub data TakeUpRefusal : (number index : ℕ) → Type 0 where
   take_up_head : {number index : ℕ} → HeadRefusal number index → TakeUpRefusal number index
   take_up_start_up : {number index : ℕ} → StartUpRefusal number index → TakeUpRefusal number index
@@ -42,6 +43,6 @@ pub record BookRefusals : Type 0 where
   -- an append of an hour with code 0 has 8
   pub fixed_rates : RetiredAppends
 
--- "number and index": no two errors have the same
+-- number and index: no two errors have the same
 abbrev pub OneError : Type 0
 OneError = (e e' : BookError) → number_of e ≡ number_of e' → index_of e ≡ index_of e' → e ≡ e'

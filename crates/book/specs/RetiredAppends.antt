@@ -1,4 +1,5 @@
--- Document 02 (g), fixed rates retired, at an append: code 0 is "refused under 8, in its old place, also where a cut lost the hour".
+-- Fixed rates retired, at an append: code 0 is refused under 8, in its place among the tests, also where a cut lost the hour.
+-- Specification, Fixed rate; Append.
 use Rattle.std.specs.Prelude.{ℕ, ◌≤◌, ◌<◌, ◌≡◌, true, List, [], ◌∷◌, ◌++◌, length}
 use Rattle.std.proofs.Math.Option.{some}
 use Rattle.zone.specs.Record.Numbers.{conditions_code}
@@ -21,11 +22,11 @@ pub record RefusedWith8 (head : List ℕ) (is : List Item) (i : Item) (spare : L
       ≡ record { answer = some (refused_with conditions_code 0 own.values); buffer = some (own.bytes ++ spare); next = book head is }
 
 pub record RetiredAppends : Type 0 where
-  -- "in its old place": behind the zone, 17, 18, 6 and 7, whatever else the hour says, and whatever limits and buffer the call is given
+  -- in its place: behind the zone, 17, 18, 6 and 7, whatever else the hour says, and whatever limits and buffer the call is given
   pub append_refused : (z : Zone) (given : BookState Carried) (version : ℕ) (conditions buf : List ℕ) (l : Limits)
       → given.count < most_entries → may_follow given.state.last_version version ≡ true → FixedHour z given.state.state conditions
       → append year_interface z given (hour_item version conditions l) buf ≡ record { answer = refused_with conditions_code 0 given; buffer = buf }
-  -- "also where a cut lost the hour": of the hours that a cut took the first, offered anew
+  -- also where a cut lost the hour: of the hours that a cut took the first, offered anew
   pub lost_refused : (head : List ℕ) (is : List Item) (S : WellFormed year_interface head is) (at : ℕ) → length head ≤ at → at ≤ length (used_bytes year_interface head S.contents)
       → (version : ℕ) (body : List ℕ) (later : List Item) → kept_by year_interface at head is S ++ (hour version body ∷ later) ≡ is → is_fixed (body_conditions version body) ≡ true
       → (spare : List ℕ) → RefusedWith8 head (kept_by year_interface at head is S) (hour version body) spare

@@ -1,5 +1,6 @@
--- Document 02 (a), "a book may pass from 1 to 2 but never back", and (b), version 3 "may follow versions 1 and 2, never the reverse": the versions of the
+-- A book may pass from 1 to 2 but never back, and version 3 may follow versions 1 and 2, never the reverse: the versions of the
 -- hours that a book holds, and when 18 is answered for a version.
+-- Specification, Append; Take-up; Entry versions.
 use Rattle.std.specs.Prelude.{ℕ, ◌≤◌, ◌<◌, ◌≡◌, ◌↔◌, ◌≢◌, ◌⊎◌, List, [], ◌∷◌, ◌++◌, map, length}
 use Rattle.std.proofs.Math.Option.{some}
 use Rattle.zone.specs.Promise.{ok, refused}
@@ -27,13 +28,13 @@ unfoldable pub last_version_of : (last : ℕ) → (versions : List ℕ) → ℕ
 last_version_of last [] = last
 last_version_of last (v ∷ vs) = last_version_of v vs
 
--- "a version that no hour has", or one that passes back
+-- a version that no hour has, or one that passes back
 abbrev pub MayNotFollow : (last version : ℕ) → Type 0
 MayNotFollow last version = ((version ≢ 1) × (version ≢ 2) × (version ≢ 3)) ⊎ (version < last)
 
 pub record InOrder (head : List ℕ) (is : List Item) : Type 0 where
   pub never_fall : NeverFall no_entry_version (versions_of is)
-  -- "the version of the last entry, 1 where there is none" is what belongs to the book and is handed back.
+  -- the version of the last entry, 1 where there is none is what belongs to the book and is handed back.
   pub last_version_lem : (v : Snapshot Carried) → snapshot year_interface (book head is) ≡ some v → v.values.state.last_version ≡ last_version_of no_entry_version (versions_of is)
 
 pub record VersionClaims : Type 0 where
@@ -41,7 +42,7 @@ pub record VersionClaims : Type 0 where
   pub calls_in_order : (cs : Calls year_interface) (head : List ℕ) (is : List Item) → plain_after year_interface empty cs ≡ book head is → InOrder head is
   -- nor in any well-formed one, from which calls may go on.
   pub formed_in_order : (head : List ℕ) (is : List Item) → WellFormed year_interface head is → InOrder head is
-  -- An append has 18 exactly where the zone is accepted, 17 does not come, and its version may not follow; "its index the count held".
+  -- An append has 18 exactly where the zone is accepted, 17 does not come, and its version may not follow; its index the count held.
   pub append_refused : (z : Zone) (given : BookState Carried) (version : ℕ) (body buf : List ℕ) (index : ℕ)
       → (append_res year_interface z given (hour version body) buf ≡ refused false_entry index)
       ↔ ((zone_test z ≡ ok tt) × (given.count < most_entries) × MayNotFollow given.state.last_version version × (index ≡ given.count))

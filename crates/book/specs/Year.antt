@@ -1,4 +1,5 @@
 -- The layers of the year book: the head's reader, start-up and the hour step of the crates below, and the bytes of an entry.
+-- Specification, Plain book; Append; Where an entry ends; Fixed rate; Values of a book.
 use Rattle.std.specs.Prelude.{Bool, cond, ◌&&◌, ℕ, ◌-◌, List, [], ◌++◌, length, take, drop, leb}
 use Rattle.std.proofs.Math.Option.{Option, none, some}
 use Rattle.zone.specs.Promise.{Result, ok, bind, require_at}
@@ -19,8 +20,8 @@ use Rattle.book.specs.Numbers.{false_entry}
 use Rattle.book.specs.Layout.{most_entries, front_size, limits_length, whole_length, body_length}
 use Rattle.book.specs.Entry.{entry_of}
 
--- "the plain book holds each hour's with its conditions": the version that an append names, and `body`, the conditions' bytes; behind them, from version 3
--- on, those of the limits: "the plain book holds them with the conditions", "bit for bit"
+-- the plain book holds each hour's with its conditions: the version that an append names, and `body`, the conditions' bytes; behind them, from version 3
+-- on, those of the limits: the plain book holds them with the conditions, bit for bit
 pub data Item : Type 0 where
   hour : (version : ℕ) (body : List ℕ) → Item
 
@@ -45,7 +46,7 @@ body_conditions version body = take (length body - limits_length version) body
 abbrev pub body_limits : (version : ℕ) (body : List ℕ) → Limits
 body_limits version body = limits_in (drop (length body - limits_length version) body)
 
--- what is carried from entry to entry and handed back, `State` of specs/Model: the node temperatures, and "the version of the last entry"
+-- what is carried from entry to entry and handed back, `State` of specs/Model: the node temperatures, and the version of the last entry
 pub record Carried : Type 0 where
   pub state : State
   pub last_version : ℕ
@@ -53,7 +54,7 @@ pub record Carried : Type 0 where
 abbrev pub carried : State → (last_version : ℕ) → Carried
 carried s last_version = record { state = s; last_version = last_version }
 
--- "1 where there is none"
+-- 1 where there is none
 abbrev pub no_entry_version : ℕ
 no_entry_version = 1
 
@@ -62,19 +63,19 @@ start_up z =
     bind (init_node_temps standard_coefficients z) λ s.
     ok (carried s no_entry_version)
 
--- "a book may pass from 1 to 2 but never back, else 18, as for a version that no hour has"; version 3 "may follow versions 1 and 2, never the reverse"
+-- a book may pass from 1 to 2 but never back, else 18, as for a version that no hour has; version 3 may follow versions 1 and 2, never the reverse
 abbrev pub may_follow : (last_version version : ℕ) → Bool
 may_follow last_version version = hour_version version && leb last_version version
 
--- the entry that an hour has, and what is carried after it: the version is tested, "its index the count held", and the hour is written "by that version's rule"
+-- the entry that an hour has, and what is carried after it: the version is tested, its index the count held, and the hour is written by that version's rule
 unfoldable pub hour_entry : FixedRate → Zone → (count : ℕ) → Carried → Item → Result (Written Carried)
 hour_entry fixed z k s (hour version body) =
     bind (require_at (may_follow s.last_version version) false_entry k) λ _.
     bind (hour_step fixed standard_coefficients z version (body_limits version body) s.state (body_conditions version body)) λ r.
     ok (record { bytes = entry_of z version body r.demand r.state; after = carried r.state version })
 
--- "What is dropped at the end is a rest under 5 bytes, or shorter than its version byte calls for; an unknown version byte makes any rest of 5 bytes or more
--- count as a whole entry, a false one."
+-- What is dropped at the end is a rest under 5 bytes, or shorter than its version byte calls for; an unknown version byte makes any rest of 5 bytes or more
+-- count as a whole entry, a false one.
 unfoldable pub entry_length : Zone → (rest : List ℕ) → Option ℕ
 entry_length z rest =
     cond (leb front_size (length rest))
@@ -90,7 +91,7 @@ body_in z version e = take (body_length z version) (drop front_size e)
 unfoldable pub item_in : Zone → (entry : List ℕ) → Item
 item_in z e = hour (version_in e) (body_in z (version_in e) e)
 
--- "Entries of every version with code 0 already written are still taken up, each judged by what the hour step would write without this refusal"; an append has
+-- Entries of every version with code 0 already written are still taken up, each judged by what the hour step would write without this refusal; an append has
 -- that refusal
 abbrev pub year_interface : Interface
 year_interface =

@@ -1,4 +1,5 @@
 // Begin and append.
+// Specification, Append; Lists of calls.
 ghost use Rattle.std.specs.Prelude.{◌≡◌, ◌+◌, leb, OnErr};
 ghost use Rattle.book.specs.Model.Calls as Book;
 ghost use Rattle.book.specs.Model.Session.{CallSpec};
@@ -20,10 +21,10 @@ pub struct BookState {
     pub state: State,
     pub count: usize,
     pub used: usize,
-    pub last_version: u64, // a number: the papers put versions in order, and a caller may name any
+    pub last_version: u64, // a number: versions have an order, and a caller may name any
 }
 
-// The papers' answer: "acceptance, or number and index, with the values handed back", the new ones, or those that were given.
+// Acceptance, or number and index, with the values handed back, the new ones, or those that were given.
 #[derive(Clone, Copy)]
 pub struct Reply {
     pub answer: Result<(), BookError>,

@@ -17,7 +17,7 @@ pub enum BookError {
 }
 
 impl BookError {
-    // The papers' number.
+    // Its number (Specification, Table of refusals).
     pub fn number(self) -> u32
         ensures { result ≡ number_of self }
     {

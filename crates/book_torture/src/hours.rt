@@ -77,7 +77,7 @@ fn put_parts(b: &mut [u8; CONDITIONS], outside: f64, light: f64, hour: usize) {
     put_byte(b, 194, (hour / 6 % 4) as u8);
 }
 
-// Place by place as the paper gives the bytes, since the engine that is tested does not write them.
+// Place by place as Specification, Conditions and Entry, give the bytes, since the engine that is tested does not write them.
 pub fn conditions(hour: usize) -> [u8; CONDITIONS] {
     let mut b = [0; CONDITIONS];
     let outside = external(hour);

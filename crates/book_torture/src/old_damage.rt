@@ -1,4 +1,5 @@
 // A book of old hours with a byte or a bit changed: what take-up and the converter answer of it.
+// Specification, Where an entry ends.
 use crate::changed::with_bytes;
 use crate::conversions::is_converted;
 use crate::damage::CHANGES;
@@ -51,7 +52,7 @@ pub fn check_old_damages(book: &mut OldBook) -> OldDamages {
     damages
 }
 
-// Each bit of the second float set in turn, in the hours with the fixed rate: "second float all zero bits".
+// Each bit of the second float set in turn, in the hours with the fixed rate: second float all zero bits.
 pub fn check_second_floats(book: &mut OldBook) -> Tally {
     let mut tally = Tally::default();
     let plan = book.plan;

@@ -1,4 +1,4 @@
-// The three questions over a book (document 02 (c)) against a plain walk over its hours: their temperatures are read from the
+// The three questions over a book (Specification, Questions over a book) against a plain walk over its hours: their temperatures are read from the
 // bytes that end each entry, and made operative by the call on a state.
 use crate::house::House;
 use crate::plan::Plan;

@@ -1,4 +1,4 @@
-"""Convection by direction of heat flow (document 02 (d)). The Rust has the convective total alone; its terms, and their
+"""Convection by direction of heat flow (Specification, Heat balance). The Rust has the convective total alone; its terms, and their
 sums by direction, are worked out here from a head and the Rust's node temperatures before and after a step."""
 import functools
 import operator

@@ -1,4 +1,4 @@
-"""Rows of the converter (document 02 (g)): a book whose hours with code 0 get code 1 and the rate twice."""
+"""Rows of the converter (Specification, Conversion): a book whose hours with code 0 get code 1 and the rate twice."""
 import itertools
 
 from making.fixed_rate_rows import FIXED_RATES, entry_at, entry_of

@@ -1,4 +1,4 @@
-"""Rows of hours with the fixed rate, code 0, which document 02 (g) retired: calls refuse them where 8 stands, `why` and
+"""Rows of hours with the fixed rate, code 0, which is retired (Specification, Fixed rate): calls refuse them where 8 stands, `why` and
 take-ups take them as before."""
 import itertools
 

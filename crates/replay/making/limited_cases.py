@@ -26,7 +26,7 @@ def delivered_of(conditions, line):
 
 
 def gains_and_share(conditions, w):
-    """total gains with the power w, and their convective share: document 01's, with version 2's fraction"""
+    """total gains with the power w, and their convective share: version 1's, with version 2's fraction"""
     convective, radiative = floats_at(conditions, GAINS_CONVECTIVE, 2)
     fraction, = floats_at(conditions, COOLING_FRACTION if w < 0.0 else HEATING_FRACTION, 1)
     g = convective + radiative + w

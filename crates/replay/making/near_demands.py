@@ -1,4 +1,4 @@
-"""Demands at which the reasons of document 02 (e) turn: setpoints next to the Rust's own temperatures, and a room in which
+"""Demands at which the reasons of an hour (Specification, Why this rate, why this load) turn: setpoints next to the Rust's own temperatures, and a room in which
 the rate found misses its setpoint. The samples of gen_cases.py have none of them, or few."""
 import collections
 import itertools

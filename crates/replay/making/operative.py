@@ -1,9 +1,9 @@
-"""The operative temperature of node temperatures, as document 01 adds it up."""
+"""The operative temperature of node temperatures (Specification, Operative temperature)."""
 from making.layout import TRANSPARENT, elements_of, floats_at, node_count
 
 
 def sum2(terms):
-    """document 01, "Sums" """
+    """Specification, Compensated sum"""
     s = c = 0.0
     for t in terms:
         u = s + t

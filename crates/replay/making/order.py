@@ -1,4 +1,4 @@
-"""The papers' tests, in the papers' order."""
+"""The tests of each call, in their order (Specification, Order of tests)."""
 from making.layout import (
     LIMITS_VERSION, MILLION, MOST_LIMIT, NO_CONTROL, TRANSPARENT, elements_of, floats_at, node_count)
 

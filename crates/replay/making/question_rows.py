@@ -1,4 +1,4 @@
-"""Rows of the three questions over a book (document 02 (c)): hours worked out by hand, and their answers."""
+"""Rows of the three questions over a book (Specification, Questions over a book): hours worked out by hand, and their answers."""
 import math
 from fractions import Fraction
 

@@ -4,7 +4,7 @@ import collections
 from making.layout import BALANCE_VALUES, MOST_LIMIT, VERSIONS, f64, record, u16, u32, u64
 from making.houses import BALANCE, FRONT, HEAD, HOUSE_P, VERSION_PLACE, entry_p, entry_size, room_for_one
 
-# the calls that came with document 02 (g): the converter, and `why` for itself
+# the converter, and `why` for itself
 CONVERT, WHY = 13, 14
 # what a call is given that names no limits of its own: where they are neither tested nor used, limits out of range
 NAN = float("nan")

@@ -1,4 +1,4 @@
-"""Why this rate, why this load (document 02 (e)): the paper's tests in the paper's order, on temperatures that the Rust
+"""Why this rate, why this load: the tests of that section of docs/SPECIFICATION.md in their order, on temperatures that the Rust
 gave. The Rust names no reason; its `ach_req_to_reach_temperature` is written again here."""
 import collections
 import math

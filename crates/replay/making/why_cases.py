@@ -1,4 +1,4 @@
-"""Reason and load of the demands among the cases (document 02 (e)), from the Rust's own temperatures, and what the
+"""Reason and load of the demands among the cases, from the Rust's own temperatures, and what the
 cases hold of them."""
 import struct
 

@@ -1,4 +1,4 @@
-// The rows made from the papers' order of tests: each call's number and index, and what an accepted one gives.
+// The rows made from the order of tests (Specification, Order of tests): each call's number and index, and what an accepted one gives.
 use crate::bad_record::BadRecord;
 use crate::comparison::{Comparison, Difference};
 use crate::counts::RowTally;

@@ -5,7 +5,7 @@ use crate::fixed_rates::FixedRateTally;
 use crate::row::Call;
 use std::io;
 
-// In the order in which document 02 (e) counts them.
+// In the order of Specification, Why this rate, why this load.
 const REASONS: [&str; 6] = [
     "no choice of rates",
     "not above ventilation setpoint",

@@ -1,4 +1,4 @@
-// A row of the refusals: a call, and the answer that the papers' order of tests gives it. make_data.py has the layout in words.
+// A row of the refusals: a call, and the answer that the order of tests gives it (Specification, Order of tests). make_data.py has the layout in words.
 use crate::bad_record::BadRecord;
 use crate::hour::Hour;
 use crate::record::Record;

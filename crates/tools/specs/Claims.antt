@@ -1,4 +1,5 @@
 -- What is claimed of the three questions: of the definitions that the contracts of their functions cite. Comparisons, distance, bound and number are written out.
+-- Specification, Questions over a book.
 use Rattle.std.specs.Prelude.{ℕ, zero, suc, ◌+◌, ◌<◌, ◌≡◌, ◌↔◌, Bool, true, false, not, cond, ◌&&◌, List, ◌++◌, length, get_or, Float, None, Some}
 use Rattle.std.proofs.Math.Option.{none}
 use Rattle.std.specs.Float.Ieee.{neg, lt, le}
@@ -30,7 +31,7 @@ module _ (c : Contents year_interface) where
   abbrev pub temperature_before : (i : ℕ) → Float
   temperature_before i = before (start_temperature c) (hour_temperatures c) i
 
-  -- hour i is one at which the temperature "goes from at or below a given value to above it"
+  -- hour i is one at which the temperature goes from at or below a given value to above it
   pub record GoesAbove (value : Float) (i : ℕ) : Type 0 where
     pub held : i < hours_held
     pub at_or_below : le (temperature_before i) value ≡ true
@@ -47,7 +48,7 @@ module _ (c : Contents year_interface) where
     pub none_nearer_lem : (j : ℕ) → j < hours_held → lt (abs (temperature j -ᶠ value)) (abs (temperature i -ᶠ value)) ≡ false
     pub none_as_near : (j : ℕ) → j < i → le (abs (temperature j -ᶠ value)) (abs (temperature i -ᶠ value)) ≡ false
 
-  -- hour i lies within the "inclusive band"
+  -- hour i lies within the inclusive band
   abbrev pub in_band : (lower upper : Float) → (i : ℕ) → Bool
   in_band lower upper i = le lower (temperature i) && le (temperature i) upper
 
@@ -63,7 +64,7 @@ module _ (c : Contents year_interface) where
         → (hours_within_in bytes lower upper ≡ ok 0) ↔ ((i : ℕ) → i < hours_held → in_band lower upper i ≡ false)
     pub all_within : (lower upper : Float) → band_valid lower upper ≡ true
         → (hours_within_in bytes lower upper ≡ ok hours_held) ↔ ((i : ℕ) → i < hours_held → in_band lower upper i ≡ true)
-    -- "20, a value not finite or outside ±1e6 or a band whose lower end is above its upper", of an empty book too
+    -- 20, a value not finite or outside ±1e6 or a band whose lower end is above its upper, of an empty book too
     pub first_invalid_lem : (value : Float) → value_valid value ≡ false → first_above_in bytes value ≡ refused 20 0
     pub within_invalid : (lower upper : Float) → band_valid lower upper ≡ false → hours_within_in bytes lower upper ≡ refused 20 0
     pub nearest_invalid : (value : Float) → value_valid value ≡ false → nearest_hour_in bytes value ≡ refused 20 0
@@ -71,13 +72,13 @@ module _ (c : Contents year_interface) where
 -- ---- of any bytes
 
 pub record QuestionClaims : Type 0 where
-  -- The temperature after an hour is the operative one of the state after its entry; before the first entry "stand the start-up's temperatures", before any
+  -- The temperature after an hour is the operative one of the state after its entry; before the first entry stand the start-up's temperatures, before any
   -- other the one after the hour before it.
   pub after_hour : (c : Contents year_interface) (i : ℕ) → i < hours_held c → (none_there : Entry year_interface)
       → temperature c i ≡ operative_of c.zone (get_or c.entries i none_there).after.state.temps
   pub before_first : (c : Contents year_interface) → temperature_before c 0 ≡ operative_of c.zone c.start.state.temps
   pub before_next : (c : Contents year_interface) (i : ℕ) → temperature_before c (suc i) ≡ temperature c i
-  -- "a value not finite or outside ±1e6 or a band whose lower end is above its upper"
+  -- a value not finite or outside ±1e6 or a band whose lower end is above its upper
   pub valid_value : (value : Float) → value_valid value ≡ (le (neg (decimal 1000000 0)) value && le value (decimal 1000000 0))
   pub valid_band : (lower upper : Float) → band_valid lower upper ≡ (value_valid lower && value_valid upper && not (lt upper lower))
   -- What a question is asked of is what a take-up accepts, as many hours, the last state after the last; else it has the take-up's refusal, whatever the value.

@@ -1,5 +1,6 @@
--- Document 02 (g): "A converter rewrites a whole accepted book, code 0 becoming code 1 with the rate twice; every demand, temperature and chosen rate must be
--- the same bits as before, and the output is what the plain book has for the new conditions, triggers included. Code 1 hours pass through untouched."
+-- A converter rewrites a whole accepted book, code 0 becoming code 1 with the rate twice; every demand, temperature and chosen rate must be
+-- the same bits as before, and the output is what the plain book has for the new conditions, triggers included. Code 1 hours pass through untouched.
+-- Specification, Conversion.
 use Rattle.std.specs.Prelude.{ℕ, Bool, not, cond, List, [], ◌++◌, map, length, drop, leb, eqb}
 use Rattle.std.specs.List.{list_all}
 use Rattle.zone.specs.Promise.{Result, ok, bind, require}
@@ -21,7 +22,7 @@ converted_item (hour version body) = hour version (converted_body body)
 abbrev pub has_fixed_rate : Item → Bool
 has_fixed_rate (hour version body) = is_fixed body
 
--- "Books with version 1 entries are not converted."
+-- Books with version 1 entries are not converted.
 abbrev pub is_version_1 : Item → Bool
 is_version_1 (hour version body) = eqb version 1
 
@@ -30,7 +31,7 @@ pub record ConvertedBook : Type 0 where
   pub count : ℕ
   pub bytes : List ℕ
 
--- "Turned away: 24, such a book, tested after it is accepted, then 16 for the output." The output has the used bytes of the plain book with the same head and
+-- Refused: 24, such a book, tested after it is accepted, then 16 for the output. The output has the used bytes of the plain book with the same head and
 -- the converted hours.
 unfoldable pub convert_items : (head : List ℕ) (is : List Item) → (out : List ℕ) → Result ConvertedBook
 convert_items head is out =
@@ -48,6 +49,6 @@ convert_plain (book head is) out = convert_items head is out
 unfoldable pub convert_in : (bytes out : List ℕ) → Result ConvertedBook
 convert_in bytes out = bind (take_up_plain year_interface bytes) λ p. convert_plain p out
 
--- "bytes behind it stay"
+-- bytes behind it stay
 abbrev pub output : ConvertedBook → (out : List ℕ) → List ℕ
 output b out = b.bytes ++ drop (length b.bytes) out

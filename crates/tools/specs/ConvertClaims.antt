@@ -1,5 +1,6 @@
--- What is claimed of the converter: "every demand, temperature and chosen rate must be the same bits as before, and the output is what the plain book has for the
--- new conditions, triggers included. Code 1 hours pass through untouched."
+-- What is claimed of the converter: every demand, temperature and chosen rate must be the same bits as before, and the output is what the plain book has for the
+-- new conditions, triggers included. Code 1 hours pass through untouched.
+-- Specification, Conversion.
 use Rattle.std.specs.Prelude.{ℕ, ◌+◌, ◌≤◌, ◌<◌, ◌≡◌, true, false, not, List, [], ◌∷◌, ◌++◌, map, length, take, drop}
 use Rattle.std.specs.List.{list_all}
 use Rattle.zone.specs.Promise.{ok, refused}
@@ -44,7 +45,7 @@ pub record Converts (bytes : List ℕ) (b : ConvertedBook) : Type 0 where
   -- and converting again changes nothing.
   pub again : (out : List ℕ) → length b.bytes ≤ length out → convert_in b.bytes out ≡ ok b
 
--- "Turned away: 24, such a book, tested after it is accepted, then 16 for the output": of an accepted book, whose hours are `is`
+-- Refused: 24, such a book, tested after it is accepted, then 16 for the output: of an accepted book, whose hours are `is`
 pub record ConvertReasons (bytes : List ℕ) (v : BookState Carried) (is : List Item) : Type 0 where
   pub version_1 : list_all (λ i. not (is_version_1 i)) is ≡ false → (out : List ℕ) → convert_in bytes out ≡ refused version_1_entry 0
   pub short : list_all (λ i. not (is_version_1 i)) is ≡ true → (out : List ℕ) → length out < v.used → convert_in bytes out ≡ refused buffer_short 0
@@ -58,7 +59,7 @@ pub record ConvertClaims : Type 0 where
   pub reasons : (bytes : List ℕ) (v : BookState Carried) (c : Contents year_interface) → take_up_res year_interface bytes ≡ ok v → contents_in year_interface bytes ≡ ok c
       → ConvertReasons bytes v (map (λ e. e.item) c.entries)
   pub converts : (bytes out : List ℕ) (b : ConvertedBook) → convert_in bytes out ≡ ok b → Converts bytes b
-  -- "Code 1 hours pass through untouched."
+  -- Code 1 hours pass through untouched.
   pub untouched : (body : List ℕ) → is_fixed body ≡ false → converted_body body ≡ body
   -- So the output for a book with no other is its used bytes.
   pub unchanged : (head : List ℕ) (is : List Item) (S : WellFormed year_interface head is)

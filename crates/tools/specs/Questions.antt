@@ -1,5 +1,6 @@
--- Document 02 (c), "When did it get warm?": three questions over an accepted book. The definitions speak of the plain book's hours and of the states after
+-- Three questions over an accepted book. The definitions speak of the plain book's hours and of the states after
 -- them.
+-- Specification, Questions over a book.
 use Rattle.std.specs.Prelude.{ℕ, ◌+◌, Bool, not, cond, ◌&&◌, ◌||◌, List, [], ◌∷◌, map, length, get_or, ltb, Float, Option, None, Some}
 use Rattle.std.specs.Float.{nan}
 use Rattle.std.specs.Float.Ieee.{is_nan, lt, le}
@@ -16,11 +17,11 @@ use Rattle.tools.specs.Numbers.{question_value}
 
 -- ---- the temperatures: operative, whatever the zone's basis
 
--- the one after each hour. "Hours are numbered from 0."
+-- the one after each hour. Hours are numbered from 0.
 abbrev pub hour_temperatures : Contents year_interface → List Float
 hour_temperatures c = map (λ e. operative_of c.zone e.after.state.temps) c.entries
 
--- "Before the first entry stand the start-up's temperatures."
+-- Before the first entry stand the start-up's temperatures.
 abbrev pub start_temperature : Contents year_interface → Float
 start_temperature c = operative_of c.zone c.start.state.temps
 
@@ -31,11 +32,11 @@ after ts i = get_or ts i nan
 abbrev pub before : (start : Float) → (temperatures : List Float) → (i : ℕ) → Float
 before start ts i = get_or (start ∷ ts) i nan
 
--- the first of so many hours that passes a test. "Where no such hour exists the first and third yield none"
+-- the first of so many hours that passes a test. Where no such hour exists the first and third yield none
 unfoldable pub first_hour : (hours : ℕ) → (ℕ → Bool) → Option ℕ
 first_hour hours test = cond (ltb (first_below hours test) hours) (Some (first_below hours test)) None
 
--- ---- "the first hour at which operative temperature goes from at or below a given value to above it"
+-- ---- the first hour at which operative temperature goes from at or below a given value to above it
 
 abbrev pub goes_above : (value temperature_before temperature : Float) → Bool
 goes_above value temperature_before temperature = le temperature_before value && lt value temperature
@@ -43,7 +44,7 @@ goes_above value temperature_before temperature = le temperature_before value &&
 unfoldable pub first_above : (value start : Float) → (temperatures : List Float) → Option ℕ
 first_above value start ts = first_hour (length ts) λ i. goes_above value (before start ts i) (after ts i)
 
--- ---- "the number of hours within an inclusive band"
+-- ---- the number of hours within an inclusive band
 
 abbrev pub within : (lower upper temperature : Float) → Bool
 within lower upper temperature = le lower temperature && le temperature upper
@@ -52,7 +53,7 @@ unfoldable pub hours_within : (lower upper : Float) → (temperatures : List Flo
 hours_within lower upper [] = 0
 hours_within lower upper (t ∷ ts) = cond (within lower upper t) 1 0 + hours_within lower upper ts
 
--- ---- "the hour nearest to a given temperature, the distance rounded once, the earlier on a tie"
+-- ---- the hour nearest to a given temperature, the distance rounded once, the earlier on a tie
 
 abbrev pub distance : (value temperature : Float) → Float
 distance value temperature = abs (temperature -ᶠ value)
@@ -68,7 +69,7 @@ none_nearer value ts i = all 0 (length ts) λ j. not (nearer (distance value (af
 unfoldable pub nearest_hour : (value : Float) → (temperatures : List Float) → Option ℕ
 nearest_hour value ts = first_hour (length ts) (none_nearer value ts)
 
--- ---- over bytes. "Turned away: 20, a value not finite or outside ±1e6 or a band whose lower end is above its upper, tested after the book is accepted."
+-- ---- over bytes. Refused: 20, a value not finite or outside ±1e6 or a band whose lower end is above its upper, tested after the book is accepted.
 
 -- finite and within ±1e6, both included: the bound that temperatures have
 abbrev pub value_valid : Float → Bool

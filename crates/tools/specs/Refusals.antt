@@ -1,4 +1,5 @@
--- Which numbers and indices the questions and the converter can be refused with: "tested after the book is accepted".
+-- Which numbers and indices the questions and the converter can be refused with: tested after the book is accepted.
+-- Specification, Order of tests.
 use Rattle.std.specs.Prelude.{ℕ, ◌≡◌, List, Float}
 use Rattle.zone.specs.Promise.{RefusesOnly}
 use Rattle.book.specs.Refusals.{TakeUpRefusal}
@@ -13,7 +14,7 @@ pub data QuestionRefusal : (number index : ℕ) → Type 0 where
   question_take_up : {number index : ℕ} → TakeUpRefusal number index → QuestionRefusal number index
   question_invalid : QuestionRefusal question_value 0
 
--- "Turned away: 24, such a book, tested after it is accepted, then 16 for the output."
+-- Refused: 24, a book with an entry of version 1, tested after it is accepted, then 16 for the output.
 pub data ConvertRefusal : (number index : ℕ) → Type 0 where
   convert_take_up : {number index : ℕ} → TakeUpRefusal number index → ConvertRefusal number index
   convert_version_1 : ConvertRefusal version_1_entry 0
@@ -28,6 +29,6 @@ pub record QuestionRefusals : Type 0 where
 abbrev pub ConvertRefusals : Type 0
 ConvertRefusals = (bytes out : List ℕ) → RefusesOnly ConvertRefusal (convert_in bytes out)
 
--- "number and index": no two errors have the same
+-- number and index: no two errors have the same
 abbrev pub OneError : Type 0
 OneError = (e e' : QuestionError) → number_of e ≡ number_of e' → index_of e ≡ index_of e' → e ≡ e'

@@ -16,7 +16,7 @@ pub enum ConvertError {
 }
 
 impl ConvertError {
-    // The papers' number.
+    // Its number (Specification, Table of refusals).
     pub fn number(self) -> u32
         ensures { result ≡ number_of self }
     {

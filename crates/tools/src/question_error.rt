@@ -14,7 +14,7 @@ pub enum QuestionError {
 }
 
 impl QuestionError {
-    // The papers' number.
+    // Its number (Specification, Table of refusals).
     pub fn number(self) -> u32
         ensures { result ≡ number_of self }
     {

@@ -1,4 +1,4 @@
--- What is claimed of the weather of a line: a file that is written as the paper says is read so.
+-- What is claimed of the weather of a line: a file that is written as Specification, Weather of a line, says is read so.
 use Rattle.std.specs.Prelude.{ℕ, suc, ◌+◌, ◌≤◌, ◌<◌, ◌≡◌, ◌↔◌, Bool, true, false, ◌&&◌, List, [], ◌∷◌, ◌++◌, length, get_or, replicate, Some}
 use Rattle.std.specs.Float.{binary64}
 use Rattle.std.specs.Float.Ieee.{of_bits}
@@ -34,7 +34,7 @@ abbrev pub signed : (minus : Bool) → List ℕ → List ℕ
 signed true bs = minus_sign ∷ bs
 signed false bs = bs
 
--- "A decimal is a minus or none, digits, and perhaps a point with digits after it."
+-- A decimal is a minus or none, digits, and perhaps a point with digits after it.
 pub data Written : (field : List ℕ) → Decimal → Type 0 where
   whole : (minus : Bool) (digits : List ℕ) → is_digits digits ≡ true → Written (signed minus digits) (record { minus = minus; digits = digits; places = 0 })
   with_point : (minus : Bool) (before after : List ℕ) → is_digits before ≡ true → is_digits after ≡ true
@@ -51,7 +51,7 @@ minus_zero digits places = record { minus = true; digits = digits; places = plac
 -- ---- lines: the headers, so many other lines, and the line that is chosen
 
 pub record LineClaims (earlier : List (List ℕ)) (n : ℕ) (line rest : List ℕ) : Type 0 where
-  -- "A line ends with LF or CR LF, the last also at the end of the file."
+  -- A line ends with LF or CR LF, the last also at the end of the file.
   pub line_feed_lem : weather_of (joined earlier ++ line ++ line_feed ∷ rest) (suc n) ≡ weather_in (without_return line)
   pub return_line_feed : weather_of (joined earlier ++ line ++ carriage_return ∷ line_feed ∷ rest) (suc n) ≡ weather_in line
   pub end_of_file : weather_of (joined earlier ++ line) (suc n) ≡ weather_in line
@@ -80,7 +80,7 @@ pub record WeatherClaims : Type 0 where
   pub every_line : (line : List ℕ) → LineFields line
   pub lines : (earlier : List (List ℕ)) (n : ℕ) (line rest : List ℕ) → all_without line_feed earlier ≡ true → length earlier ≡ 8 + n → without line_feed line ≡ true
       → LineClaims earlier n line rest
-  -- "21, line or field absent": there is no line 0, and none behind the last;
+  -- 21, line or field absent: there is no line 0, and none behind the last;
   pub no_line_0 : (file : List ℕ) → weather_of file 0 ≡ refused 21 0
   pub no_line : (earlier : List (List ℕ)) (n : ℕ) (line : List ℕ) → all_without line_feed earlier ≡ true → length earlier < 8 + n → without line_feed line ≡ true
       → weather_of (joined earlier ++ line) (suc n) ≡ refused 21 0
@@ -90,14 +90,14 @@ pub record WeatherClaims : Type 0 where
   pub few_fields : (fields : List (List ℕ)) → all_without comma fields ≡ true → length fields < 16 → weather_in (separated fields) ≡ refused 21 0
   -- A decimal is read exactly where one is written, and as it is written.
   pub decimals : (field : List ℕ) (d : Decimal) → (decimal_of field ≡ Some d) ↔ Written field d
-  -- "ties to even", below and above; "a minus stays on a zero"
+  -- ties to even, below and above; a minus stays on a zero
   pub tie_below : value (tie 51) ≡ of_bits binary64 0x4340_0000_0000_0000
   pub tie_above : value (tie 53) ≡ of_bits binary64 0x4340_0000_0000_0002
   pub minus_zero_lem : value (minus_zero (48 ∷ []) 0) ≡ of_bits binary64 0x8000_0000_0000_0000
   pub minus_zero_places : value (minus_zero (48 ∷ 48 ∷ []) 1) ≡ of_bits binary64 0x8000_0000_0000_0000
-  -- "missing" just before the range; digits before both; and what is no decimal
+  -- missing just before the range; digits before both; and what is no decimal
   pub examples : FieldExamples
   pub file : FileExample
-  -- What is accepted lies in document 01's ranges.
+  -- What is accepted lies in the ranges of an hour's conditions (Specification, Ranges).
   pub in_range : (file : List ℕ) (line : ℕ) (w : Weather) → weather_of file line ≡ ok w
       → (temperature_range w.dry_bulb ≡ true) × (irradiance_range w.direct_normal ≡ true) × (irradiance_range w.diffuse_horizontal ≡ true)

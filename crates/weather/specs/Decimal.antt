@@ -1,4 +1,5 @@
 -- Written decimals and their values.
+-- Specification, Decimals of a weather file.
 use Rattle.std.specs.Prelude.{ℕ, ◌+◌, ◌-◌, ◌*◌, ◌^◌, Bool, true, false, not, cond, ◌&&◌, List, [], ◌∷◌, ◌++◌, length, leb, eqb, ◌==◌, Float, Option, Some, None}
 use Rattle.std.specs.List.{list_all}
 use Rattle.std.specs.Float.{binary64}
@@ -24,7 +25,7 @@ all_digits bs = list_all is_digit bs
 abbrev pub is_digits : List ℕ → Bool
 is_digits bs = not (length bs == 0) && all_digits bs
 
--- "digits, and perhaps a point with digits after it", from what points split it into
+-- digits, and perhaps a point with digits after it, from what points split it into
 unfoldable pub unsigned : (minus : Bool) → List (List ℕ) → Option Decimal
 unsigned minus [] = None
 unsigned minus (whole ∷ []) = cond (is_digits whole) (Some (record { minus = minus; digits = whole; places = 0 })) None
@@ -32,7 +33,7 @@ unsigned minus (whole ∷ fraction ∷ []) =
     cond (is_digits whole && is_digits fraction) (Some (record { minus = minus; digits = whole ++ fraction; places = length fraction })) None
 unsigned minus (whole ∷ fraction ∷ third ∷ others) = None
 
--- "A decimal is a minus or none, digits, and perhaps a point with digits after it."
+-- A decimal is a minus or none, digits, and perhaps a point with digits after it.
 unfoldable pub decimal_of : (field : List ℕ) → Option Decimal
 decimal_of [] = None
 decimal_of (b ∷ bs) = cond (eqb b minus_sign) (unsigned true (split point bs)) (unsigned false (split point (b ∷ bs)))
@@ -42,7 +43,7 @@ unfoldable pub number : (digits : List ℕ) → ℕ
 number [] = 0
 number (b ∷ bs) = (b - digit0) * 10 ^ length bs + number bs
 
--- "Each written decimal becomes the nearest f64, ties to even; a minus stays on a zero": of the fraction number / 10 ^ places, by the library's rounding.
+-- Each written decimal becomes the nearest f64, ties to even; a minus stays on a zero: of the fraction number / 10 ^ places, by the library's rounding.
 unfoldable pub value : Decimal → Float
 value d = round binary64 d.minus (number d.digits) (10 ^ d.places)
 

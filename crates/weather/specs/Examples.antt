@@ -1,4 +1,5 @@
--- Fields, and a file, and what the definition makes of them: the sharp cases of the paper's sentences, calculated.
+-- Fields, and a file, and what the definition makes of them: the sharp cases of the rules, calculated.
+-- Specification, Decimals of a weather file.
 use Rattle.std.specs.Prelude.{◌≡◌, ℕ, List, [], ◌∷◌, ◌++◌, replicate}
 use Rattle.std.specs.Float.{binary64}
 use Rattle.std.specs.Float.Ieee.{of_bits}
@@ -65,7 +66,7 @@ example_file = replicate 8 10 ++ 49 ∷ 57 ∷ 57 ∷ 57 ∷ 44 ∷ 49 ∷ 44 �
 pub record FileExample : Type 0 where
   pub line_1 : weather_of example_file 1 ≡ ok (record { dry_bulb = of_bits binary64 0xbfe0_0000_0000_0000; direct_normal = of_bits binary64 0x4062_c000_0000_0000; diffuse_horizontal = of_bits binary64 0x4030_4000_0000_0000 })
   pub line_2 : weather_of example_file 2 ≡ refused 21 0
-  -- "the fields are tested one by one in file order": a bad seventh before a missing fifteenth, a missing fifteenth before a bad sixteenth, and the other way round
+  -- the fields are tested one by one in file order: a bad seventh before a missing fifteenth, a missing fifteenth before a bad sixteenth, and the other way round
   pub seventh_first : weather_from (120 ∷ []) (57 ∷ 57 ∷ 57 ∷ 57 ∷ []) (120 ∷ []) ≡ refused 22 0
   pub seventh_missing_first : weather_from (57 ∷ 57 ∷ 46 ∷ 57 ∷ []) (120 ∷ []) (120 ∷ []) ≡ refused 23 0
   pub fifteenth_next : weather_from (48 ∷ []) (57 ∷ 57 ∷ 57 ∷ 57 ∷ []) (120 ∷ []) ≡ refused 23 0

@@ -1,4 +1,5 @@
--- Document 02 (f): the bytes that it names, its counts and places, and its refusal numbers.
+-- The bytes of a weather file that have a meaning, its counts and places, and its refusal numbers.
+-- Specification, Weather of a line; Decimals of a weather file; Table of refusals.
 use Rattle.std.specs.Prelude.{ℕ}
 
 -- ---- bytes, in ASCII
@@ -25,7 +26,7 @@ digit0 = 48
 abbrev pub digit9 : ℕ
 digit9 = 57
 
--- ---- "eight header lines, then comma-separated lines, dry bulb in the seventh field, direct normal and diffuse horizontal radiation in the fifteenth and sixteenth"
+-- ---- eight header lines, then comma-separated lines, dry bulb in the seventh field, direct normal and diffuse horizontal radiation in the fifteenth and sixteenth
 
 abbrev pub header_lines : ℕ
 header_lines = 8
@@ -39,11 +40,11 @@ direct_normal_field = 15
 abbrev pub diffuse_horizontal_field : ℕ
 diffuse_horizontal_field = 16
 
--- "more than 12 digits"
+-- more than 12 digits
 abbrev pub most_digits : ℕ
 most_digits = 12
 
--- ---- "Turned away: 21, line or field absent; 22, not a decimal, more than 12 digits or outside document 01's range; 23, missing."
+-- ---- refusals: 21, line or field absent; 22, not a decimal, more than 12 digits or out of range; 23, missing
 
 abbrev pub absent : ℕ
 absent = 21

@@ -1,4 +1,5 @@
--- Document 02 (f), "Weather from EPW files": the three numbers of a chosen line.
+-- The three numbers of a chosen line of an EnergyPlus weather file.
+-- Specification, Weather of a line; Decimals of a weather file; Ranges.
 use Rattle.std.specs.Prelude.{ℕ, Bool, not, List, length, leb, Float, Option, Some, None}
 use Rattle.zone.specs.Promise.{Result, ok, refused, bind, require}
 use Rattle.zone.specs.Check.Ranges.{temperature_range, irradiance_range}
@@ -12,7 +13,7 @@ abbrev pub present : {A : Type 0} → (number : ℕ) → Option A → Result A
 present number (Some a) = ok a
 present number None = refused number 0
 
--- "22, not a decimal, more than 12 digits or outside document 01's range; 23, missing", "which is tested just before the range"
+-- 22, not a decimal, more than 12 digits or out of range; 23, missing, which is tested just before the range
 unfoldable pub tested : (is_missing : Decimal → Bool) → (range : Float → Bool) → (field : List ℕ) → Result Float
 tested is_missing range field =
     bind (present invalid (decimal_of field)) λ d.
@@ -21,14 +22,14 @@ tested is_missing range field =
     bind (require (range (value d)) invalid) λ _.
     ok (value d)
 
--- "A dry bulb of 99.9 or a radiation of 9999 is missing"
+-- A dry bulb of 99.9 or a radiation of 9999 is missing
 abbrev pub dry_bulb : (field : List ℕ) → Result Float
 dry_bulb field = tested (is 999 1) temperature_range field
 
 abbrev pub radiation : (field : List ℕ) → Result Float
 radiation field = tested (is 9999 0) irradiance_range field
 
--- "the fields are tested one by one in file order"
+-- the fields are tested one by one in file order
 unfoldable pub weather_from : (seventh fifteenth sixteenth : List ℕ) → Result Weather
 weather_from seventh fifteenth sixteenth =
     bind (dry_bulb seventh) λ t.
@@ -36,7 +37,7 @@ weather_from seventh fifteenth sixteenth =
     bind (radiation sixteenth) λ h.
     ok (record { dry_bulb = t; direct_normal = n; diffuse_horizontal = h })
 
--- "After 21", which is for each of the three fields
+-- After 21, which is for each of the three fields
 unfoldable pub weather_in : (line : List ℕ) → Result Weather
 weather_in line =
     bind (present absent (field_of line dry_bulb_field)) λ seventh.
@@ -44,6 +45,6 @@ weather_in line =
     bind (present absent (field_of line diffuse_horizontal_field)) λ sixteenth.
     weather_from seventh fifteenth sixteenth
 
--- "The answer is the three numbers of a chosen line"
+-- The answer is the three numbers of a chosen line
 unfoldable pub weather_of : (file : List ℕ) → (line : ℕ) → Result Weather
 weather_of file line = bind (present absent (line_of file line)) weather_in

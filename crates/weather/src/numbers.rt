@@ -1,4 +1,5 @@
-// Document 02 (f): the bytes that it names, its counts and places.
+// The bytes of a weather file that have a meaning, its counts and places.
+// Specification, Weather of a line; Decimals of a weather file.
 
 pub const LINE_FEED: u8 = b'\n';
 

@@ -2,7 +2,7 @@
 ghost use Rattle.std.specs.Prelude.{◌≡◌};
 ghost use Rattle.weather.specs.Answers.{number_of};
 
-// Each has its number of document 02.
+// Each has its number (Specification, Table of refusals).
 #[derive(Clone, Copy, Debug, PartialEq, Eq)]
 pub enum WeatherError {
     // The line or one of the three fields is absent.

@@ -1,4 +1,4 @@
-// The three questions over a book (document 02 (c)), a row for each: what is answered, and what is expected.
+// The three questions over a book (Specification, Questions over a book), a row for each: what is answered, and what is expected.
 use crate::refusal::{Answer, Refusal};
 use crate::table::row;
 use std::fmt::{self, Display};

@@ -1,4 +1,4 @@
-// Heads and hours' conditions in bytes, place by place as the paper gives them; each house gives its numbers.
+// Heads and hours' conditions in bytes, place by place as Specification, Head and Conditions, give them; each house gives its numbers.
 use crate::zone_read::NO_CONTROL;
 use big_endian::{put_byte, put_bytes, write_f64s_be};
 use zone::{AirChangesPerHourArgument as Rates, Kind};

@@ -1,4 +1,4 @@
-// Hours with the fixed rate, rate code 0 (document 02 (g)): every call that is offered one refuses it, books that hold it are taken up, and the converter
+// Hours with the fixed rate, rate code 0 (Specification, Fixed rate): every call that is offered one refuses it, books that hold it are taken up, and the converter
 // writes it anew with target and windows open both the rate.
 pub mod by_hand;
 pub mod calls;

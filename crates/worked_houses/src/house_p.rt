@@ -1,4 +1,4 @@
-// House P of document 01, executed row by row.
+// House P (Specification, House P), executed row by row.
 pub mod book_rows;
 pub mod house;
 pub mod limited;

@@ -2,7 +2,7 @@
 // its bits, with what is expected in words; a value with nothing to be laid beside by its bits, with decimals before them; a refusal by its
 // number, 0 for none. A call that refuses where nothing is said of it ends the program with that refusal.
 //
-// First House P of document 01, then its hours in version 3 with limits, worked out by hand. Then a room with a chilled
+// First House P (Specification, House P), then its hours in version 3 with limits, worked out by hand. Then a room with a chilled
 // ceiling: a warm hour is asked, and met in version 1 and in version 2. By the heating fraction the room is left too warm, by
 // the cooling fraction it keeps its cooling setpoint. A cold hour is the same in both. Then the entries of these hours in
 // books, versions that no hour has, and the room in version 3: hours with limits, limits out of range, entries and books.

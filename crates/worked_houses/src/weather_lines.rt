@@ -1,4 +1,4 @@
-// Weather of a file's line (document 02 (f)), row by row: fields, lines of files, and a house in the weather of a line.
+// Weather of a file's line (Specification, Weather of a line), row by row: fields, lines of files, and a house in the weather of a line.
 pub mod fields;
 pub mod file;
 pub mod house;

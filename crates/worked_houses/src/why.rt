@@ -1,4 +1,5 @@
-// Why this rate, why this load (document 02 (e)): hours of a room with windows worked out by hand, row by row.
+// Why this rate, why this load: hours of a room with windows worked out by hand, row by row.
+// Specification, Why this rate, why this load.
 pub mod answers;
 pub mod bases;
 pub mod close;

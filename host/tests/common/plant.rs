@@ -20,7 +20,7 @@ pub fn go_on(folder: &Folder, year: &[u8], words: &[&str]) {
     folder.call(&[&Folder::RUN[..], words].concat()).done();
 }
 
-/// What the entry asks for, kWh and W, by the paper's operations.
+/// What the entry asks for, kWh and W, by the operations of Specification, Hour step.
 pub fn asked(entry: &Entry) -> (f64, f64) {
     let demand = entry.demand();
     let kwh = demand.space_heat_demand + demand.space_cool_demand;

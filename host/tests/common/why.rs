@@ -1,5 +1,5 @@
 //! Why an hour has its rate, worked out apart from the engine's own answer: from the temperatures of updates at
-//! the hour's rates, by the tests of the paper in the paper's order; and its load, from the numbers of its
+//! the hour's rates, by the tests of Specification, Why this rate, why this load, in their order; and its load, from the numbers of its
 //! demand.
 #![allow(dead_code)] // Each file of tests uses a part of this.
 use hem_zone::{

@@ -1,4 +1,5 @@
 -- An append and a cut of a well-formed plain book: the same of them.
+-- Specification, Plain book; Lists of calls.
 use Rattle.std.proofs.Common.{◌≡◌, refl, sym, ap, ◌∙◌, subst, Bool, true, false, ◌&&◌, List, [], ◌∷◌, ◌++◌, map, append_assoc, append-nil, ℕ, ◌+◌, ◌-◌, ◌≤◌, ◌<◌, zero-add, arith, length, take, drop, length-append, take_at, drop_at, leb, ltb, leb-true, leb-false, ltb-true, le-leb}
 use mathlib.Core.Option.{some}
 use lib.Seq.{take-append-add}
@@ -153,7 +154,7 @@ module _ (L : Interface) (W : Laws L) where
     unfolding cut_plain
     cut_is at = rw (contents_is L head is S)
 
-    -- "the bytes before it are taken up as they stand; hours whose entries end by then stay": the two say the same
+    -- the bytes before it are taken up as they stand; hours whose entries end by then stay: the two say the same
     pub cut_take_up : (at : ℕ) → length head ≤ at → cut_plain L head is at ≡ take_up_plain L (take at used_of)
     unfolding take_up_plain
     cut_take_up at lo =

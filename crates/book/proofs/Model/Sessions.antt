@@ -1,4 +1,5 @@
 -- Whole lists of calls: a session's events are the plain book's, and every list of calls that may be made has a session.
+-- Specification, Lists of calls.
 use Rattle.std.proofs.Common.{◌≡◌, refl, sym, ap, ◌∙◌, subst, Bool, true, false, ◌&&◌, cond, List, [], ◌∷◌, ◌++◌, ℕ, take, leb, leb-true, le-leb}
 use mathlib.Core.Option.{none, some}
 use Rattle.zone.specs.Promise.{Result, ok, refused}

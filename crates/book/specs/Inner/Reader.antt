@@ -1,4 +1,5 @@
 -- What is read of a book: the state of its start-up, and the first entry of a rest of it with the state after its hour.
+-- Specification, Where an entry ends.
 use Rattle.std.specs.Prelude.{ℕ, ◌-◌, ◌*◌, cond, List, ◌++◌, length, take, drop, replicate, leb, Float}
 use Rattle.std.proofs.Math.Option.{Option, none}
 use Rattle.zone.specs.Promise.{Result, ok, refused, bind, zero64}
@@ -20,7 +21,7 @@ state_or given (refused number index) = given
 unfoldable pub start_in : (given : State) → List ℕ → State
 start_in given bytes = state_or given (bind (head_of bytes) λ h. bind (start_up h.zone) λ s. ok s.state)
 
--- "N node temperatures": an entry ends with them
+-- N node temperatures: an entry ends with them
 abbrev pub temperatures_of : Zone → (entry : List ℕ) → List Float
 temperatures_of z e = floats_at (drop (length e - float_size * node_count z) e) 0 (node_count z)
 

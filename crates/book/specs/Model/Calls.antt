@@ -1,17 +1,18 @@
 -- What begin, append and take-up answer, and what they leave in the lent buffer: the definitions that the functions' contracts cite.
+-- Specification, Values of a book; Begin; Append; Take-up; What a refusal is.
 use Rattle.std.specs.Prelude.{cond, List, [], ◌∷◌, ◌++◌, ℕ, zero, suc, ◌+◌, length, take, drop, leb, ltb}
 use Rattle.zone.specs.Promise.{Result, ok, refused, bind, require}
 use Rattle.book.specs.Numbers.{buffer_short, book_full, false_entry}
 use Rattle.book.specs.Model.Bytes.{from_option, equal_bytes}
 use Rattle.book.specs.Model.Interface.{Interface, Written}
 
--- what a call is given and hands back: "the temperatures, count and used length", and document 02's "version of the last entry", which `State` has with the temperatures
+-- what a call is given and hands back: the temperatures, count and used length, and the version of the last entry, which `State` has with the temperatures
 pub record BookState (State : Type 0) : Type 0 where
   pub state : State
   pub count : ℕ
   pub used : ℕ
 
--- "Answers are acceptance, or number and index, with the values handed back."
+-- Answers are acceptance, or number and index, with the values handed back.
 pub data Answer (State : Type 0) : Type 0 where
   accepted : BookState State → Answer State
   refused_with : (number index : ℕ) → BookState State → Answer State
@@ -26,7 +27,7 @@ pub record Outcome (State : Type 0) : Type 0 where
   pub buffer : List ℕ
 
 module _ {State : Type 0} where
-  -- "A refusal gives its number, plus an index .., and hands back unchanged the temperatures, count and used length that it was given"
+  -- a refusal gives its number and an index, and hands back unchanged the temperatures, count and used length that it was given
   abbrev pub answer_from : (given : BookState State) → Result (BookState State) → Answer State
   answer_from g (ok v) = accepted v
   answer_from g (refused c j) = refused_with c j g
@@ -37,7 +38,7 @@ module _ {State : Type 0} where
   outcome_of g buf (refused c j) = record { answer = refused_with c j g; buffer = buf }
 
 module _ (L : Interface) where
-  -- "Begin book: head, start-up, then buffer too short, 16."
+  -- Begin book: head, start-up, then buffer too short, 16.
   unfoldable pub begin_res : (head buf : List ℕ) → Result (BookState L.State × List ℕ)
   begin_res head buf =
       bind (L.head_of head) λ h.
@@ -48,7 +49,7 @@ module _ (L : Interface) where
   unfoldable pub begin : (head : List ℕ) → (given : BookState L.State) → (buf : List ℕ) → Outcome L.State
   begin head g buf = outcome_of g buf (begin_res head buf)
 
-  -- "Append: 8,784 entries held, 17; the hour step's; buffer, 16." The zone is tested first.
+  -- Append: 8,784 entries held, 17; the hour step's; buffer, 16. The zone is tested first.
   unfoldable pub append_res : L.Zone → (given : BookState L.State) → L.Item → (buf : List ℕ) → Result (BookState L.State × List ℕ)
   append_res z g i buf =
       bind (L.given_test z g.state) λ _.
@@ -77,7 +78,7 @@ module _ (L : Interface) where
   check_entry k c (ok e) = cond (equal_bytes e.bytes c) (ok e.after) (refused false_entry k)
   check_entry k c (refused n j) = refused false_entry k
 
-  -- "per whole entry, a 8,785th 17, a false one 18": from index k, state s and used length u on
+  -- per whole entry, a 8,785th 17, a false one 18: from index k, state s and used length u on
   unfoldable pub check_entries : L.Zone → (k : ℕ) → L.State → (u : ℕ) → List (List ℕ) → Result (BookState L.State)
   check_entries z k s u [] = ok (record { state = s; count = k; used = u })
   check_entries z k s u (c ∷ cs) =
@@ -85,7 +86,7 @@ module _ (L : Interface) where
       bind (check_entry k c (L.step z k s (L.item_of z c))) λ t.
       check_entries z (k + 1) t (u + length c) cs
 
-  -- "Take up: head; start-up; then per whole entry .."
+  -- take up: head; start-up; then entry by entry
   unfoldable pub take_up_res : List ℕ → Result (BookState L.State)
   take_up_res bytes =
       bind (L.head_of bytes) λ h.

@@ -1,5 +1,6 @@
 -- What is claimed of books, each claim as a type. They are proved in proofs/Model for all layers that meet the laws of proofs/Model/InterfaceLaws.antt,
 -- and in proofs/WholeLists.antt for the year book.
+-- Specification, Lists of calls; Plain book; Equality of books; Take-up.
 use Rattle.std.specs.Prelude.{◌≡◌, ◌↔◌, true, false, List, [], ◌∷◌, ◌++◌, map, ℕ, ◌≤◌, ◌<◌, length, take, drop}
 use Rattle.std.proofs.Math.Option.{none, some}
 use Rattle.zone.specs.Promise.{ok, refused}
@@ -76,12 +77,12 @@ module _ (L : Interface) where
   kept_by at head is S = items_ending_by L at (length head) S.contents.entries
 
   pub record OfBook (head : List ℕ) (is : List L.Item) (S : WellFormed L head is) : Type 0 where
-    -- "appends .. come once there is one": then an append is made, whatever its item and the bytes behind the used ones.
+    -- appends come once there is one: then an append is made, whatever its item and the bytes behind the used ones.
     pub append_made : (i : L.Item) (spare : List ℕ) → (a : Answer L.State) × ((plain_make L (book head is) (call_append i spare)).answer ≡ some a)
-    -- "Append: its hour added.": an accepted append holds its item behind the others, whatever came before.
+    -- Append: its hour added: an accepted append holds its item behind the others, whatever came before.
     pub append_holds : (i : L.Item) (spare : List ℕ) (v : BookState L.State) → (plain_make L (book head is) (call_append i spare)).answer ≡ some (accepted v)
         → (plain_make L (book head is) (call_append i spare)).next ≡ book head (is ++ (i ∷ []))
-    -- "Cut at a byte from the head's end to the used length": then a cut is made, its answer is that of the take-up of the bytes before it,
+    -- Cut at a byte from the head's end to the used length: then a cut is made, its answer is that of the take-up of the bytes before it,
     pub cut_made : (at : ℕ) → length head ≤ at → at ≤ length (used_bytes L head S.contents)
         → (plain_make L (book head is) (call_cut at)).answer ≡ some (take_up L (own_book_state L head S.contents) (take at (used_bytes L head S.contents)))
     -- and it holds the items whose entries end by then.

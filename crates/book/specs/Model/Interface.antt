@@ -1,6 +1,7 @@
 -- What the book needs of the layers below it: the head's reader, start-up, the hour step and the bytes of an entry.
 -- `Item` is what a book holds in order: an hour, as its version and the bytes of its conditions and limits. `State` is what is carried from entry to
 -- entry and handed back: the node temperatures and the last version. Nothing of specs/Model depends on what zones, states and items are.
+-- Specification, Head; A zone as a record; Fixed rate.
 use Rattle.std.specs.Prelude.{List, ℕ}
 use Rattle.std.proofs.Math.Option.{Option}
 use Rattle.zone.specs.Promise.{Result}
@@ -17,9 +18,9 @@ pub record Interface : Type 1 where
   pub Item : Type 0
   -- the most entries that a book holds: 8,784
   pub limit : ℕ
-  -- the zone of the head with which bytes begin, and the head's length. "Bytes after the length are not the head's."
+  -- the zone of the head with which bytes begin, and the head's length. Bytes after the length are not the head's.
   pub head_of : List ℕ → Result (ReadHead Zone)
-  -- what an append is given is tested first: "a zone given as a record .. as its head would be", and what is carried
+  -- what an append is given is tested first: a zone given as a record as its head would be, and what is carried
   pub given_test : Zone → State → Result (Unit {0})
   pub start_up : Zone → Result State
   -- the hour step: the entry (its bytes) that an item has behind `count` others and from the state before it, and the state after it

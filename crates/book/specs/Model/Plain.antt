@@ -1,4 +1,5 @@
--- The plain book of document 01: a head's bytes and the items that it holds, and nothing else. Whatever else it has is worked out from these.
+-- The plain book: a head's bytes and the items that it holds, and nothing else. Whatever else it has is worked out from these.
+-- Specification, Plain book.
 use Rattle.std.specs.Prelude.{cond, ◌≡◌, List, [], ◌∷◌, ◌++◌, map, ℕ, ◌+◌, ◌≤◌, length, take, leb, ltb}
 use Rattle.std.proofs.Math.Option.{Option, none, some}
 use Rattle.zone.specs.Promise.{Result, ok, refused, bind, require}
@@ -7,7 +8,7 @@ use Rattle.book.specs.Model.Bytes.{concat}
 use Rattle.book.specs.Model.Interface.{Interface}
 use Rattle.book.specs.Model.Calls.{BookState}
 
--- "It holds a head's bytes and hours"
+-- It holds a head's bytes and hours
 pub data Plain (Item : Type 0) : Type 0 where
   empty : Plain Item
   book : (head : List ℕ) → (items : List Item) → Plain Item
@@ -48,7 +49,7 @@ module _ (L : Interface) where
       bind (entries_of z (k + 1) w.after is) λ es.
       ok (record { item = i; bytes = w.bytes; after = w.after } ∷ es)
 
-  -- ".. at first start-up's"
+  -- at first start-up's
   unfoldable pub contents_of : (head : List ℕ) → List L.Item → Result (Contents L)
   contents_of head is =
       bind (L.head_of head) λ h.
@@ -56,11 +57,11 @@ module _ (L : Interface) where
       bind (entries_of h.zone 0 s is) λ es.
       ok (record { zone = h.zone; start = s; entries = es })
 
-  -- "Its used bytes are the head, then per hour the entry"
+  -- Its used bytes are the head, then per hour the entry
   abbrev pub used_bytes : (head : List ℕ) → Contents L → List ℕ
   used_bytes head c = head ++ entry_bytes c.entries
 
-  -- "its count, used length and temperatures are the number of these entries, the length of these bytes and the last node temperatures"
+  -- its count, used length and temperatures are the number of these entries, the length of these bytes and the last node temperatures
   abbrev pub own_book_state : (head : List ℕ) → Contents L → BookState L.State
   own_book_state head c = record { state = last_state c.start c.entries; count = length c.entries; used = length (used_bytes head c) }
 
@@ -74,7 +75,7 @@ module _ (L : Interface) where
 
   -- ---- what a begin, an append and a cut make of it, or the refusal
 
-  -- "Begin: its head, no hours."
+  -- Begin: its head, no hours.
   unfoldable pub begin_plain : (head buf : List ℕ) → Result (Plain L.Item)
   begin_plain head buf =
       bind (L.head_of head) λ h.
@@ -82,7 +83,7 @@ module _ (L : Interface) where
       bind (require (leb h.length (length buf)) buffer_short) λ _.
       ok (book (take h.length head) [])
 
-  -- "Append: its hour added." `spare` are the bytes of the lent buffer behind the used ones.
+  -- Append: its hour added. `spare` are the bytes of the lent buffer behind the used ones.
   unfoldable pub append_plain : (head : List ℕ) (is : List L.Item) → L.Item → (spare : List ℕ) → Result (Plain L.Item)
   append_plain head is i spare =
       bind (contents_of head is) λ c.
@@ -98,7 +99,7 @@ module _ (L : Interface) where
       let others = items_ending_by at (b + length e.bytes) es in
       cond (leb (b + length e.bytes) at) (e.item ∷ others) others
 
-  -- "Cut at a byte from the head's end to the used length: .. hours whose entries end by then stay."
+  -- cut at a byte from the head's end to the used length: the hours whose entries end by then stay
   unfoldable pub cut_plain : (head : List ℕ) (is : List L.Item) → (at : ℕ) → Result (Plain L.Item)
   cut_plain head is at =
       bind (contents_of head is) λ c.

@@ -1,4 +1,5 @@
--- What a caller does, and what the functions returned to him, call by call, in document 01's terms.
+-- What a caller does, and what the functions returned to him, call by call.
+-- Specification, Lists of calls; Values of a book.
 use Rattle.std.specs.Prelude.{◌≡◌, List, [], ◌∷◌, ◌++◌, ℕ, ◌≤◌, take}
 use Rattle.std.proofs.Math.Option.{Option, none, some}
 use Rattle.zone.specs.Promise.{ok}
@@ -8,7 +9,7 @@ use Rattle.book.specs.Model.Calls as Book
 use Rattle.book.specs.Model.Plain.{Snapshot}
 use Rattle.book.specs.Model.Run.{Call, call_begin, call_append, call_take_up, call_cut, Calls, Event}
 
--- The types of the functions' values and replies, and what they stand for: the values; and "this paper's number and values for each" reply.
+-- The types of the functions' values and replies, and what they stand for: the values; and number and values for each reply.
 pub record CodeTypes (L : Interface) : Type 1 where
   pub BookState : Type 0
   pub Reply : Type 0
@@ -21,11 +22,11 @@ pub record CallSpec (L : Interface) (T : CodeTypes L) (r : T.Reply) (buffer : Li
   pub bytes : buffer ≡ d.buffer
 
 module _ (L : Interface) where
-  -- the book that a caller holds, if any: "the used bytes as the last call on it left them", and the values that this call handed back
+  -- the book that a caller holds, if any: the used bytes as the last call on it left them, and the values that this call handed back
   abbrev pub HeldBook : Type 0
   HeldBook = Option (Snapshot L.State)
 
-  -- a begin or a take-up, "accepted, replaces the book held"
+  -- a begin or a take-up, accepted, replaces the book held
   abbrev pub replaced : HeldBook → (bytes : List ℕ) → Book.Answer L.State → HeldBook
   replaced h bytes (Book.accepted v) = some (record { bytes = take v.used bytes; values = v })
   replaced h bytes (Book.refused_with c j v) = h
@@ -44,13 +45,13 @@ module _ (L : Interface) where
   after_append d = record { answer = some d.answer; buffer = some d.buffer; held = some (held_after_append d) }
 
 module _ (L : Interface) (T : CodeTypes L) where
-  -- what a function returned and left in the buffer, in document 01's terms
+  -- what a function returned and left in the buffer
   abbrev pub returned : T.Reply → (buffer : List ℕ) → Book.Outcome L.State
   returned r buffer = record { answer = T.answer_of r; buffer = buffer }
 
-  -- A call that a caller makes who holds this book, and what is seen of it. Of the function it has what the contract ensures, and nothing else. "Each
+  -- A call that a caller makes who holds this book, and what is seen of it. Of the function it has what the contract ensures, and nothing else. Each
   -- call on a book is given the zone of its head, the used bytes as the last call on it left them, and the temperatures, count and used length that
-  -- this call handed back; a cut book comes back by a take-up", of "the bytes before it". What else is carried, as the last version, is given with them.
+  -- this call handed back; a cut book comes back by a take-up of the bytes before it. What else is carried, as the last version, is given with them.
   pub data Made : HeldBook L → Call L.State L.Item → Event L.State → Type 0 where
     begins : (h : HeldBook L) (head buf : List ℕ) (g : T.BookState) (r : T.Reply) (out : List ℕ)
         → CallSpec L T r out (Book.begin L head (T.given_of g) buf)
@@ -63,7 +64,7 @@ module _ (L : Interface) (T : CodeTypes L) where
         → L.head_of v.bytes ≡ ok h → T.given_of g ≡ v.values
         → CallSpec L T r out (Book.append L h.zone (T.given_of g) i (v.bytes ++ spare))
         → Made (some v) (call_append i spare) (after_append L (returned r out))
-    -- "Cut at a byte from the head's end to the used length"
+    -- Cut at a byte from the head's end to the used length
     cuts : (v : Snapshot L.State) (h : ReadHead L.Zone) (at : ℕ) (g : T.BookState) (r : T.Reply)
         → L.head_of v.bytes ≡ ok h → h.length ≤ at → at ≤ v.values.used → T.given_of g ≡ v.values
         → T.answer_of r ≡ Book.take_up L (T.given_of g) (take at v.bytes)

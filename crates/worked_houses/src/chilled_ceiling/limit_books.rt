@@ -1,4 +1,5 @@
-// Books with entries of version 3, which may follow 1 and 2, "never the reverse", and bytes behind them.
+// Books with entries of version 3, which may follow 1 and 2, never the reverse, and bytes behind them.
+// Specification, Limits of the plant; Append; Take-up.
 use crate::chilled_ceiling::differing::differing;
 use crate::chilled_ceiling::limit_entries::{BOOK, COOLING, COUNTS, HEATING, print_entries};
 use crate::chilled_ceiling::room::{ENTRY, HEAD, LIMITED_ENTRY, Room, warm_hour};
@@ -93,8 +94,8 @@ fn print_cuts(rt: &impl Print, book: &[u8; BUFFER]) -> io::Result<()> {
     OF_ONE.accepted().print(rt, taken_up(cut))
 }
 
-// Bytes of 0 behind an entry: "What is dropped at the end is a rest under 5 bytes"; with 5 there is a version byte, 0, which
-// no hour has and which "makes any rest of 5 bytes or more count as a whole entry, a false one".
+// Bytes of 0 behind an entry: What is dropped at the end is a rest under 5 bytes; with 5 there is a version byte, 0, which
+// no hour has and which makes any rest of 5 bytes or more count as a whole entry, a false one.
 fn print_rests(rt: &impl Print, book: &[u8; BEHIND]) -> io::Result<()> {
     println!(rt; "take-up of an entry of version 3 with 4 bytes behind it")?;
     let cut = &book[..BEHIND - 1];

@@ -1,4 +1,5 @@
-// Limits out of range, 19, and where that is tested: "after 9".
+// Limits out of range, 19, and where that is tested: after 9.
+// Specification, Limits of the plant; Ranges.
 use crate::chilled_ceiling::books::counts_of;
 use crate::chilled_ceiling::differing::{differing, unlike};
 use crate::chilled_ceiling::limit_books::BUFFER;

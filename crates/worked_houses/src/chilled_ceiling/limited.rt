@@ -1,6 +1,7 @@
 // The room's hours in version 3, met by a plant with limits. The temperatures after an hour are laid beside those that the
-// call `update_temperatures` gives for the power that the limits leave, its share worked out by document 01's
-// "(convective + delivered * fraction) / total"; other gains there are none.
+// call `update_temperatures` gives for the power that the limits leave, its share worked out by version 1's
+// (convective + delivered * fraction) / total; other gains there are none.
+// Specification, Hour step; Limits of the plant.
 use crate::chilled_ceiling::differing::unlike;
 use crate::chilled_ceiling::hours::{Hour, KEPT, distance};
 use crate::chilled_ceiling::room::{

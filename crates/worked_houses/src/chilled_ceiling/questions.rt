@@ -1,5 +1,6 @@
-// A book of the room asked when it got warm (document 02 (c)). Its temperatures are those of the call `temp_operative` on
+// A book of the room asked when it got warm. Its temperatures are those of the call `temp_operative` on
 // the state after each hour: of a wall and a window the mean goes by their areas.
+// Specification, Questions over a book.
 use crate::answers::{above, nearest, within};
 use crate::chilled_ceiling::hours::KEPT;
 use crate::chilled_ceiling::limit_entries::{COOLING, HEATING};

@@ -1,5 +1,6 @@
-// "Also where a cut lost the hour": House P's eight hours with code 0, cut a byte before the end of the last hour of each version. Offered anew with code 0 the
+// Also where a cut lost the hour: House P's eight hours with code 0, cut a byte before the end of the last hour of each version. Offered anew with code 0 the
 // hour is refused; with target and windows open both the rate it is accepted.
+// Specification, Fixed rate.
 use crate::bytes::CONDITIONS as CONDITIONS_LENGTH;
 use crate::chilled_ceiling::differing::differing;
 use crate::fixed_rate::stored::{CONDITIONS, RATE_CODE};

@@ -1,4 +1,5 @@
-// "Books with version 1 entries are not converted. Turned away: 24, such a book, tested after it is accepted, then 16 for the output."
+// Books with version 1 entries are not converted. Refused: 24, such a book, tested after it is accepted, then 16 for the output.
+// Specification, Conversion.
 use crate::fixed_rate::conversion::Conversion;
 use crate::fixed_rate::houses::{Sample, ceiling_from_1, house_p, windows};
 use crate::fixed_rate::stored::{RATE_CODE, SECOND_RATE};

@@ -1,4 +1,4 @@
-// "Every other call with it is refused under 8, in its old place": House P's hours with code 0, in each version, with other bytes in place of the zeros behind
+// Every call but those that judge or explain what is written refuses it under 8, in its place: House P's hours with code 0, in each version, with other bytes in place of the zeros behind
 // the rate, and beside every other refusal.
 use crate::bytes::{CONDITIONS, Hour};
 use crate::convection::room::{CONDITIONS as SIX_SURFACES, Room};
@@ -78,7 +78,7 @@ fn print_bytes(rt: &impl Print, zone: &ZoneRead, fixed: Hour) -> io::Result<()> 
     Ok(())
 }
 
-// A room whose update and hour step tell what its air gives to its surfaces (document 02 (d)): nothing, where the rate is fixed.
+// A room whose update and hour step tell what its air gives to its surfaces (Specification, Heat balance): nothing, where the rate is fixed.
 fn print_surfaces(rt: &impl Print) -> anyhow::Result<()> {
     let room: Room = rooms::level();
     let head = room.head();

@@ -1,5 +1,6 @@
-// Books with hours of code 0, "each judged by what the hour step would write without this refusal": taken up as the book of the same hours with code 1 is,
+// Books with hours of code 0, each judged by what the hour step would write without this refusal: taken up as the book of the same hours with code 1 is,
 // asked the same questions, and refused with 18 where an entry is false.
+// Specification, Fixed rate.
 use crate::chilled_ceiling::differing::{differing, unlike_anywhere};
 use crate::fixed_rate::houses::{Sample, ceiling, ceiling_from_1, house_p, six_surfaces, windows};
 use crate::fixed_rate::stored::{CONDITIONS, RATE_CODE, SECOND_RATE, behind, put_fixed_rate};

@@ -1,4 +1,5 @@
 // The rows about a book of House P.
+// Specification, Entry versions.
 use crate::house_p::house::{ENTRY, HEAD, HOUSE_P, hour_of};
 use crate::limits::Meeting;
 use crate::refusal::Refusal;
@@ -8,7 +9,7 @@ use crate::zone_read::ZoneRead;
 use book::Reply;
 use std::io;
 
-// The entry version of document 01.
+// The entry version of the original's rule.
 const VERSION: u64 = 1;
 
 // A book of one entry.

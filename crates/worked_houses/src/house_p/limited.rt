@@ -1,4 +1,4 @@
-// House P in version 3, met by a plant with limits (document 02 (b)), worked out by hand.
+// House P in version 3, met by a plant with limits (Specification, Limits of the plant), worked out by hand.
 //
 // From balance let y be the air and x the inner surface above 20, A what of the total gains goes to the air and B what goes
 // to the surface. Air: (100 + 43.0625) y + 2.5 (y - x) = A, where 100 W/K are its capacity over the hour and 43.0625 W/K the
@@ -182,7 +182,7 @@ fn print_asked(
     Ok(asked)
 }
 
-// "Shares follow version 2", of the power after the limit: 54 of 72 W go to the air, where the demand's share would be
+// Shares follow version 2, of the power after the limit: 54 of 72 W go to the air, where the demand's share would be
 // 0.61 and that of the other fraction 0.83.
 fn print_shares(rt: &impl Print, zone: &ZoneRead) -> anyhow::Result<()> {
     let heated = Hour {
@@ -224,7 +224,7 @@ fn print_shares(rt: &impl Print, zone: &ZoneRead) -> anyhow::Result<()> {
 }
 
 // Nothing is delivered, and other gains of -0.0 twice show the sign of that zero: beside them the power 0.0 makes the
-// total 0.0. "A delivered 0 is beyond no limit", so it does not become the limit -0.0, with which the total would be -0.0.
+// total 0.0. A delivered 0 is beyond no limit, so it does not become the limit -0.0, with which the total would be -0.0.
 fn print_no_power(rt: &impl Print, zone: &ZoneRead) -> anyhow::Result<()> {
     let hour = Hour {
         convective: -0.0,

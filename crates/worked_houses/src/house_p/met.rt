@@ -1,4 +1,5 @@
 // What is expected of an hour of House P from balance, and what came, row by row.
+// Specification, House P; Limits of the plant.
 use crate::house_p::house::start;
 use crate::limits::Meeting;
 use crate::refusal::Refusal;
@@ -21,7 +22,7 @@ pub struct Met {
 
 // Row by row, since each value is in a field of its own: a table of them would be longer.
 impl Met {
-    // "demand is reported uncut"
+    // demand is reported uncut
     fn print_demand(self, rt: &impl Print, came: Demand) -> io::Result<()> {
         decimals(rt, "  heating, kWh", came.space_heat_demand, self.heating)?;
         decimals(rt, "  cooling, kWh", came.space_cool_demand, self.cooling)

@@ -1,9 +1,10 @@
-// Books of House P asked when it got warm (document 02 (c)), their temperatures worked out by hand.
+// Books of House P asked when it got warm, their temperatures worked out by hand.
 //
 // Each hour has what other systems give to the air, and neither heating nor cooling. From the air y0 and the inner surface
 // x0 above 20, the gains A lead to 144 y = 100 y0 + 0.625 x0 + A and x = 0.625 y + 0.25 x0 (house_p/limited.rt has the
 // equations from balance). The surface's area is all there is, so the operative temperature is the mean of y and x. Every
 // number here is a float, and so is every step to it.
+// Specification, Questions over a book; House P.
 use crate::answers::{above, nearest, within};
 use crate::bytes::Hour;
 use crate::house_p::house::{ENTRY, HEAD, HOUSE_P, hour_of};
@@ -75,7 +76,7 @@ const EIGHT: [(f64, u64); 8] = [
     (AIR, 3),
 ];
 
-// "from at or below a given value to above it"; start-up is at 20.
+// from at or below a given value to above it; start-up is at 20.
 fn print_above(rt: &impl Print, book: &[u8]) -> io::Result<()> {
     for (asked, value, expected) in [
         ("  first above 20.5", 20.5, Some(0)),
@@ -96,7 +97,7 @@ fn print_above(rt: &impl Print, book: &[u8]) -> io::Result<()> {
     Ok(())
 }
 
-// "within an inclusive band"
+// within an inclusive band
 fn print_within(rt: &impl Print, book: &[u8]) -> io::Result<()> {
     for (asked, lower, upper, hours) in [
         ("  hours at 20.8125", 20.8125, 20.8125, 2),
@@ -113,7 +114,7 @@ fn print_within(rt: &impl Print, book: &[u8]) -> io::Result<()> {
     Ok(())
 }
 
-// "the distance rounded once, the earlier on a tie"
+// the distance rounded once, the earlier on a tie
 fn print_nearest(rt: &impl Print, book: &[u8]) -> io::Result<()> {
     for (asked, value, hour) in [
         ("  nearest 20.8125, hours 0 and 2", 20.8125, 0),
@@ -146,7 +147,7 @@ fn print_value(
     nearest(rt, "  nearest", book, x, Err(refusal))
 }
 
-// Of a book that is refused, and of one whose values are turned away.
+// Of a book that is refused, and of one whose values are refused.
 fn print_each(rt: &impl Print, book: &[u8], refusal: Refusal) -> io::Result<()> {
     print_value(rt, book, "a value that is no number", f64::NAN, refusal)?;
     within(rt, "  hours from 21 to 20", book, 21.0, 20.0, Err(refusal))

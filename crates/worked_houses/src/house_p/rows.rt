@@ -1,4 +1,4 @@
-// The rows of document 01's section "House P".
+// The rows of Specification, House P.
 use crate::bytes::Hour;
 use crate::house_p::house::{HOUSE_P, SINGULAR, hour_of, start};
 use crate::refusal::Cause;

@@ -1,4 +1,5 @@
-// h_ci with the direction of heat flow that it is for: document 01's four pitches, then document 02's (d).
+// h_ci with the direction of heat flow that it is for: House P's four pitches, then others of each direction.
+// Specification, House P; Direction of heat flow and h_ci.
 use crate::table::{row, value};
 use std::io;
 use zone::HeatFlowDirection::{self, Downwards, Horizontal, Upwards};
@@ -20,7 +21,7 @@ fn expected_h_ci(direction: HeatFlowDirection) -> (f64, &'static str) {
     }
 }
 
-// The surface is at 20: in the first six rows, which have document 01's pitches, the air is not colder. A ceiling has pitch 0, a
+// The surface is at 20: in the first six rows, which have House P's pitches, the air is not colder. A ceiling has pitch 0, a
 // wall 90, a floor 180.
 pub fn print_h_ci(rt: &impl Print) -> io::Result<()> {
     for (asked, pitch, air, direction) in [

@@ -1,4 +1,5 @@
 // Single fields: decimals, what is missing, ranges, and the order of their tests. The other fields of a line are good.
+// Specification, Decimals of a weather file.
 use crate::refusal::Cause;
 use crate::table::value;
 use crate::weather_lines::file::File;
@@ -122,7 +123,7 @@ fn print_refused_radiations(rt: &impl Print) -> anyhow::Result<()> {
     Ok(())
 }
 
-// "tested one by one in file order", and 21 before them.
+// tested one by one in file order, and 21 before them.
 fn print_order(rt: &impl Print) -> anyhow::Result<()> {
     for (asked, fields, cause) in [
         ("99.9, x, x", ["99.9", "x", "x"], WeatherMissing),

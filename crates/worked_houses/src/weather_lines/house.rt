@@ -67,7 +67,7 @@ fn print_versions(rt: &impl Print, zone: &ZoneRead, conditions: &[u8]) -> anyhow
     Ok(())
 }
 
-// The ends of document 01's ranges are good weather, and a good hour.
+// The ends of the ranges (Specification, Ranges) are good weather, and a good hour.
 fn print_accepted(rt: &impl Print, zone: &ZoneRead) -> anyhow::Result<()> {
     for (asked, fields) in [
         ("an hour at -100", ["-100", "0", "-0"]),

@@ -12,7 +12,7 @@ use zone::{Load, Reason, State};
 #[derive(Clone, Copy, PartialEq, Eq)]
 pub struct Because(pub Reason, pub Load);
 
-// As document 02 (e) counts them, and not as the engine orders them: the rows lay the two beside each other.
+// As Specification, Why this rate, why this load, counts them, and not as the engine orders them: the rows lay the two beside each other.
 fn number_of(reason: Reason) -> u8 {
     match reason {
         Reason::NoChoice => 1,
