@@ -1,4 +1,4 @@
-/* For limit.c: head, conditions and state are read, and tested as the engine tests them (docs/FORMATS.md has the
+/* For limit.c: head, conditions and state are read, and tested as the engine tests them (docs/SPECIFICATION.md has the
  * ranges). A struct's floats stand in the order of the bytes, and each number of the elements has an array of its own,
  * so that a loop over the elements can take two of them at once. */
 #include <float.h>

@@ -3,7 +3,7 @@
  *
  * Bytes. A zone is given as the bytes of its head, an hour as the bytes of its conditions, a year as
  * the bytes of a book: a head followed by one entry for each hour. Sizes, places, names and units stand
- * below; docs/FORMATS.md has the same as tables, with the ranges. Integers are big-endian, a float is its
+ * below; docs/SPECIFICATION.md has the same as tables, with the ranges. Integers are big-endian, a float is its
  * big-endian 64-bit pattern. Weather is given as the bytes of an EnergyPlus weather file, which is text.
  *
  * Answers. Each function returns 0 when the call is accepted. Otherwise it returns

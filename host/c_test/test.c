@@ -9,7 +9,7 @@
 #include <stdlib.h>
 #include <string.h>
 
-/* ---- House P of docs/FORMATS.md ---- */
+/* ---- House P of docs/SPECIFICATION.md ---- */
 
 enum { HEAD = 180, HOUR = 154, ENTRY = 216, ENTRY_3 = 232, NODES = 3 };
 

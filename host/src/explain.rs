@@ -1,5 +1,5 @@
 //! The sentence of a refusal. Number and index are the engine's; here the value that it meant is
-//! looked up in the bytes, by the layouts and ranges of docs/FORMATS.md.
+//! looked up in the bytes, by the layouts and ranges of docs/SPECIFICATION.md.
 use crate::bytes::{f64_at, length_at};
 use crate::conditions::{ElementHour, COMMON_SIZE, RATE_CODE};
 use crate::layout::{element_size, Layout, ENTRY_VERSION_AT, HEAD_COMMON};

@@ -4,7 +4,7 @@
 //! calls it safely and gives its bytes names:
 //!
 //! - [`Head`] describes a zone and [`Conditions`] an hour; both are written to the bytes of
-//!   docs/FORMATS.md and judged by the engine alone.
+//!   docs/SPECIFICATION.md and judged by the engine alone.
 //! - [`Zone`] is a head that the engine accepted. It answers start-up, demand, update and hour step, and says
 //!   [why](Zone::why) an hour has its air change rate and its load.
 //! - [`State`] holds the node temperatures, handed back by each call.

@@ -1,4 +1,4 @@
-//! The ranges of docs/FORMATS.md, for the sentence of a refusal. The engine alone decides what is
+//! The ranges of docs/SPECIFICATION.md, for the sentence of a refusal. The engine alone decides what is
 //! accepted; here it is only found out which value it meant.
 use crate::limits::Limits;
 use std::fmt;

@@ -14,7 +14,7 @@ pub fn element_hour_p() -> ElementHour {
     }
 }
 
-/// House P of docs/FORMATS.md: one square metre of window, everything at 20 °C, and numbers that
+/// House P of docs/SPECIFICATION.md: one square metre of window, everything at 20 °C, and numbers that
 /// make its demand 144 Wh for each degree.
 pub fn house_p() -> Head {
     let window = BuildingElement {

@@ -1,4 +1,4 @@
-//! The rows of House P in docs/FORMATS.md, through the wrapper.
+//! The rows of House P in docs/SPECIFICATION.md, through the wrapper.
 use hem_zone::samples::{hour_p, house_p};
 use hem_zone::{Kind, State, Zone, ENTRY_VERSION_2};
 

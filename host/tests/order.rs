@@ -1,4 +1,4 @@
-//! Where several things are wrong, the refusal that docs/FORMATS.md tests first is given.
+//! Where several things are wrong, the refusal that docs/SPECIFICATION.md tests first is given.
 use hem_zone::samples::{element_hour_p, hour_p, house_p};
 use hem_zone::*;
 

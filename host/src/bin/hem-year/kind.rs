@@ -71,7 +71,7 @@ fn is_head(bytes: &[u8]) -> bool {
 }
 
 /// Whether bytes begin with conditions of a zone of so many elements: their form, and the ranges of
-/// docs/FORMATS.md of some of their values, which no text and no head fulfils by chance.
+/// docs/SPECIFICATION.md of some of their values, which no text and no head fulfils by chance.
 fn is_hour(bytes: &[u8], elements: usize) -> bool {
     let Some(hour) = bytes.get(..113 + 41 * elements) else { return false };
     let value = |at: usize| f64::from_be_bytes(hour[at..at + 8].try_into().unwrap_or_default());

@@ -1,4 +1,4 @@
-//! The places of heads and conditions in their bytes (docs/FORMATS.md), to name the value in which two
+//! The places of heads and conditions in their bytes (docs/SPECIFICATION.md), to name the value in which two
 //! of them differ.
 
 /// A value: where it stands, how many bytes it has, and its name.

@@ -20,7 +20,7 @@ const YEAR: usize = 8760;
 const BEFORE_MARCH: usize = 1416;
 const DAY: usize = 24;
 
-/// The greatest irradiance of an hour, W/m² (docs/FORMATS.md).
+/// The greatest irradiance of an hour, W/m² (docs/SPECIFICATION.md).
 const MOST_IRRADIANCE: f64 = 2000.0;
 
 /// What is read, where the weather goes, and the file that is written.
