@@ -12,3 +12,4 @@ pub mod FastSolver
 pub mod Refusals
 pub mod Claims
 pub mod Inner
+pub mod Promise

@@ -25,7 +25,7 @@ pub fn goes_above(value: f64, before: f64, temperature: f64) -> bool
     (before <= value) & (value < temperature)
 }
 
-#[tactic(auto, using(solver::proofs::Laws::Order::le_is))]
+#[tactic(auto, using(solver::proofs::Promise::le_is))]
 pub fn is_within(lower: f64, upper: f64, temperature: f64) -> bool
     ensures { result ≡ within lower upper temperature }
 {

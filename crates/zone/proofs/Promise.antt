@@ -1,8 +1,5 @@
 -- What proofs of the layers above cite beside Claims, of the zone's laws and the solver's: Laws is private.
-pub use Rattle.solver.proofs.Laws.Fits.{AllFit, take_fits}
-pub use Rattle.solver.proofs.Laws.Result.{bind_is, bind_ok, require_ok, ok_inj, ok_not_refused}
-pub use Rattle.solver.proofs.Laws.Refusals.{bind_refuses, refusal_by, refuses_also, test_refuses}
-pub use Rattle.solver.proofs.Laws.Tests.{and_true}
+pub use Rattle.solver.proofs.Promise.{AllFit, take_fits, bind_is, bind_ok, require_ok, ok_inj, ok_not_refused, bind_refuses, refusal_by, refuses_also, test_refuses, and_true}
 pub use Rattle.zone.proofs.Laws.Accepted.{conditions_length_lem, count_few, hour_tested, temps_length}
 pub use Rattle.zone.proofs.Laws.Answers.{answered_no, answered_yes, hour_no, hour_yes, update_no, update_yes}
 pub use Rattle.zone.proofs.Laws.Decoded.{floats_length}

@@ -2,7 +2,7 @@
 use Rattle.std.proofs.Common.{ℕ, ◌-◌, ◌≡◌, refl, sym, ap, ◌∙◌, Bool, false, List, [], ◌∷◌, map, length, take, drop, Float, le-leb}
 use Rattle.std.specs.Prelude.{Ok, Err}
 use Rattle.std.specs.Prelude as Rust
-use Rattle.solver.proofs.Laws.Parts.{part_to_end}
+use Rattle.solver.proofs.Promise.{part_to_end}
 use Rattle.zone.specs.Promise.{Result, ok, refused, bind, require}
 use Rattle.zone.specs.Calls.State.{operative_of}
 use Rattle.zone.specs.Answers.{number_of as number_of_refusal, index_of as index_of_refusal}

@@ -3,7 +3,7 @@ use Rattle.std.proofs.Common.{ℕ, ◌+◌, ◌-◌, ◌<◌, ◌≤◌, ◌≡�
 use Rattle.std.specs.Prelude.{Ok, Err}
 use Rattle.std.specs.Prelude as Rust
 use borrow.Author.Tests.{lt-leb}
-use Rattle.solver.proofs.Laws.Parts.{part_to_end}
+use Rattle.solver.proofs.Promise.{part_to_end}
 use Rattle.zone.specs.Promise.{ok, refused}
 use Rattle.zone.proofs.Promise.{bind_ok, head_as_tested, head_yes, ok_inj, structured_few, structured_within}
 use Rattle.zone.specs.Answers.{number_of as number_of_refusal, index_of as index_of_refusal}

@@ -4,7 +4,7 @@ use Rattle.std.specs.Prelude as Rust
 use Rattle.std.specs.Prelude.{None, Some}
 use Rattle.std.proofs.Math.Option.{some}
 use Rattle.std.proofs.lemmas.List.{drop_all}
-use Rattle.solver.proofs.Laws.Parts.{part_to_end}
+use Rattle.solver.proofs.Promise.{part_to_end}
 use Rattle.zone.proofs.Promise.{length_twice}
 use Rattle.zone.specs.Format.FixedRate.{is_fixed, rate_twice}
 use Rattle.zone.specs.declared.record.zone_record.Zone.{Zone}

@@ -4,7 +4,7 @@ use Rattle.std.specs.Prelude.{None, Some}
 use Rattle.std.specs.Prelude as Rust
 use mathlib.Core.Option.{Option, none, some}
 use lib.ListN.{length-map}
-use Rattle.solver.proofs.Laws.Parts.{part_to_end}
+use Rattle.solver.proofs.Promise.{part_to_end}
 use Rattle.zone.specs.Promise.{zero64}
 use Rattle.zone.specs.Inner.Temperatures.{most_nodes}
 use Rattle.zone.specs.Calls.State.{operative_of}

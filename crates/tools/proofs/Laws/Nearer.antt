@@ -5,8 +5,7 @@ use lib.Ieee.{nan, inf, fin, binary64, is_nan, lt, le, eq}
 use lib.Ieee.Fits.{sub-fits}
 use Rattle.std.specs.Float.{float_with_sign}
 use Rattle.solver.specs.F64.{◌-ᶠ◌}
-use Rattle.solver.proofs.Laws.Signs.{without_sign}
-use Rattle.solver.proofs.Laws.Order.{NoNan, below_no_nan, lt_trans, le_lt_trans, not_below, not_above, lt_irreflexive}
+use Rattle.solver.proofs.Promise.{without_sign, NoNan, below_no_nan, lt_trans, le_lt_trans, not_below, not_above, lt_irreflexive}
 use Rattle.zone.proofs.Promise.{and_true}
 use Rattle.book.proofs.Model.Laws.Bytes.{or_false, true_not_false}
 use Rattle.tools.specs.Questions.{distance, nearer}

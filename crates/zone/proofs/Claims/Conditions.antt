@@ -1,11 +1,10 @@
 -- Conditions: accepted ones have the paper's size.
 use Rattle.std.proofs.Common.{ℕ, ◌≤◌, ◌≡◌, sym, true, ◌&&◌, List, map, leb-true, eqb-true, leb, eqb, length, take}
 use Rattle.solver.specs.Result.{ok, require}
-use Rattle.solver.proofs.Laws.Result.{bind_ok, require_ok, ok_inj}
+use Rattle.solver.proofs.Promise.{bind_ok, require_ok, ok_inj, and_true}
 use Rattle.zone.specs.Format.Conditions.{conditions_at, conditions_test, rate_code_valid, open_bits_valid, conditions_of}
 use Rattle.zone.specs.Format.Layout.{conditions_length, first_element_hour}
 use Rattle.zone.specs.Record.Numbers.{conditions_size, conditions_code}
-use Rattle.solver.proofs.Laws.Tests.{and_true}
 use Rattle.zone.specs.declared.record.zone_record.Zone.{Zone}
 use Rattle.zone.specs.declared.format.conditions.Conditions.{Conditions}
 use Rattle.zone.specs.declared.format.conditions.FixedRate.{FixedRate}

@@ -1,7 +1,7 @@
 -- Accepted conditions determine their bytes.
 use Rattle.std.proofs.Common.{ℕ, suc, zero, ◌+◌, ◌*◌, ◌-◌, ◌≤◌, ◌≡◌, refl, sym, ap, ◌∙◌, Bool, true, false, cond, ◌&&◌, true≢false, List, [], ◌∷◌, ◌++◌, map, arith, eqb-true, eqb, length, take, get_or, replicate, take_all, take_at, Float}
 use Rattle.solver.specs.Result.{ok, require_at}
-use Rattle.solver.proofs.Laws.Result.{bind_ok, require_ok}
+use Rattle.solver.proofs.Promise.{bind_ok, require_ok, and_true}
 use Rattle.zone.specs.Record.Numbers.{conditions_value}
 use Rattle.zone.specs.Format.Layout.{open_byte, element_hour_size, rate_code, first_rate, second_rate, first_element_hour, conditions_length}
 use Rattle.zone.specs.Format.Bytes.{Bytes, num_at, float_at, float_size}
@@ -18,7 +18,6 @@ use Rattle.zone.specs.declared.format.conditions.Conditions.{Conditions}
 use Rattle.zone.specs.declared.format.conditions.AirChangesPerHourArgument.TheVariants.{Cooling, TargetAndWindowsOpen}
 use Rattle.zone.specs.declared.format.conditions.FixedRate.{FixedRate}
 use Rattle.zone.specs.declared.format.conditions.FixedRate.TheVariants.{Retired, StillTaken}
-use Rattle.solver.proofs.Laws.Tests.{and_true}
 use Rattle.zone.proofs.Laws.RoundTrip.{Numbers, part, part_add, part_one, number_part, float_part, row_part}
 use Rattle.zone.proofs.Laws.Numbers.{hour_length_number, temperature_number, gains_number, fraction_number}
 use Rattle.zone.proofs.Laws.Numbers.{heating_setpoint_number, setpoint_number, rate_number, irradiance_number}

@@ -6,9 +6,7 @@ use Rattle.solver.specs.Sums.{sum_from0, terms_of}
 use Rattle.solver.specs.Chain.{outer_slot}
 use Rattle.solver.specs.FastSolver.{at_most24}
 use Rattle.solver.specs.Result.{ok, require}
-use Rattle.solver.proofs.Laws.Result.{bind_ok, ok_inj}
-use Rattle.solver.proofs.Laws.Tests.{and_true}
-use Rattle.solver.proofs.Laws.Order.{clash, le_no_nan, not_below, not_above, lt_trans}
+use Rattle.solver.proofs.Promise.{bind_ok, ok_inj, and_true, clash, le_no_nan, not_below, not_above, lt_trans}
 use Rattle.zone.specs.declared.record.building_element.HeatFlowDirection.{HeatFlowDirection}
 use Rattle.zone.specs.declared.record.building_element.HeatFlowDirection.TheVariants.{Horizontal, Upwards, Downwards}
 use Rattle.zone.specs.declared.record.building_element.Element.{Element}

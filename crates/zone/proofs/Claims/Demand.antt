@@ -3,7 +3,7 @@ use Rattle.std.proofs.Common.{◌≡◌, refl, subst, Bool, true, false, inl, in
 use lib.Ieee.{lt, le, eq, of_bits}
 use Rattle.solver.specs.F64.{zero64}
 use Rattle.solver.specs.Result.{ok}
-use Rattle.solver.proofs.Laws.Result.{bind_ok}
+use Rattle.solver.proofs.Promise.{bind_ok}
 use Rattle.zone.specs.declared.record.building_element.Coefficients.{Coefficients}
 use Rattle.zone.specs.declared.record.zone_record.Zone.{Zone}
 use Rattle.zone.specs.declared.format.conditions.Conditions.{Conditions}

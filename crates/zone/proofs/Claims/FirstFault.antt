@@ -2,7 +2,7 @@
 use Rattle.std.proofs.Common.{ℕ, zero, suc, ◌+◌, ◌≡◌, refl, Bool, true, false, ◌&&◌, List, [], ◌∷◌, leb, eqb, length, take}
 use Rattle.solver.specs.Result.{require_at}
 use Rattle.solver.specs.Refusals.{RefusesOnly, accepts, refuses}
-use Rattle.solver.proofs.Laws.Refusals.{bind_refuses}
+use Rattle.solver.proofs.Promise.{bind_refuses}
 use Rattle.zone.specs.declared.record.zone_record.Zone.{Zone}
 use Rattle.zone.specs.declared.format.conditions.FixedRate.{FixedRate}
 use Rattle.zone.specs.declared.calls.state.State.{State}

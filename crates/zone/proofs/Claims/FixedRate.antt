@@ -1,7 +1,7 @@
 -- The claims of specs/Claims/FixedRate.antt, proved.
 use Rattle.std.proofs.Common.{ℕ, ◌≤◌, ◌≡◌, refl, sym, ◌∙◌, Bool, true, false, ◌&&◌, true≢false, List, map, length, take, leb, eqb, le-leb, eq-eqb}
 use Rattle.solver.specs.Result.{ok, refused, require}
-use Rattle.solver.proofs.Laws.Result.{bind_is, bind_ok, require_ok}
+use Rattle.solver.proofs.Promise.{bind_is, bind_ok, require_ok}
 use Rattle.zone.specs.Record.Numbers.{conditions_code, conditions_size, false_entry}
 use Rattle.zone.specs.Format.Layout.{first_element_hour, conditions_length}
 use Rattle.zone.specs.Format.Conditions.{rate_code_valid, open_bits_valid, conditions_of}

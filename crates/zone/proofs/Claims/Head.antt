@@ -1,7 +1,7 @@
 -- Heads: an accepted one lies within the bytes and depends on its own bytes only; its zone passes `zone_test`; its length is the paper's.
 use Rattle.std.proofs.Common.{ℕ, suc, zero, ◌+◌, ◌≤◌, ◌≡◌, refl, sym, subst, ◌∙◌, List, ◌++◌, arith, leb-true, leb, take, length, length-append, take_at, length-take-le}
 use Rattle.solver.specs.Result.{ok, bind, require}
-use Rattle.solver.proofs.Laws.Result.{ok_inj, bind_ok, require_ok}
+use Rattle.solver.proofs.Promise.{ok_inj, bind_ok, require_ok, and_true}
 use Rattle.zone.specs.Record.Numbers.{structure}
 use Rattle.zone.specs.Format.Layout.{count_in, first_element}
 use Rattle.zone.specs.Format.ElementLayout.{size_at, sizes}
@@ -9,7 +9,6 @@ use Rattle.zone.specs.Format.Decode.{elements_at, zone_at}
 use Rattle.zone.specs.Check.ZoneTest.{count_valid, values_test, counts_test, zone_test}
 use Rattle.zone.specs.Format.Head.{ReadHead, elements_end, structure_of, head_of}
 use Rattle.zone.specs.declared.record.zone_record.Zone.{Zone}
-use Rattle.solver.proofs.Laws.Tests.{and_true}
 use Rattle.zone.proofs.Laws.Structure.{whole_of, structured}
 use Rattle.zone.proofs.Laws.StructuredHead.{zone_elements, counts_good}
 use Rattle.zone.proofs.Claims.HeadAlike.{head_alike}

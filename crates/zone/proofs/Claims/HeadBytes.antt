@@ -2,7 +2,7 @@
 use Rattle.std.proofs.Common.{ℕ, suc, zero, ◌+◌, ◌*◌, ◌-◌, ◌≤◌, ◌≡◌, refl, sym, ap, ◌∙◌, Bool, true, cond, ◌&&◌, List, [], ◌∷◌, ◌++◌, arith, leb-true, leb, length, take, get_or, replicate, take_at, Float}
 use Rattle.solver.specs.F64.{zero64}
 use Rattle.solver.specs.Result.{ok, require_at}
-use Rattle.solver.proofs.Laws.Result.{bind_ok, require_ok}
+use Rattle.solver.proofs.Promise.{bind_ok, require_ok, and_true}
 use Rattle.zone.specs.Record.Numbers.{zone_value}
 use Rattle.zone.specs.Format.Layout.{length_size, version_at, basis_at, count_at, limit_at, limit_size, zone_floats}
 use Rattle.zone.specs.Format.Layout.{length_field, basis_in, count_in, first_element, element_floats, element_arrays, element_hour_size}
@@ -19,7 +19,6 @@ use Rattle.zone.specs.Format.Encode.{row_bytes, kind_number}
 use Rattle.zone.specs.Claims.Encode.{element_hour_bytes, basis_number, element_bytes, elements_bytes, head_bytes}
 use Rattle.zone.specs.declared.record.building_element.Kind.{Kind}
 use Rattle.zone.specs.declared.record.zone_record.Zone.{Zone}
-use Rattle.solver.proofs.Laws.Tests.{and_true}
 use Rattle.zone.proofs.Laws.ElementLayout.{shaped, treatments_few}
 use Rattle.zone.proofs.Laws.Structure.{Whole, whole_of, Structured, structured}
 use Rattle.zone.proofs.Laws.RoundTrip.{Number, Numbers, part, part_add, part_one, number_part, row_part}

@@ -1,8 +1,7 @@
 -- The index of a refused head is that of an element that its count byte counts, or 0.
 use Rattle.std.proofs.Common.{ℕ, zero, suc, ◌+◌, ◌≤◌, ◌≡◌, refl, ◌&&◌, List, [], ◌∷◌, arith, leb-true, leb, eqb, length, take, length-take}
 use Rattle.solver.specs.Refusals.{RefusesOnly, accepts}
-use Rattle.solver.proofs.Laws.Refusals.{bind_refuses, test_refuses}
-use Rattle.solver.proofs.Laws.Tests.{and_true}
+use Rattle.solver.proofs.Promise.{bind_refuses, test_refuses, and_true}
 use Rattle.zone.specs.declared.record.building_element.Element.{Element}
 use Rattle.zone.specs.Format.ElementLayout.{kind_valid_at, size_at}
 use Rattle.zone.specs.Format.Decode.{zone_at}

@@ -2,7 +2,7 @@
 use Rattle.std.proofs.Common.{ℕ, zero, suc, ◌+◌, ◌≤◌, ◌<◌, ◌≡◌, refl, ◌&&◌, List, map, arith, leb-true, leb, eqb, length, take, length-take}
 use Rattle.solver.specs.Result.{ok}
 use Rattle.solver.specs.Refusals.{RefusesOnly, accepts}
-use Rattle.solver.proofs.Laws.Refusals.{bind_refuses, test_refuses}
+use Rattle.solver.proofs.Promise.{bind_refuses, test_refuses, and_true}
 use Rattle.zone.specs.declared.record.building_element.Element.{Element}
 use Rattle.zone.specs.declared.record.zone_record.Zone.{Zone}
 use Rattle.zone.specs.Record.Numbers as Number
@@ -32,7 +32,6 @@ use Rattle.zone.specs.Claims.HeadRefusals.{
 use Rattle.zone.proofs.Laws.Ranges.{count_few, counts_few}
 use Rattle.zone.proofs.Laws.Structure.{length_valid, structured}
 use Rattle.zone.proofs.Laws.Required.{required_refuses}
-use Rattle.solver.proofs.Laws.Tests.{and_true}
 
 -- ---- their numbers
 

@@ -1,7 +1,7 @@
 -- The index of a refusal is that of an element of the zone, or 0.
 use Rattle.std.proofs.Common.{ℕ, zero, suc, ◌+◌, ◌≤◌, Bool, ◌&&◌, List, [], ◌∷◌, map, arith, leb, eqb, length, take, length-take, Float}
 use Rattle.solver.specs.Refusals.{RefusesOnly, SolveRefusal, accepts, refuses, solve_divisor, solve_temperature}
-use Rattle.solver.proofs.Laws.Refusals.{bind_refuses, cond_refuses, require_refuses, test_refuses}
+use Rattle.solver.proofs.Promise.{bind_refuses, cond_refuses, require_refuses, test_refuses}
 use Rattle.zone.specs.declared.record.building_element.Coefficients.{Coefficients}
 use Rattle.zone.specs.declared.record.building_element.Element.{Element}
 use Rattle.zone.specs.declared.record.zone_record.Zone.{Zone}

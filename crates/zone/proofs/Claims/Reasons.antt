@@ -2,7 +2,7 @@
 use Rattle.std.proofs.Common.{ℕ, zero, suc, ◌+◌, ◌<◌, ◌≡◌, refl, subst, true, false, ◌&&◌, List, arith, Float}
 use Rattle.solver.specs.Result.{Result, ok, refused, bind}
 use Rattle.solver.specs.Refusals.{RefusesOnly, accepts, refuses}
-use Rattle.solver.proofs.Laws.Refusals.{bind_refuses, refuses_also}
+use Rattle.solver.proofs.Promise.{bind_refuses, refuses_also}
 use Rattle.zone.specs.declared.record.building_element.Coefficients.{Coefficients}
 use Rattle.zone.specs.declared.record.zone_record.Zone.{Zone}
 use Rattle.zone.specs.declared.format.conditions.Conditions.{Conditions}

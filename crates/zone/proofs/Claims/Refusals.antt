@@ -2,8 +2,7 @@
 use Rattle.std.proofs.Common.{◌≡◌, refl, ℕ, zero, suc, ◌<◌, true, ◌&&◌, List, [], arith, Float}
 use Rattle.solver.specs.Result.{Result, ok, refused}
 use Rattle.solver.specs.Refusals.{SolveRefusal, RefusesOnly, accepts, refuses, solve_divisor, solve_temperature}
-use Rattle.solver.proofs.Laws.Result.{ok_not_refused}
-use Rattle.solver.proofs.Laws.Refusals.{bind_refuses, cond_refuses, test_refuses, refuses_also}
+use Rattle.solver.proofs.Promise.{ok_not_refused, bind_refuses, cond_refuses, test_refuses, refuses_also}
 use Rattle.zone.specs.declared.record.building_element.Coefficients.{Coefficients}
 use Rattle.zone.specs.declared.record.zone_record.Zone.{Zone}
 use Rattle.zone.specs.declared.format.conditions.Conditions.{Conditions}

@@ -3,11 +3,9 @@ use Rattle.std.proofs.Common.{ℕ, ◌≤◌, ◌≡◌, refl, sym, ap, ◌∙�
 use lib.Ieee.{le, ne, is_nan}
 use lib.Ieee.Compare.{differs_from_itself}
 use Rattle.std.proofs.lemmas.Float.{T_from_true}
-use Rattle.solver.proofs.Laws.Order.{le_no_nan}
+use Rattle.solver.proofs.Promise.{le_no_nan, bind_is, bind_ok, require_ok, and_true}
 use Rattle.solver.specs.F64.{decimal}
 use Rattle.solver.specs.Result.{ok, require, require_at}
-use Rattle.solver.proofs.Laws.Result.{bind_is, bind_ok, require_ok}
-use Rattle.solver.proofs.Laws.Tests.{and_true}
 use Rattle.zone.specs.Record.Numbers.{conditions_value, false_entry, limit_value}
 use Rattle.zone.specs.Format.Bytes.{num_at, float_at, float_size}
 use Rattle.zone.specs.Format.Layout.{first_rate, second_rate, first_element_hour, conditions_length}

@@ -1,9 +1,8 @@
 -- What start-up's answers mean: 15, and the settled temperatures.
 use Rattle.std.proofs.Common.{ℕ, zero, suc, ◌<◌, ◌≡◌, refl, subst, ◌∙◌, Bool, true, false, cond, List, arith, Float}
 use Rattle.solver.specs.Result.{Result, ok, refused, bind}
-use Rattle.solver.proofs.Laws.Result.{bind_ok, ok_inj}
+use Rattle.solver.proofs.Promise.{bind_ok, ok_inj, refusal_by}
 use Rattle.solver.specs.Refusals.{RefusesOnly}
-use Rattle.solver.proofs.Laws.Refusals.{refusal_by}
 use Rattle.zone.specs.declared.record.building_element.Coefficients.{Coefficients}
 use Rattle.zone.specs.declared.record.zone_record.Zone.{Zone}
 use Rattle.zone.specs.Check.ZoneTest.{zone_test}

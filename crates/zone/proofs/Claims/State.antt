@@ -2,8 +2,7 @@
 use Rattle.std.proofs.Common.{◌≡◌, subst, ◌&&◌, ℕ, List, Float}
 use Rattle.solver.specs.F64.{decimal, zero64}
 use Rattle.solver.specs.Result.{ok, require, require_at}
-use Rattle.solver.proofs.Laws.Result.{bind_ok, require_ok}
-use Rattle.solver.proofs.Laws.Tests.{and_true}
+use Rattle.solver.proofs.Promise.{bind_ok, require_ok, and_true}
 use Rattle.zone.specs.declared.record.building_element.Coefficients.{Coefficients}
 use Rattle.zone.specs.declared.record.zone_record.Zone.{Zone}
 use Rattle.zone.specs.declared.calls.state.State.{State}

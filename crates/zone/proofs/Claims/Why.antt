@@ -2,7 +2,7 @@
 use Rattle.std.proofs.Common.{ℕ, ◌≡◌, refl, sym, ap, subst, ◌∙◌, ◌↔◌, List, Float}
 use Rattle.solver.specs.Result.{Result, ok, refused, bind}
 use Rattle.solver.specs.Refusals.{RefusesOnly, accepts, refuses}
-use Rattle.solver.proofs.Laws.Result.{bind_ok, bind_is, ok_inj, ok_not_refused}
+use Rattle.solver.proofs.Promise.{bind_ok, bind_is, ok_inj, ok_not_refused}
 use Rattle.zone.specs.declared.record.building_element.Coefficients.{Coefficients}
 use Rattle.zone.specs.declared.record.zone_record.Zone.{Zone}
 use Rattle.zone.specs.declared.format.conditions.Conditions.{Conditions}

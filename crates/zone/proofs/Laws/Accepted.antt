@@ -2,7 +2,7 @@
 use Rattle.std.proofs.Common.{ℕ, ◌≤◌, ◌≡◌, sym, ap, ◌∙◌, List, length, Float}
 use Rattle.solver.specs.F64.{◌+ᶠ◌}
 use Rattle.solver.specs.Result.{ok}
-use Rattle.solver.proofs.Laws.Result.{bind_is, bind_ok, ok_inj}
+use Rattle.solver.proofs.Promise.{bind_is, bind_ok, ok_inj}
 use Rattle.zone.specs.Format.Layout.{conditions_length}
 use Rattle.zone.specs.declared.record.building_element.Coefficients.{Coefficients}
 use Rattle.zone.specs.declared.format.conditions.Conditions.{Conditions}

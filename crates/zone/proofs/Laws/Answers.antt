@@ -3,7 +3,7 @@ use Rattle.std.proofs.Common.{ℕ, ◌≡◌, sym, ap, ◌∙◌}
 use Rattle.std.specs.Prelude.{Ok, Err}
 use Rattle.std.specs.Prelude as Rust
 use Rattle.solver.specs.Result.{Result, ok, refused}
-use Rattle.solver.proofs.Laws.Result.{ok_inj, ok_not_refused}
+use Rattle.solver.proofs.Promise.{ok_inj, ok_not_refused}
 use Rattle.zone.specs.Answers.{number_of, index_of, answered}
 use Rattle.zone.specs.declared.record.refusal.Refusal.{Refusal}
 use Rattle.zone.specs.declared.physics.balance.HeatBalance.{HeatBalance}

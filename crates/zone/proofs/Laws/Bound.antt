@@ -6,8 +6,7 @@ use Rattle.solver.specs.Closeness.{within_state_bound}
 use Rattle.solver.specs.Result.{ok, require}
 use Rattle.solver.specs.Chain.{outer_slot, element_within, nodes_within}
 use Rattle.solver.specs.FastSolver.{at_most24, all_divisors_valid, temperatures_of, temperatures_valid, solve}
-use Rattle.solver.proofs.Laws.Result.{bind_ok, require_ok, ok_inj}
-use Rattle.solver.proofs.Laws.Tests.{and_true}
+use Rattle.solver.proofs.Promise.{bind_ok, require_ok, ok_inj, and_true}
 use Rattle.zone.specs.declared.record.building_element.Coefficients.{Coefficients}
 use Rattle.zone.specs.declared.record.zone_record.Zone.{Zone}
 use Rattle.zone.specs.declared.format.conditions.Conditions.{Conditions}

@@ -1,7 +1,7 @@
 -- A number by its bytes, as the library reads it.
 use Rattle.std.proofs.Common.{◌≡◌, ℕ, ◌+◌, ◌≤◌, List, ◌∷◌, length, take, drop, get_or, arith, refl, ap, ◌∙◌}
 use Rattle.std.specs.Int.{w16, w32, w64, from_be_bytes}
-use Rattle.solver.proofs.Laws.Parts.{drop_next}
+use Rattle.solver.proofs.Promise.{drop_next}
 use Rattle.zone.specs.Format.Bytes.{big_endian_from, num_at}
 
 module _ (s : List ℕ) (at : ℕ) where

@@ -4,7 +4,7 @@ use Rattle.std.specs.Prelude.{Option, Some, None}
 use lib.Ieee.{lt}
 use Rattle.solver.specs.F64.{zero64}
 use Rattle.solver.specs.Result.{ok, require}
-use Rattle.solver.proofs.Laws.Result.{bind_ok, ok_inj}
+use Rattle.solver.proofs.Promise.{bind_ok, ok_inj}
 use Rattle.zone.specs.declared.record.building_element.Coefficients.{Coefficients}
 use Rattle.zone.specs.declared.record.zone_record.Zone.{Zone}
 use Rattle.zone.specs.declared.format.conditions.Conditions.{Conditions}

@@ -3,7 +3,7 @@ use Rattle.std.proofs.Common.{◌≡◌, sym, ◌∙◌, Bool, true, false, cond
 use Rattle.std.proofs.lemmas.Nat.{and_mask, shr-shr}
 use Rattle.std.specs.Int.Bits.{bit_and}
 use Rattle.solver.specs.F64.{◌+ᶠ◌}
-use Rattle.solver.proofs.Laws.Parts.{drop_next}
+use Rattle.solver.proofs.Promise.{drop_next}
 use Rattle.zone.specs.Record.BuildingElement.{add_closed, is_two_nodes, number_of_nodes, nodes_of}
 use Rattle.zone.specs.declared.record.building_element.Kind.{Kind}
 use Rattle.zone.specs.declared.record.building_element.Element.{Element}

@@ -1,6 +1,6 @@
 -- What a good kind and count of treatments say of an element's counts and size.
 use Rattle.std.proofs.Common.{ℕ, ◌+◌, ◌*◌, ◌≤◌, ◌≡◌, Bool, true, false, cond, List, arith, leb-true, leb, length, get_or}
-use Rattle.solver.proofs.Laws.Tests.{and_true}
+use Rattle.solver.proofs.Promise.{and_true}
 use Rattle.zone.specs.Format.Bytes.{float_size}
 use Rattle.zone.specs.Format.Layout.{element_arrays, element_hour_size, five_nodes_size, transparent_size}
 use Rattle.zone.specs.Record.BuildingElement.{is_two_nodes, number_of_nodes}

@@ -8,7 +8,7 @@ use Rattle.solver.specs.Result.{ok}
 use Rattle.solver.specs.Repeat.{repeat}
 use Rattle.solver.specs.Chain.{outer_slot}
 use Rattle.solver.specs.FastSolver.{at_most24}
-use Rattle.solver.proofs.Laws.Fits.{AllFit, set_fits, zeros_fit, either_fits, repeat_fits, solve_fits}
+use Rattle.solver.proofs.Promise.{AllFit, set_fits, zeros_fit, either_fits, repeat_fits, solve_fits}
 use Rattle.zone.specs.declared.record.building_element.Coefficients.{Coefficients}
 use Rattle.zone.specs.declared.record.building_element.Element.{Element}
 use Rattle.zone.specs.declared.record.building_element.ElementHour.{ElementHour}

@@ -3,7 +3,7 @@ use Rattle.std.proofs.Common.{◌≡◌, ◌∙◌, List, ℕ, ◌<◌, arith, l
 use denote.Param.Members.{Mut}
 use Rattle.std.specs.Fn.{Called}
 use Rattle.std.specs.Array.{IsFromFnResult}
-use Rattle.solver.proofs.Laws.FromFn.{from_fn_is}
+use Rattle.solver.proofs.Promise.{from_fn_is}
 use Rattle.zone.specs.Physics.Slots.{with_terms}
 use Rattle.zone.proofs.Laws.Terms.{terms_length, terms_at}
 

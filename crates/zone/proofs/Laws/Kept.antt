@@ -5,8 +5,7 @@ use lib.Ieee.{nan, binary64, of_bits, fits}
 use lib.Ieee.Bits.{of_bits-to_bits}
 use Rattle.solver.specs.F64.{zero64}
 use Rattle.solver.specs.FastSolver.{at_most24}
-use Rattle.solver.specs.Inner.Columns.{column_of}
-use Rattle.solver.specs.Inner.Apart.{columns, factor_apart}
+use Rattle.solver.specs.Promise.{column_of, columns, factor_apart}
 use Rattle.zone.specs.declared.record.building_element.Element.{Element}
 use Rattle.zone.specs.declared.record.building_element.ElementHour.{ElementHour}
 use Rattle.zone.specs.declared.record.building_element.HeatFlowDirection.{HeatFlowDirection}
@@ -18,7 +17,7 @@ use Rattle.zone.specs.Physics.System.{area_of, area_el_total, share_of, directio
 use Rattle.zone.specs.Inner.Assembly.{convective_by, Chains, chains, element_rows}
 use Rattle.zone.specs.Inner.Assembled.{h_ri_of, convective_sum, element_chains, couplings_of}
 use Rattle.zone.specs.Inner.Kept.{h_ci_in, rows_by, chains_by, couplings_by, convective_by_sum, Factors, factors, factors_in, factors_by, FactorsOf, Arrays, arrays, zeros, Held, held, none_held, factors_held, numbers_held, numbers_by, Key, same_key, emptied, held_with, keep_factors, Kept}
-use Rattle.solver.proofs.Laws.Tests.{and_true}
+use Rattle.solver.proofs.Promise.{and_true}
 use Rattle.zone.proofs.Laws.Key.{elements_same}
 use Rattle.zone.proofs.Laws.Terms.{repeat_same, terms_at}
 use Rattle.zone.proofs.Laws.Agree.{Agree, sum2_same, convective_agree, couplings_same}

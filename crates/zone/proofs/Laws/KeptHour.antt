@@ -6,9 +6,7 @@ use lib.Ieee.Fits.{mul-fits}
 use Rattle.solver.specs.F64.{◌/ᶠ◌, zero64, decimal}
 use Rattle.solver.specs.FastSolver.{at_most24}
 use Rattle.solver.specs.Result.{Result}
-use Rattle.solver.specs.Inner.Columns.{column_of}
-use Rattle.solver.specs.Inner.Reduced.{reduce_chains, inner_shares}
-use Rattle.solver.specs.Inner.Apart.{Columns, columns, factor_apart, reduced_base}
+use Rattle.solver.specs.Promise.{column_of, reduce_chains, inner_shares, Columns, columns, factor_apart, reduced_base}
 use Rattle.solver.specs.declared.dense_part.RightSide.{RightSide}
 use Rattle.zone.specs.declared.record.building_element.Element.{Element}
 use Rattle.zone.specs.declared.record.building_element.ElementHour.{ElementHour}

@@ -3,10 +3,9 @@ use Rattle.std.proofs.Common.{◌≡◌, refl, sym, ap, subst, ◌∙◌, ℕ, m
 use Rattle.std.specs.Float.{nan}
 use Rattle.solver.specs.F64.{zero64}
 use Rattle.solver.specs.FastSolver.{at_most24}
-use Rattle.solver.specs.Inner.Columns.{column_of}
-use Rattle.solver.specs.Inner.Apart.{columns, factor_apart, factored_columns}
+use Rattle.solver.specs.Promise.{column_of, columns, factor_apart, factored_columns}
 use Rattle.solver.specs.declared.system.Factors.{Factors}
-use Rattle.solver.proofs.Laws.Together.{factored_are}
+use Rattle.solver.proofs.Promise.{factored_are}
 use Rattle.zone.specs.declared.physics.assembly.Key as Rust
 use Rattle.zone.specs.declared.hour.kept.KeptMatrix.{KeptMatrix}
 use Rattle.zone.specs.declared.physics.assembly.ElementSums.{ElementSums}

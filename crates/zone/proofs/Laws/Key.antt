@@ -2,9 +2,7 @@
 use Rattle.std.proofs.Common.{◌≡◌, refl, sym, ap, subst, ◌∙◌, ⊎_elim, Bool, true, false, ◌&&◌, List, ℕ, suc, zero, ◌+◌, ◌-◌, ◌<◌, ◌≤◌, eq-or-lt_of_le, add-one, arith, eqb-true, eqb, length, get_or, take, drop}
 use lib.Pointwise.{pointwise}
 use Rattle.solver.specs.Repeat.{all_of, all}
-use Rattle.solver.proofs.Laws.Parts.{drop_next}
-use Rattle.solver.proofs.Laws.Tests.{and_true}
-use Rattle.solver.proofs.Laws.Turns.{all_last}
+use Rattle.solver.proofs.Promise.{drop_next, and_true, all_last}
 use Rattle.zone.specs.declared.record.building_element.HeatFlowDirection.{HeatFlowDirection}
 use Rattle.zone.specs.declared.record.building_element.HeatFlowDirection.TheVariants.{Horizontal, Upwards, Downwards}
 use Rattle.zone.specs.Record.BuildingElement.{direction_code, is_direction}

@@ -3,7 +3,7 @@ use Rattle.std.proofs.Common.{ℕ, ◌≡◌, refl, subst, Bool, true, false, Li
 use lib.Ieee.{lt}
 use Rattle.solver.specs.F64.{zero64}
 use Rattle.solver.specs.Result.{ok}
-use Rattle.solver.proofs.Laws.Order.{clash, lt_irreflexive}
+use Rattle.solver.proofs.Promise.{clash, lt_irreflexive}
 use Rattle.zone.specs.declared.record.building_element.Coefficients.{Coefficients}
 use Rattle.zone.specs.declared.record.zone_record.Zone.{Zone}
 use Rattle.zone.specs.declared.format.conditions.Conditions.{Conditions}

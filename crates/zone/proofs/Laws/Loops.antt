@@ -5,9 +5,8 @@ use Rattle.solver.specs.declared.sums.Sum2.{Sum2}
 use Rattle.solver.specs.Repeat.{repeat}
 use Rattle.solver.specs.Sums.{sum2_add, sum2_add_all, sum2_sum, terms}
 use Rattle.zone.specs.Physics.Slots.{set_term}
-pub use Rattle.solver.proofs.Laws.Counting.{repeat_turn, repeat_end}
-use Rattle.solver.proofs.Laws.Counting.{repeat_next}
-use Rattle.solver.proofs.Laws.Sums.{sum2_terms_next, sum2_terms_done}
+pub use Rattle.solver.proofs.Promise.{repeat_turn, repeat_end}
+use Rattle.solver.proofs.Promise.{repeat_next, sum2_terms_next, sum2_terms_done}
 
 module _ {A : Type 0} where
   -- a turn that stores a value worked out before

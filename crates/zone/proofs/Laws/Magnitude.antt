@@ -7,7 +7,7 @@ use lib.Ieee.Fits.{down_pos}
 use lib.Ieee.Order.{round_mono}
 use Rattle.solver.specs.F64.{◌+ᶠ◌, ◌/ᶠ◌, decimal}
 use Rattle.solver.specs.Closeness.{within_state_bound}
-use Rattle.solver.proofs.Laws.Tests.{and_true}
+use Rattle.solver.proofs.Promise.{and_true}
 use Rattle.zone.specs.Check.Ranges.{temperature_range, heating_setpoint_range}
 
 -- finite, and at most b in size

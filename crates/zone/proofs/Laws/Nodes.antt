@@ -7,7 +7,7 @@ use Rattle.solver.specs.F64.{zero64}
 use Rattle.solver.specs.Repeat.{repeat}
 use Rattle.solver.specs.Chain.{outer_slot}
 use Rattle.solver.specs.FastSolver.{at_most24}
-pub use Rattle.solver.proofs.Laws.Together.{at_most as at_most_24_le}
+pub use Rattle.solver.proofs.Promise.{at_most as at_most_24_le}
 use Rattle.zone.specs.Physics.NodeLayout.{nodes_at, first_node, to_slots_at, to_nodes_at, to_slots, to_nodes}
 use Rattle.zone.proofs.Laws.Blocks.{blocks_length, blocks_other, blocks_at, apart}
 

@@ -4,16 +4,9 @@ use Rattle.std.proofs.Common.{◌≡◌, refl, sym, ap, ◌∙◌, Bool, true, f
 use Rattle.solver.specs.F64.{zero64}
 use Rattle.solver.specs.Result.{ok, refused, bind}
 use Rattle.solver.specs.FastSolver.{at_most24, solve}
-use Rattle.solver.specs.Inner.Factored.{solved_res}
-use Rattle.solver.specs.Inner.Columns.{column_of}
-use Rattle.solver.specs.Inner.Reduced.{with_load}
-use Rattle.solver.specs.Inner.Apart.{Columns, columns, factor_apart}
+use Rattle.solver.specs.Promise.{solved_res, column_of, with_load, Columns, columns, factor_apart}
 use Rattle.solver.specs.declared.system.Matrix.{Matrix}
-use Rattle.solver.proofs.Laws.Solver.{fast_solver_is}
-use Rattle.solver.proofs.Laws.ColumnStep.{Apart}
-use Rattle.solver.proofs.Laws.Together.{at_most, column_length, own_column, rate_apart, apart_loaded}
-use Rattle.solver.proofs.Laws.Loads.{load_divisor}
-use Rattle.solver.proofs.Laws.Result.{ok_not_refused}
+use Rattle.solver.proofs.Promise.{fast_solver_is, Apart, at_most, column_length, own_column, rate_apart, apart_loaded, load_divisor, ok_not_refused}
 use Rattle.zone.specs.declared.record.zone_record.Zone.{Zone}
 use Rattle.zone.specs.declared.format.conditions.Conditions.{Conditions}
 use Rattle.zone.specs.Physics.Ventilation.{calc_vent_heat_transfer_coeff}

@@ -5,7 +5,7 @@ use Rattle.std.specs.List.{list_all}
 use Rattle.std.specs.Ordering.{partial_le, nat_cmp}
 use Rattle.std.proofs.Common.{Some, rules, tests, ℕ, ◌*◌, ◌%◌, ◌^◌, ◌<◌, ◌≤◌, ◌≡◌, refl, ap, Bool, true, ◌&&◌, List, [], ◌∷◌, arith, mod-eq_of_lt, one-mul, leb-true, pow_mono, leb, Float}
 use Rattle.solver.specs.Result.{ok, require}
-use Rattle.solver.proofs.Laws.Result.{bind_ok, require_ok}
+use Rattle.solver.proofs.Promise.{bind_ok, require_ok, and_true}
 use Rattle.zone.specs.Record.Numbers.{structure}
 use Rattle.zone.specs.Check.Ranges.{all_in, area_range, pitch_range, coefficient_range, h_pli_range, k_pli_range, fraction_range, sky_range}
 use Rattle.zone.specs.Check.Ranges.{delta_r_range, irradiance_range, gains_range, power_limit_range, rate_range}
@@ -15,7 +15,6 @@ use Rattle.zone.specs.Inner.Check.{within}
 use Rattle.zone.specs.declared.check.ranges.TheConstants.{AREA, PITCH, COEFFICIENT, H_PLI, K_PLI, FRACTION, SKY, DELTA_R, IRRADIANCE, GAINS}
 use Rattle.zone.specs.declared.check.ranges.TheConstants.{POWER_LIMIT, RATE, TEMPERATURE, HEATING_SETPOINT, SETPOINT, HOUR_LENGTH}
 use Rattle.zone.specs.declared.record.zone_record.Zone.{Zone}
-use Rattle.solver.proofs.Laws.Tests.{and_true}
 
 -- a test of each of a list, as an iterator's `all` makes it
 pub all_in_is : (range : Float → Bool) (a : List Float) → list_all range a ≡ all_in range a

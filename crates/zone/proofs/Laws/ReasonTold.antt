@@ -3,8 +3,7 @@ use Rattle.std.proofs.Common.{ℕ, ◌≡◌, refl, sym, ap, subst, ◌∙◌, B
 use lib.Ieee.{lt, eq, ne}
 use Rattle.solver.specs.Result.{Result, ok}
 use Rattle.solver.specs.Closeness.{close_in_windows_test}
-use Rattle.solver.proofs.Laws.Result.{bind_ok, ok_inj}
-use Rattle.solver.proofs.Laws.Order.{clash}
+use Rattle.solver.proofs.Promise.{bind_ok, ok_inj, clash}
 use Rattle.zone.specs.declared.record.building_element.Coefficients.{Coefficients}
 use Rattle.zone.specs.declared.record.zone_record.Zone.{Zone}
 use Rattle.zone.specs.declared.format.conditions.Conditions.{Conditions}

@@ -8,9 +8,7 @@ use Rattle.solver.specs.Closeness.{close_in_demand}
 use Rattle.solver.specs.FastSolver.{all_divisors_valid, temperatures_of, temperatures_valid, solve}
 use Rattle.solver.specs.Result.{Result, ok, bind, require, require_at}
 use Rattle.solver.specs.Refusals.{RefusesOnly, accepts, refuses, SolveRefusal, solve_divisor, solve_temperature}
-use Rattle.solver.proofs.Laws.Order.{lt_irreflexive}
-use Rattle.solver.proofs.Laws.Signs.{never}
-use Rattle.solver.proofs.Laws.Refusals.{bind_refuses, require_refuses, refuses_also, test_refuses}
+use Rattle.solver.proofs.Promise.{lt_irreflexive, never, bind_refuses, require_refuses, refuses_also, test_refuses}
 use Rattle.zone.specs.declared.record.building_element.Coefficients.{Coefficients}
 use Rattle.zone.specs.declared.record.zone_record.Zone.{Zone}
 use Rattle.zone.specs.declared.format.conditions.Conditions.{Conditions}

@@ -2,9 +2,7 @@
 use Rattle.std.proofs.Common.{ℕ, zero, suc, ◌+◌, ◌<◌, ◌≤◌, ◌≡◌, refl, sym, ◌∙◌, Bool, true, false, List, [], ◌∷◌, arith, length, take, drop, get_or, drop_of_length-le}
 use Rattle.solver.specs.Result.{Result, ok, refused, require_at}
 use Rattle.solver.specs.Refusals.{RefusesOnly, accepts}
-use Rattle.solver.proofs.Laws.Refusals.{test_refuses}
-use Rattle.solver.proofs.Laws.Result.{bind_ok, require_ok}
-use Rattle.solver.proofs.Laws.Parts.{drop_next}
+use Rattle.solver.proofs.Promise.{test_refuses, bind_ok, require_ok, drop_next}
 use Rattle.zone.specs.Check.ZoneTest.{all_required}
 
 -- a loop over a list whose items have to pass: the test of those that are left is the test of all

@@ -6,8 +6,7 @@ use lib.Ieee.Bits.{to_bits-of_bits, of_bits-to_bits, to_bits-lt}
 use Rattle.zone.specs.Format.Bytes.{Bytes, big_endian_from, big_endian, num_at, float_at, bytes_of, float_size}
 use Rattle.zone.specs.Format.Decode.{floats_at}
 use Rattle.zone.specs.Format.Encode.{float_bytes, row_bytes}
-use Rattle.solver.proofs.Laws.Tests.{and_true}
-use Rattle.solver.proofs.Laws.Fits.{AllFit}
+use Rattle.solver.proofs.Promise.{and_true, AllFit}
 use Rattle.zone.proofs.Claims.ForBook.{length_bytes_of}
 
 pub big_endian_snoc : (n : ℕ) (bs : List ℕ) (b : ℕ) → big_endian_from n (bs ++ (b ∷ [])) ≡ big_endian_from n bs * 256 + b

@@ -8,7 +8,7 @@ use Rattle.std.specs.List.{list_all, zip}
 use Rattle.solver.specs.F64.{decimal, zero64}
 use Rattle.solver.specs.Closeness as Closeness
 use Rattle.solver.specs.Result.{Result, ok, refused, bind, require}
-use Rattle.solver.proofs.Laws.Result.{bind_ok}
+use Rattle.solver.proofs.Promise.{bind_ok}
 use Rattle.zone.specs.declared.record.zone_record.Zone.{Zone}
 use Rattle.zone.specs.declared.format.conditions.Conditions.{Conditions}
 use Rattle.zone.specs.declared.format.conditions.AirChangesPerHourArgument.{AirChangesPerHourArgument}

@@ -2,7 +2,7 @@
 use Rattle.std.proofs.Common.{ℕ, suc, ◌+◌, ◌-◌, ◌<◌, ◌≤◌, ◌≡◌, refl, ap, ◌∙◌, Bool, true, false, ◌&&◌, List, arith, le-leb, leb-true, eq-eqb, ne_eqb, eqb-true, leb, eqb, length}
 use borrow.Author.Tests.{lt-leb}
 use Rattle.solver.specs.Result.{ok, refused, require, require_at}
-use Rattle.solver.proofs.Laws.Result.{bind_ok, require_ok, ok_inj}
+use Rattle.solver.proofs.Promise.{bind_ok, require_ok, ok_inj, and_true}
 use Rattle.zone.specs.Record.Numbers.{head_short, head_length, head_version, structure}
 use Rattle.zone.specs.Format.ElementLayout.{kind_valid_at, size_at}
 use Rattle.zone.specs.Format.Layout.{length_field, shortest_length, longest_length, length_size, version_in, basis_in, count_in, first_element, element_floats}
@@ -10,7 +10,6 @@ use Rattle.zone.specs.Check.ZoneTest.{count_valid}
 use Rattle.zone.specs.Format.Head.{elements_end, structure_of}
 use Rattle.zone.specs.Inner.Format.{structure_within}
 use Rattle.zone.proofs.Laws.Lists.{one_left}
-use Rattle.solver.proofs.Laws.Tests.{and_true}
 
 abbrev pub length_valid : ℕ → Bool
 length_valid n = leb shortest_length n && leb n longest_length

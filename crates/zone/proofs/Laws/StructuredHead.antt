@@ -1,7 +1,7 @@
 -- A head whose structure is right, before any value is judged: what it says, and that its zone then passes or fails as the head does.
 use Rattle.std.proofs.Common.{ℕ, suc, zero, ◌+◌, ◌-◌, ◌≤◌, ◌≡◌, refl, sym, ap, subst, ◌∙◌, List, le-leb, Float, take, length, get_or, replicate, take_at}
 use Rattle.solver.specs.Result.{Result, ok, refused, bind}
-use Rattle.solver.proofs.Laws.Result.{ok_inj, bind_ok}
+use Rattle.solver.proofs.Promise.{ok_inj, bind_ok}
 use Rattle.zone.specs.Record.Numbers.{structure}
 use Rattle.zone.specs.Format.Layout.{count_in, first_element}
 use Rattle.zone.specs.Format.ElementLayout.{max_treatments, kind_of, size_at}

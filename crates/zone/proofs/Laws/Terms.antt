@@ -3,7 +3,7 @@ use Rattle.std.proofs.Common.{◌≡◌, refl, sym, ap, subst, ◌∙◌, ⊎_el
 use lib.Ieee.{nan}
 use Rattle.solver.specs.Repeat.{repeat_of, repeat}
 use Rattle.solver.specs.Sums.{sum2, terms_of, terms}
-use Rattle.solver.proofs.Laws.Parts.{drop_next}
+use Rattle.solver.proofs.Promise.{drop_next}
 use Rattle.zone.specs.Physics.Slots.{set_term, with_terms}
 use Rattle.zone.specs.Inner.Assembly.{at}
 

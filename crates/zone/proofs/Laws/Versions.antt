@@ -2,8 +2,7 @@
 use Rattle.std.proofs.Common.{ℕ, zero, suc, ◌≤◌, ◌≡◌, refl, sym, ◌∙◌, ◌≢◌, Bool, true, false, cond, List, arith, leb, leb-true, le-leb}
 use borrow.Author.Tests.{lt-leb}
 use Rattle.solver.specs.Result.{Result, ok, refused, require}
-use Rattle.solver.proofs.Laws.Result.{bind_ok, require_ok}
-use Rattle.solver.proofs.Laws.Tests.{and_true}
+use Rattle.solver.proofs.Promise.{bind_ok, require_ok, and_true}
 use Rattle.zone.specs.declared.record.zone_record.Zone.{Zone}
 use Rattle.zone.specs.declared.format.conditions.Conditions.{Conditions}
 use Rattle.zone.specs.declared.format.conditions.FixedRate.{FixedRate}

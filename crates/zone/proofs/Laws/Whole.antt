@@ -17,10 +17,7 @@ use Rattle.solver.specs.Chain.{outer_slot, adjust_diagonal, eliminate_chain, eli
 use Rattle.solver.specs.FastSolver.{at_most24, diag_of, dense_of, all_divisors_valid, solve}
 use Rattle.solver.specs.Lu.{pivots_valid}
 use Rattle.solver.specs.Numbers as SolveNumber
-use Rattle.solver.proofs.Laws.Result.{bind_ok, require_ok}
-use Rattle.solver.proofs.Laws.Stores.{less_or_not}
-use Rattle.solver.proofs.Laws.Tests.{and_true}
-use Rattle.solver.proofs.Laws.Turns.{repeat_keeps, repeat_stays}
+use Rattle.solver.proofs.Promise.{bind_ok, require_ok, less_or_not, and_true, repeat_keeps, repeat_stays}
 use Rattle.zone.specs.declared.record.building_element.Coefficients.{Coefficients}
 use Rattle.zone.specs.declared.record.building_element.Element.{Element}
 use Rattle.zone.specs.declared.record.zone_record.Zone.{Zone}

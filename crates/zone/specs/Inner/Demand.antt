@@ -14,7 +14,7 @@ use Rattle.zone.specs.declared.hour.windows.VentilationChoice.{VentilationChoice
 use Rattle.zone.specs.Physics.Slots.{air}
 use Rattle.zone.specs.Physics.Ventilation.{ach_req_to_reach_temperature}
 use Rattle.solver.specs.F64.{zero64}
-use Rattle.solver.specs.Inner.Factored.{solved_res}
+use Rattle.solver.specs.Promise.{solved_res}
 use Rattle.zone.specs.declared.hour.load.HeatCoolLoad.{HeatCoolLoad}
 use Rattle.zone.specs.Record.Numbers.{cooling_below_heating, ventilation_below_heating}
 use Rattle.zone.specs.Physics.Ventilation.{calc_vent_heat_transfer_coeff}

@@ -4,7 +4,7 @@ use Rattle.std.specs.Prelude.{None, Option, Some}
 use Rattle.std.specs.Prelude.{Bool, true, List, Float}
 use Rattle.solver.specs.F64.{◌+ᶠ◌}
 use Rattle.solver.specs.Result.{Result, ok, refused, bind}
-use Rattle.solver.specs.Inner.Factored.{solved_res}
+use Rattle.solver.specs.Promise.{solved_res}
 use Rattle.zone.specs.declared.record.zone_record.Zone.{Zone}
 use Rattle.zone.specs.declared.format.conditions.Conditions.{Conditions}
 use Rattle.zone.specs.declared.calls.state.Demand.{Demand}

@@ -7,9 +7,7 @@ use Rattle.solver.specs.F64.{◌/ᶠ◌, zero64}
 use Rattle.solver.specs.Repeat.{repeat}
 use Rattle.solver.specs.Sums.{sum2, terms}
 use Rattle.solver.specs.FastSolver.{at_most24}
-use Rattle.solver.specs.Inner.Columns.{column_of}
-use Rattle.solver.specs.Inner.Reduced.{reduce_chains, inner_shares}
-use Rattle.solver.specs.Inner.Apart.{Columns, columns, factor_apart}
+use Rattle.solver.specs.Promise.{column_of, reduce_chains, inner_shares, Columns, columns, factor_apart}
 use Rattle.zone.specs.declared.record.building_element.Element.{Element}
 use Rattle.zone.specs.declared.record.building_element.Coefficients.{Coefficients}
 use Rattle.zone.specs.declared.record.building_element.ElementHour.{ElementHour}

@@ -9,10 +9,7 @@ use Rattle.solver.specs.FastSolver.{at_most24}
 use Rattle.solver.specs.Answers.{number_of}
 use Rattle.solver.specs.declared.error.SolveError.{SolveError}
 use Rattle.solver.specs.Result.{Result, ok, refused, bind, require}
-use Rattle.solver.specs.Inner.Columns.{column_of, factor_last}
-use Rattle.solver.specs.Inner.Reduced.{reduce_chains, inner_shares, gather_loaded}
-use Rattle.solver.specs.Inner.Apart.{Columns, columns, factor_apart, substitute_apart}
-use Rattle.solver.specs.Inner.Factored.{Solved, solved_res}
+use Rattle.solver.specs.Promise.{column_of, factor_last, reduce_chains, inner_shares, gather_loaded, Columns, columns, factor_apart, substitute_apart, Solved, solved_res}
 use Rattle.zone.specs.Physics.Ventilation.{calc_vent_heat_transfer_coeff}
 use Rattle.zone.specs.declared.format.conditions.Conditions.{Conditions}
 use Rattle.zone.specs.Hour.Demand.{gains_heat_cool, frac_conv_gains_heat_cool}

@@ -4,7 +4,7 @@ ghost use Rattle.std.specs.Prelude.{◌≡◌, []};
 ghost use Rattle.solver.specs.Numbers.{divisor};
 ghost use Rattle.solver.specs.Result.{require};
 ghost use Rattle.solver.specs.Answers.{answered, number_in};
-ghost use Rattle.solver.specs.Inner.Factored.{solved};
+ghost use Rattle.solver.specs.Promise.{solved};
 ghost use Rattle.zone.specs.Inner.Assembled.{gains_per_area_from, zone_diagonal_from, zone_right_side_from};
 ghost use Rattle.zone.specs.Inner.Prepared.{last_in, rate_valid, load_in};
 ghost use Rattle.zone.specs.Inner.PreparedHour.{terms_in, prepared_in};

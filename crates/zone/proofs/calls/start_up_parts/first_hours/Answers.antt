@@ -6,7 +6,7 @@ use Rattle.zone.specs.Format.Decode.{no_element, no_element_hour}
 use Rattle.zone.specs.Calls.StartUp.{first_hour}
 use Rattle.zone.specs.Physics.Slots.{element}
 use Rattle.zone.proofs.Laws.Elements.{element_is}
-use Rattle.solver.proofs.Laws.FromFn.{from_fn_is}
+use Rattle.solver.proofs.Promise.{from_fn_is}
 use Rattle.zone.proofs.calls.start_up_parts.first_hours.Goals as goal
 
 pub returns : goal.returns
