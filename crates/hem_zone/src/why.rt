@@ -21,8 +21,8 @@ fn why(
     let mut zone = Zone::none();
     read_head(head, &mut zone)?;
     let (named, beside) = state_in(temps, nodes).why(&zone, conditions)?;
-    *reason = named as u64;
-    *load = beside as u64;
+    *reason = named.number();
+    *load = beside.number();
     Ok(())
 }
 

@@ -2,4 +2,5 @@ pub mod State
 pub mod Hour
 pub mod StartUp
 pub mod Why
+pub mod Numbers
 pub mod Answers

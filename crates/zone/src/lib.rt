@@ -1,4 +1,5 @@
-// A zone, hour by hour: heads, start-up, operative temperature, demand, why it is what it is, update and hour step. What the layers above may use is exported here.
+// A zone, hour by hour: heads, start-up, operative temperature, demand, why it is what it is, update and hour step.
+// What the layers above may use is exported here, and each record that a definition speaks of.
 #![tactic(auto)]
 
 mod calls;
@@ -13,12 +14,14 @@ pub use calls::start_up::{init_node_temps, start_up_lent};
 pub use calls::state::{Demand, Load, Reason, Reply, State};
 pub use check::versions::{has_limits, hour_version};
 pub use check::zone_tests::zone_test;
-pub use format::conditions::{AirChangesPerHourArgument, FixedRate};
+pub use format::conditions::{AirChangesPerHourArgument, Conditions, FixedRate};
 pub use format::head::read_head;
 pub use format::layout::{FIRST_ELEMENT_HOUR, FIRST_RATE, RATE_CODE, SECOND_RATE};
 pub use format::limits::{Limits, read_limits};
 pub use format::temperatures::read_temperatures;
 pub use hour::kept::KeptMatrix;
+pub use hour::load::HeatCoolLoad;
+pub use hour::windows::VentilationChoice;
 pub use physics::balance::{
     HeatBalance, HeatBalanceAirNode, HeatBalanceExternalBoundary, HeatBalanceInternalBoundary,
 };
@@ -29,5 +32,6 @@ pub use record::building_element::{
     Coefficients, Element, ElementHour, HeatFlowDirection, Kind, SurfaceConvection, h_ci,
     h_pli_transparent, standard_coefficients,
 };
+pub use record::material_properties::MaterialProperties;
 pub use record::refusal::Refusal;
 pub use record::zone_record::{Zone, ZoneTemperatureControlBasis};

@@ -10,10 +10,9 @@ use Rattle.zone.specs.declared.record.building_element.ElementHour.{ElementHour}
 use Rattle.zone.specs.declared.record.building_element.Coefficients.{Coefficients}
 use Rattle.zone.specs.declared.format.conditions.Conditions.{Conditions}
 use Rattle.zone.specs.declared.record.zone_record.Zone.{Zone}
-use Rattle.zone.specs.declared.physics.equations.Rows.{Rows}
 use Rattle.zone.specs.Record.BuildingElement.{is_two_nodes}
 use Rattle.zone.specs.Physics.Slots.{element_slots, set_slot, set_slots, in_slots, element, element_hour}
-use Rattle.zone.specs.Physics.Equations.{k_pli, outer_right_side, capacity_term, right_sides_five, right_sides_two, right_sides_of}
+use Rattle.zone.specs.Physics.Equations.{Rows, k_pli, outer_right_side, capacity_term, right_sides_five, right_sides_two, right_sides_of}
 use Rattle.zone.specs.Physics.System.{zone_two_nodes, rows_at, couplings, matrix_a, gains_per_area, right_sides_at, zone_right_side, vector_b}
 use Rattle.zone.specs.Inner.Assembly.{Chains, chains, set_rows, element_rows, element_right_sides, couple_row, add_gains, with_gains}
 use Rattle.zone.specs.Inner.Assembled.{convective_sum, element_chains, couplings_of, element_sides, zone_terms_of, assembled, assembled_with, assemble, dense_with, right_side_with, assemble_step, matrix_of, right_side_of}

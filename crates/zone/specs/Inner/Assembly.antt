@@ -11,6 +11,7 @@ use Rattle.zone.specs.declared.record.building_element.ElementHour.{ElementHour}
 use Rattle.zone.specs.declared.physics.equations.Rows.{Rows}
 use Rattle.zone.specs.Physics.Slots.{inner_surface, element_slots, set_slots, element, element_hour}
 use Rattle.zone.specs.Physics.Equations.{rows_of, right_sides_of}
+use Rattle.zone.specs.Physics.Equations as Equations
 
 -- the number of an array that belongs to element e
 abbrev pub at : List Float → ℕ → Float
@@ -28,7 +29,11 @@ convective_by area h_ci e = area e *ᶠ h_ci e
 pub data Chains : Type 0 where
   chains : (diag next prev : List Float) → Chains
 
-unfoldable pub set_rows : ℕ → Rows → Chains → Chains
+-- the rows of one element, as the code has them
+abbrev pub rows_in : Rows → Equations.Rows
+rows_in r = record { diag = r.diag; next = r.next; prev = r.prev }
+
+unfoldable pub set_rows : ℕ → Equations.Rows → Chains → Chains
 set_rows e r (chains diag next prev) =
     chains (set_slots e r.diag diag) (set_slots e r.next next) (set_slots e r.prev prev)
 

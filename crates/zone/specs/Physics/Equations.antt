@@ -5,8 +5,13 @@ use Rattle.std.specs.Float.Ieee.{neg}
 use Rattle.solver.specs.F64.{◌+ᶠ◌, ◌-ᶠ◌, ◌*ᶠ◌, ◌/ᶠ◌, zero64, one64}
 use Rattle.zone.specs.declared.record.building_element.Element.{Element}
 use Rattle.zone.specs.declared.record.building_element.ElementHour.{ElementHour}
-use Rattle.zone.specs.declared.physics.equations.Rows.{Rows}
 use Rattle.zone.specs.Record.BuildingElement.{is_two_nodes, h_pli_transparent}
+
+-- an element's coefficients in its five slots: of each slot's own temperature, of the next slot's and of the previous slot's
+pub record Rows : Type 0 where
+  pub diag : List Float
+  pub next : List Float
+  pub prev : List Float
 
 abbrev pub k_pli : Element → ℕ → Float
 k_pli e i = get_or e.k_pli i nan

@@ -14,10 +14,9 @@ use Rattle.zone.specs.declared.record.building_element.Coefficients.{Coefficient
 use Rattle.zone.specs.declared.record.building_element.HeatFlowDirection.{HeatFlowDirection}
 use Rattle.zone.specs.declared.format.conditions.Conditions.{Conditions}
 use Rattle.zone.specs.declared.record.zone_record.Zone.{Zone}
-use Rattle.zone.specs.declared.physics.equations.Rows.{Rows}
 use Rattle.zone.specs.Record.BuildingElement.{is_two_nodes, heat_flow_direction, h_ci}
 use Rattle.zone.specs.Physics.Slots.{air, inner_surface, element_slots, element, element_hour, with_terms, in_slots}
-use Rattle.zone.specs.Physics.Equations.{rows_of, right_sides_of}
+use Rattle.zone.specs.Physics.Equations.{Rows, rows_of, right_sides_of}
 
 -- of element e
 abbrev pub area_of : List Element → ℕ → Float

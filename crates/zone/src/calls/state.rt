@@ -3,6 +3,7 @@
 ghost use Rattle.std.specs.Prelude.{◌≡◌};
 ghost use Rattle.zone.specs.Answers.{answered};
 ghost use Rattle.zone.specs.Calls.Answers.{reply_in, update_reply};
+ghost use Rattle.zone.specs.Calls.Numbers.{reason_number, load_number};
 ghost use Rattle.zone.specs.Calls.State.{slots_of, state_of};
 
 use crate::physics::node_layout::{to_nodes, to_slots};
@@ -26,7 +27,7 @@ pub struct Demand {
     pub ach_to_trigger_heating: Option<f64>,
 }
 
-// Why an hour has its air change rate: the earliest that holds. Each has its place in the paper's list, which is the C interface's number.
+// Why an hour has its air change rate: the earliest that holds, by its number.
 #[derive(Clone, Copy, Debug, PartialEq, Eq)]
 pub enum Reason {
     NoChoice = 1,
@@ -37,12 +38,28 @@ pub enum Reason {
     WindowsEnough = 6,
 }
 
-// What the hour's demand asks for, with the C interface's numbers.
+// What the hour's demand asks for.
 #[derive(Clone, Copy, Debug, PartialEq, Eq)]
 pub enum Load {
     Neither = 0,
     Heating = 1,
     Cooling = 2,
+}
+
+impl Reason {
+    pub fn number(self) -> u64
+        ensures { result ≡ reason_number self }
+    {
+        self as u64
+    }
+}
+
+impl Load {
+    pub fn number(self) -> u64
+        ensures { result ≡ load_number self }
+    {
+        self as u64
+    }
 }
 
 // The answer of a call, and the state: the new one, or the one that was given.

@@ -1,6 +1,7 @@
 // One element's equations: coefficients and right sides, in the element's five slots. An element is taken by value, a form that the papers name.
 ghost use Rattle.std.specs.Prelude.{◌≡◌};
 ghost use Rattle.zone.specs.Physics.Equations.{rows_five, rows_two, rows_of, right_sides_five, right_sides_two, right_sides_of};
+ghost use Rattle.zone.specs.Inner.Assembly.{rows_in};
 
 use crate::record::building_element::{Element, ElementHour, h_pli_transparent, is_two_nodes};
 
@@ -13,7 +14,7 @@ pub struct Rows {
 }
 
 fn rows_five(e: Element, delta_t: f64, h_ci: f64, share: f64) -> Rows
-    ensures { result ≡ rows_five e delta_t h_ci share }
+    ensures { rows_in result ≡ rows_five e delta_t h_ci share }
 {
     let k_pli = &e.k_pli;
     let h_pli = &e.h_pli;
@@ -34,7 +35,7 @@ fn rows_five(e: Element, delta_t: f64, h_ci: f64, share: f64) -> Rows
 }
 
 fn rows_two(e: Element, delta_t: f64, h_ci: f64, share: f64, h_pli: f64) -> Rows
-    ensures { result ≡ rows_two e delta_t h_ci share h_pli }
+    ensures { rows_in result ≡ rows_two e delta_t h_ci share h_pli }
 {
     let k_pli = &e.k_pli;
     let diag = [
@@ -51,7 +52,7 @@ fn rows_two(e: Element, delta_t: f64, h_ci: f64, share: f64, h_pli: f64) -> Rows
 
 #[tactic(auto, unfolding(crate::specs::Physics::Equations::rows_of))]
 pub fn rows_of(e: Element, delta_t: f64, treatments_open: u8, h_ci: f64, share: f64) -> Rows
-    ensures { result ≡ rows_of e delta_t treatments_open h_ci share }
+    ensures { rows_in result ≡ rows_of e delta_t treatments_open h_ci share }
 {
     if is_two_nodes(e.kind) {
         let h = h_pli_transparent(e.h_pli[0], &e.delta_r, e.treatments, treatments_open);

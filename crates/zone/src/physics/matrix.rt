@@ -4,7 +4,7 @@ ghost use Rattle.solver.specs.F64.{zero64};
 ghost use Rattle.solver.specs.Repeat.{repeat};
 ghost use Rattle.solver.specs.Sums.{sum2, terms};
 ghost use Rattle.zone.specs.Physics.Slots.{with_terms};
-ghost use Rattle.zone.specs.Inner.Assembly.{at, share_by, convective_by, set_rows, couple, couple_row};
+ghost use Rattle.zone.specs.Inner.Assembly.{at, share_by, convective_by, rows_in, set_rows, couple, couple_row};
 ghost use Rattle.zone.specs.Inner.KeptMatrix.{chains_in};
 
 use crate::physics::equations::Rows;
@@ -36,7 +36,7 @@ pub struct Surfaces {
 #[tactic(auto, unfolding(crate::specs::Inner::Assembly::set_rows))]
 pub fn set_rows(e: usize, r: Rows, chains: &mut Chains)
     requires { e < 24 }
-    ensures rows { chains_in chains.new ≡ set_rows e r (chains_in chains.old) }
+    ensures rows { chains_in chains.new ≡ set_rows e (rows_in r) (chains_in chains.old) }
     ensures others { (chains.new.n ≡ chains.old.n) × (chains.new.two_nodes ≡ chains.old.two_nodes) }
 {
     set_slots(&mut chains.diag, e, &r.diag);
