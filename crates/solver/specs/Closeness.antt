@@ -1,4 +1,4 @@
--- Magnitudes, closeness, and the tests of divisors and of temperatures.
+-- Magnitudes, closeness, and the tests of divisors and of temperatures (Specification, Magnitude and bounds).
 use Rattle.std.specs.Prelude.{zero, suc, Bool, true, false, not, cond, ◌&&◌, ◌||◌, pos, Float}
 use Rattle.std.specs.Float.{nan, inf, fin}
 use Rattle.std.specs.Float.Ieee.{lt, le, eq, neg}
@@ -21,7 +21,7 @@ is_finite (fin s m e) = true
 abbrev pub max : Float → Float → Float
 max x y = cond (lt x y) y x
 
--- The Rust's `relative_eq!`, document 01 "Closeness": equal, or both finite and |a - b| at most epsilon, or at most max_relative times
+-- The original's `relative_eq!` (Specification, Closeness): equal, or both finite and |a - b| at most epsilon, or at most max_relative times
 -- the larger magnitude, a product that is rounded once. So equal infinities are close, and a nan is close to nothing.
 unfoldable pub relative_eq : (a b epsilon max_relative : Float) → Bool
 relative_eq a b epsilon max_relative =
@@ -31,11 +31,11 @@ relative_eq a b epsilon max_relative =
     && is_finite b
     && (le difference epsilon || le difference (max_relative *ᶠ max (abs a) (abs b))))
 
--- The three pairs of document 01. In the demand: epsilon 1e-10, max_relative 1e-9.
+-- Its three pairs. In the demand: epsilon 1e-10, max_relative 1e-9.
 unfoldable pub close_in_demand : Float → Float → Bool
 close_in_demand a b = relative_eq a b (decimal 1 10) (decimal 1 9)
 
--- the Rust's `isclose` in start-up: both 1e-8
+-- in start-up: both 1e-8
 unfoldable pub isclose : Float → Float → Bool
 isclose a b = relative_eq a b (decimal 1 8) (decimal 1 8)
 

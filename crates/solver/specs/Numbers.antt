@@ -1,4 +1,4 @@
--- The numbers of the solver's refusals, by name (document 01, "Refused, operation by operation").
+-- The numbers of the solver's refusals, by name (Specification, Table of refusals).
 use Rattle.std.specs.Prelude.{ℕ}
 
 -- a divisor of a chain or a dense pivot that is zero or not finite

@@ -1,4 +1,4 @@
--- An answer, or a refusal with document 01's number and index (0 where the paper gives none).
+-- An answer, or a refusal with its number and its index, 0 where it has none (Specification, What a refusal is).
 use Rattle.std.specs.Prelude.{Bool, true, false, ℕ}
 
 pub data Result (A : Type 0) : Type 0 where

@@ -1,5 +1,5 @@
 -- A matrix of at most 25 rows in one flat list of 625 entries, row by row: row i stands from place 25 i on, whatever the number of unknowns.
--- The pivot search and the elimination of one row, as document 01 has them.
+-- The pivot search and the elimination of one row (Specification, Dense solve).
 use Rattle.std.specs.Prelude.{ℕ, ◌+◌, ◌*◌, List, cond, get_or, set, Float}
 use Rattle.std.specs.Float.{nan}
 use Rattle.std.specs.Float.Ieee.{lt, neg}

@@ -1,4 +1,4 @@
--- Sums of floats, document 01 "Sums".
+-- Sums of floats (Specification, Compensated sum and Plain sum).
 use Rattle.std.specs.Prelude.{ℕ, zero, suc, ◌-◌, List, [], ◌∷◌, Float}
 use Rattle.solver.specs.F64.{◌+ᶠ◌, ◌-ᶠ◌, zero64}
 use Rattle.solver.specs.declared.sums.Sum2.{Sum2}

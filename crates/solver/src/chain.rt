@@ -10,8 +10,8 @@ ghost use Rattle.solver.specs.Chain.{outer_slot, eliminate_chain, eliminate_chai
 
 use crate::closeness::{valid_divisor, within_state_bound};
 
-// The matrix as the papers keep it, its diagonal and two neighbours: how many elements there are, which of them have two nodes, and for each slot its
-// own coefficient and those of the next and the previous slot of its chain. Elements past the 24th are left out; the arrays stand there at
+// Of the matrix what the chains hold (Specification, Which coefficients are kept): how many elements there are, which of them have two nodes, and for each
+// slot its own coefficient and those of the next and the previous slot of its chain. Elements past the 24th are left out; the arrays stand there at
 // full length, as the engine has fixed memory.
 #[derive(Clone, Copy)]
 pub struct Chains {

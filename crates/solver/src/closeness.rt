@@ -18,7 +18,7 @@ fn max(x: f64, y: f64) -> f64
     if x < y { y } else { x }
 }
 
-// The Rust's `relative_eq!`: equal, or both finite and no further apart than `epsilon`, or than `max_relative` times the larger magnitude.
+// The original's `relative_eq!`: equal, or both finite and no further apart than `epsilon`, or than `max_relative` times the larger magnitude.
 #[tactic(auto, using(crate::proofs::Laws::Signs::finite_same), unfolding(crate::specs::Closeness::relative_eq))]
 fn relative_eq(a: f64, b: f64, epsilon: f64, max_relative: f64) -> bool
     ensures { result ≡ relative_eq a b epsilon max_relative }
@@ -43,7 +43,7 @@ pub fn close_in_demand(a: f64, b: f64) -> bool
     relative_eq(a, b, 1e-10, 1e-9)
 }
 
-// The Rust's `isclose`, start-up's closeness.
+// The original's `isclose`, start-up's closeness.
 pub fn isclose(a: f64, b: f64) -> bool
     ensures { result ≡ isclose a b }
 {

@@ -2,7 +2,7 @@
 ghost use Rattle.std.specs.Prelude.{◌≡◌};
 ghost use Rattle.solver.specs.Answers.{number_of};
 
-// Each has its number of document 01.
+// Each by its number (Specification, Table of refusals).
 #[derive(Clone, Copy, Debug, PartialEq, Eq)]
 pub enum SolveError {
     // A divisor of a chain or a dense pivot is zero or not finite.

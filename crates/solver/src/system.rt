@@ -34,7 +34,7 @@ pub struct Matrix {
 
 // The matrix in the form that is kept: its chains, and its dense part with the row exchanges; once its columns are factored, whether all of their
 // divisors are valid. That is a flag and no Result: an `Err` as soon as a matrix is factored would put the refusal 12
-// before 10 and 11, which document 01 has first.
+// before 10 and 11, which come first (Specification, Order of tests).
 #[derive(Clone, Copy)]
 pub struct Factors {
     pub chains: Chains,
@@ -123,7 +123,7 @@ impl Factors {
     }
 }
 
-// All of it, of one right side, where the temperatures come to stand: the entry point that the Rust has. The zone calls its parts, as it solves for
+// All of it, of one right side, where the temperatures come to stand: the entry point that the original has. The zone calls its parts, as it solves for
 // several rates and loads. A refusal for a divisor leaves the right side as it was, one for a temperature the temperatures that were found.
 pub fn fast_solver(a: &Matrix, temps: &mut [f64; 121]) -> Result<(), SolveError>
     ensures { solved (number_in result) temps.new ≡ fast_solver a.now temps.old }
