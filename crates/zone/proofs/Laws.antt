@@ -53,4 +53,6 @@ pub mod Answers
 pub mod Limits
 pub mod RateTwice
 pub mod OtherRates
+pub mod Chosen
 pub mod Refusals
+pub mod Whenever

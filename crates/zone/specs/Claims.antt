@@ -1,5 +1,6 @@
 pub mod Encode
 pub mod HeadRefusals
+pub mod RefusesWhere
 pub mod FirstFault
 pub mod Head
 pub mod DemandClaims

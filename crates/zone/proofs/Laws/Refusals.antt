@@ -25,10 +25,11 @@ use Rattle.zone.specs.declared.hour.windows.VentilationChoice.{VentilationChoice
 use Rattle.zone.specs.declared.hour.load.HeatCoolLoad.{HeatCoolLoad}
 use Rattle.zone.specs.Calls.State.{all_within_state_bound, state_test, zone_and_state_test, slots_of}
 use Rattle.zone.specs.Calls.Hour.{tested_hour, tested, hour_version, limits_valid, tested_hour_and_limits, tested_step, step}
-use Rattle.zone.specs.Physics.Slots.{air}
 use Rattle.zone.specs.Hour.Demand.{delta_t, control_temperature, ach_target, wanted, interp_heat_cool_demand, temperatures_with, free_temperatures, calc_cooling_potential_from_ventilation, demand_for_load, space_heat_cool_demand}
-use Rattle.zone.specs.Claims.Reasons.{SetpointsPass, step_matrix, step_right_side, SolveReason, by_divisor, by_temperature, Tried, DemandSolve, at_target, at_open, between, loaded, DemandReason, by_cooling_below_heating, by_ventilation_below_heating, in_solve, by_no_effect}
+use Rattle.zone.specs.Claims.Why.{Windows}
+use Rattle.zone.specs.Claims.Reasons.{SetpointsPass, step_matrix, step_right_side, SolveReason, by_divisor, by_temperature, would_cool, Chosen, DemandSolve, at_target, at_open, between, loaded, DemandReason, by_cooling_below_heating, by_ventilation_below_heating, in_solve, by_no_effect}
 use Rattle.zone.specs.Calls.StartUp.{start_up_conditions, pass}
+use Rattle.zone.proofs.Laws.Chosen.{wanted_of, chosen_of}
 use Rattle.zone.specs.Record.Numbers as Number
 use Rattle.solver.specs.Numbers as SolveNumber
 
@@ -115,31 +116,29 @@ module _ (c : Coefficients) (z : Zone) (t : List Float) (h : Conditions) where
       choice_refuses (ne windows_open target)
       (λ o.
       bind_refuses _ (solves b (at_open e o f)) λ vent_max v.
-      choice_refuses
-      (lt (control_temperature z vent_max) (control_temperature z free) && lt h.temp_setpnt_cool_vent (control_temperature z free) && lt h.avg_air_supply_temp (air free))
-      (λ u. bind_refuses _ (solves b (between e o f v u)) λ extra _. accepts _) λ _. accepts _)
+      let w : Windows c z t h = record { target = target; windows_open = windows_open; given = e; free = free; at_target = f; vent_max = vent_max; at_open = v } in
+      choice_refuses (would_cool c z t h w) (λ u. bind_refuses _ (solves b (between w o u)) λ extra _. accepts _) λ _. accepts _)
       λ _. accepts _
 
-  towards_reasons : SetpointsPass h → (free : List Float) (v : VentilationChoice) (w : Option HeatCoolLoad) → free_temperatures c z t h (ach_target h.ach_args) ≡ ok free
-      → calc_cooling_potential_from_ventilation c z t h free h.ach_args ≡ ok v → wanted z.useful_area h v.temp_free ≡ w
+  towards_reasons : SetpointsPass h → (v : VentilationChoice) (w : Option HeatCoolLoad) → Chosen c z t h v.temp_free v.ach_cooling → wanted z.useful_area h v.temp_free ≡ w
       → RefusesOnly (DemandReason c z t h) (demand_for_load c z t h v w)
   unfolding demand_for_load interp_heat_cool_demand
-  towards_reasons b free v None f e w = accepts _
-  towards_reasons b free v (Some w) f e wanted_is =
-      let tried : Tried c z t h v w = record { free = free; solved = f; chosen = e; towards = wanted_is } in
-      bind_refuses _ (solves b (loaded tried)) λ upper u.
-      bind_refuses _ (unless_refuses (close_in_demand (control_temperature z upper -ᶠ v.temp_free) zero64) 14 _ (λ k. by_no_effect b tried u k) λ _. accepts _) λ kwh _.
+  towards_reasons b v None x e = accepts _
+  towards_reasons b v (Some w) x e =
+      let y = wanted_of z h v.temp_free w e in
+      bind_refuses _ (solves b (loaded x y)) λ upper u.
+      bind_refuses _ (unless_refuses (close_in_demand (control_temperature z upper -ᶠ v.temp_free) zero64) Number.no_effect _ (λ k. by_no_effect b x y u k) λ _. accepts _) λ kwh _.
       accepts _
 
   pub demand_reasons : RefusesOnly (DemandReason c z t h) (space_heat_cool_demand c z t h)
   unfolding space_heat_cool_demand
   demand_reasons =
-      unless_refuses (lt h.temp_setpnt_cool h.temp_setpnt_heat) 10 _ by_cooling_below_heating λ k.
-      unless_refuses (lt h.temp_setpnt_cool_vent h.temp_setpnt_heat) 11 _ (by_ventilation_below_heating k) λ l.
+      unless_refuses (lt h.temp_setpnt_cool h.temp_setpnt_heat) Number.cooling_below_heating _ by_cooling_below_heating λ k.
+      unless_refuses (lt h.temp_setpnt_cool_vent h.temp_setpnt_heat) Number.ventilation_below_heating _ (by_ventilation_below_heating k) λ l.
       let b : SetpointsPass h = record { cooling = k; ventilation = l } in
       bind_refuses _ (solves b at_target) λ free f.
       bind_refuses _ (potential_reasons b free h.ach_args refl f) λ v e.
-      towards_reasons b free v (wanted z.useful_area h v.temp_free) f e refl
+      towards_reasons b v (wanted z.useful_area h v.temp_free) (chosen_of c z t h free v h.ach_args refl f e) refl
 
 -- ---- which numbers
 
@@ -157,7 +156,7 @@ module _ {P : ℕ → ℕ → Type 0} (by_solve : (n i : ℕ) → SolveRefusal n
       number n i (by_cooling_below_heating e) = ten e
       number n i (by_ventilation_below_heating k e) = eleven
       number n i (in_solve b s p) = solve_number n i p
-      number n i (by_no_effect b l e k) = fourteen
+      number n i (by_no_effect b x w u k) = fourteen
 
   -- one time step
   pub step_refuses : (s : State) (h : Conditions) (gains fraction ach : Float) → RefusesOnly P (step c z s h gains fraction ach)

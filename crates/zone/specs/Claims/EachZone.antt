@@ -13,7 +13,7 @@ use Rattle.zone.specs.Claims.StartUpClaims.{StartUpNotSettled, StartUpIsNotSettl
 use Rattle.zone.specs.Claims.Versions as Hours
 use Rattle.zone.specs.Claims.Convection.{YieldsDirection, UpdateByDirection, HourByDirection}
 use Rattle.zone.specs.Claims.StateClaims.{StateKept, UpdateStateTested, HourStateTested, StartUpStateTested}
-use Rattle.zone.specs.Claims.Reasons.{DemandReasons, HourReasons, UpdateReasons, StartUpReasons}
+use Rattle.zone.specs.Claims.Reasons.{OperativeReasons, DemandReasons, HourReasons, UpdateReasons, StartUpReasons}
 use Rattle.zone.specs.Claims.FixedRate.{RetiredClaims, HourStill, SameHour}
 
 pub record EachZone (z : Zone) : Type 0 where
@@ -21,8 +21,9 @@ pub record EachZone (z : Zone) : Type 0 where
   pub heads : HeadClaims
   pub zone : ZoneClaims z
   pub conditions : (fixed : FixedRate) (bytes : List ℕ) → ConditionsClaims fixed z bytes
-  -- each call has these refusals, each of which comes only under its conditions, and these indices,
+  -- each call has these refusals, each of which comes whenever its condition holds and under no other, and these indices,
   pub refusals : CallRefusals standard_coefficients z
+  pub operative_reasons : OperativeReasons z
   pub demand_reasons : DemandReasons standard_coefficients z
   pub hour_reasons : HourReasons standard_coefficients z
   pub update_reasons : UpdateReasons standard_coefficients z

@@ -1,7 +1,7 @@
--- Why a zone, a state and an hour's conditions are refused, 4 to 9, and which element is named: the first that does not pass, where all before it pass.
+-- Why a head, a zone, a state and an hour's conditions are refused, 1 to 9, and which element is named: the first that does not pass, where all before it
+-- pass (Specification, Order of tests). Each reason comes for no other, and whenever it holds.
 use Rattle.std.specs.Prelude.{ℕ, suc, ◌+◌, ◌&&◌, ◌≡◌, Bool, true, false, List, ◌∷◌, map, take, length, leb, eqb}
 use Rattle.solver.specs.Result.{ok}
-use Rattle.solver.specs.Refusals.{RefusesOnly}
 use Rattle.zone.specs.declared.record.zone_record.Zone.{Zone}
 use Rattle.zone.specs.declared.format.conditions.FixedRate.{FixedRate}
 use Rattle.zone.specs.declared.calls.state.State.{State}
@@ -27,6 +27,7 @@ use Rattle.zone.specs.Format.Head.{elements_end, structure_of, head_of}
 use Rattle.zone.specs.Format.Conditions.{conditions_at, rate_code_valid, open_bits_valid, hour_and_gains_in_range, setpoints_in_range, ach_args_in_range, conditions_of}
 use Rattle.zone.specs.Check.ZoneTest.{count_valid, element_treatments_valid, element_hour_in_range, element_in_range, front_in_range, counts_test, zone_test}
 use Rattle.zone.specs.Calls.State.{all_within_state_bound, state_test}
+use Rattle.zone.specs.Claims.RefusesWhere.{RefusesWhere}
 
 -- of a list whose first has index k, the one with index j is the first that does not pass
 pub data First {A : Type 0} (test : A → Bool) : List A → (k j : ℕ) → Type 0 where
@@ -103,7 +104,7 @@ module _ (fixed : FixedRate) (z : Zone) (bs : List ℕ) where
         → First element_hour_in_range (take z.count (conditions_at bs z.count).elements) 1 j → ConditionsReason conditions_value j
 
 pub record FirstFaults : Type 0 where
-  pub heads : (bs : List ℕ) → RefusesOnly (HeadReason bs) (head_of bs)
-  pub zones : (z : Zone) → RefusesOnly (ZoneReason z) (zone_test z)
-  pub states : (z : Zone) (s : State) → RefusesOnly (StateReason z s) (state_test z s)
-  pub hours : (fixed : FixedRate) (z : Zone) (bs : List ℕ) → RefusesOnly (ConditionsReason fixed z bs) (conditions_of fixed z bs)
+  pub heads : (bs : List ℕ) → RefusesWhere (HeadReason bs) (head_of bs)
+  pub zones : (z : Zone) → RefusesWhere (ZoneReason z) (zone_test z)
+  pub states : (z : Zone) (s : State) → RefusesWhere (StateReason z s) (state_test z s)
+  pub hours : (fixed : FixedRate) (z : Zone) (bs : List ℕ) → RefusesWhere (ConditionsReason fixed z bs) (conditions_of fixed z bs)
