@@ -21,5 +21,6 @@ pub mod NodeOrder
 pub mod HouseP
 pub mod Index
 pub mod FirstFault
+pub mod Errors
 pub mod EachZone
 pub mod ForBook

@@ -11,6 +11,7 @@ pub mod StateClaims
 pub mod Versions
 pub mod Convection
 pub mod Refusals
+pub mod Errors
 pub mod Reasons
 pub mod NodeOrder
 pub mod HouseP
