@@ -6,6 +6,9 @@ pub mod ConditionsBytes
 pub mod HeadBytes
 pub mod HeadRefusals
 pub mod HeadIndex
+pub mod HourRead
+pub mod HeadRead
+pub mod AsRead
 pub mod HeadClaims
 pub mod Demand
 pub mod Why

@@ -13,6 +13,9 @@ pub mod Versions
 pub mod Conditions
 pub mod Same
 pub mod RoundTrip
+pub mod ReadBack
+pub mod AreBytes
+pub mod ElementRead
 pub mod Numbers
 pub mod HeadAnswers
 pub mod Loops

@@ -1,4 +1,5 @@
 pub mod Encode
+pub mod RoundTrip
 pub mod HeadRefusals
 pub mod RefusesWhere
 pub mod FirstFault

@@ -115,7 +115,7 @@ module _ (s : List ℕ) (b : Bytes s) where
       rates_by (eqb (get_or s rate_code 0) 0) refl h g e
       ∙ sym (part_add s rate_code 1 (8 * 2) ∙ rw (part_one s rate_code (omega arith), part_add s first_rate 8 8))
 
-length_hours : (bs : List ℕ) (p n : ℕ) → length (element_hours_at bs p n) ≡ n
+pub length_hours : (bs : List ℕ) (p n : ℕ) → length (element_hours_at bs p n) ≡ n
 unfolding element_hours_at
 length_hours bs p zero = refl
 length_hours bs p (suc n) = ap suc (length_hours bs (p + element_hour_size) n)

@@ -9,6 +9,7 @@ use Rattle.zone.proofs.Claims.StartUp.{start_up_not_settled_lem, start_up_is_not
 use Rattle.zone.proofs.Claims.State.{update_state_tested, hour_state_tested, start_up_state_tested}
 use Rattle.zone.proofs.Claims.Reasons.{operative_reasons, demand_reasons, hour_reasons, update_reasons, start_up_reasons}
 use Rattle.zone.proofs.Claims.HeadClaims.{head_claims, zone_claims, conditions_claims}
+use Rattle.zone.proofs.Claims.HourRead.{hour_read}
 use Rattle.zone.proofs.Claims.Index.{indices_of_zone}
 use Rattle.zone.proofs.Claims.Refusals.{call_refusals, state_kept}
 use Rattle.zone.proofs.Claims.Versions as Hours
@@ -21,6 +22,7 @@ each_zone z =
       heads = head_claims;
       zone = zone_claims z;
       conditions = λ fixed. conditions_claims fixed z;
+      hours = λ few fixed c. hour_read fixed z c few;
       refusals = call_refusals standard_coefficients z;
       operative_reasons = operative_reasons z;
       demand_reasons = demand_reasons standard_coefficients z;

@@ -8,6 +8,8 @@ use Rattle.zone.specs.declared.format.conditions.FixedRate.{FixedRate}
 use Rattle.zone.proofs.Claims.HeadAlike.{head_alike}
 use Rattle.zone.proofs.Claims.Head.{head_within, head_then, head_tested, head_as_record, head_length_lem, zone_count}
 use Rattle.zone.proofs.Claims.HeadBytes.{head_bytes_lem, head_injective}
+use Rattle.zone.proofs.Claims.HeadRead.{head_read}
+use Rattle.zone.proofs.Claims.AsRead.{head_fits, head_unused, conditions_in_range, conditions_unused}
 use Rattle.zone.proofs.Claims.HeadRefusals.{head_refusals, zone_refusals, conditions_refusals}
 use Rattle.zone.proofs.Claims.HeadIndex.{head_indices}
 use Rattle.zone.proofs.Claims.Conditions.{conditions_length_lem}
@@ -21,10 +23,12 @@ accepted_head bs h e =
       tested = head_tested bs h e;
       followed = λ behind. head_then bs behind h e;
       bytes = λ b. head_bytes_lem bs h b e;
+      fits = λ b. head_fits bs h b e;
+      unused = head_unused bs h e;
     }
 
 pub head_claims : HeadClaims
-head_claims = record { accepted = accepted_head; alike = λ a b n m ha hb s. head_alike a b n s ha hb m; as_record = head_as_record; injective = head_injective; refusals = head_refusals; indices = head_indices }
+head_claims = record { accepted = accepted_head; alike = λ a b n m ha hb s. head_alike a b n s ha hb m; as_record = head_as_record; read = head_read; injective = head_injective; refusals = head_refusals; indices = head_indices }
 
 pub zone_claims : (z : Zone) → ZoneClaims z
 zone_claims z = record { refusals = zone_refusals z; count = zone_count z }
@@ -35,5 +39,7 @@ conditions_claims fixed z bs =
       refusals = conditions_refusals fixed z bs;
       size = conditions_length_lem fixed z bs;
       bytes = conditions_bytes_lem fixed z bs;
+      in_range = conditions_in_range fixed z bs;
+      unused = conditions_unused fixed z bs;
       injective = λ c other. conditions_injective fixed z bs other c;
     }

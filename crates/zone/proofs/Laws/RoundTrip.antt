@@ -1,5 +1,5 @@
 -- Bytes that were read, written again; and values that were written, read back.
-use Rattle.std.proofs.Common.{ℕ, suc, zero, ◌+◌, ◌*◌, ◌/◌, ◌%◌, ◌^◌, ◌<◌, ◌≤◌, ◌≡◌, refl, ap, ◌∙◌, Bool, true, false, not, ◌&&◌, List, [], ◌∷◌, ◌++◌, append_assoc, arith, div-add-mod', T, take, drop, length, get_or, length-append, length-drop, take_at, drop_at, take-suc, get_or-drop, take-add, drop-drop, drop-cons, Float, to_bits}
+use Rattle.std.proofs.Common.{ℕ, suc, zero, ◌+◌, ◌*◌, ◌/◌, ◌%◌, ◌^◌, ◌<◌, ◌≤◌, ◌≡◌, refl, sym, ap, ◌∙◌, Bool, true, false, not, ◌&&◌, List, [], ◌∷◌, ◌++◌, append_assoc, arith, div-add-mod', T, take, drop, length, get_or, length-drop, take_at, drop_at, take-suc, get_or-drop, take-add, drop-drop, drop-cons, Float, to_bits}
 use native.Mathlib.Omega.{pow_step}
 use lib.Ieee.{nan, inf, fin, binary64, is_nan, le, lt, eq, of_bits, fits}
 use lib.Ieee.Bits.{to_bits-of_bits, of_bits-to_bits, to_bits-lt}
@@ -87,25 +87,53 @@ number_back (suc k) n h =
     let small : n / 256 < 256 ^ k = omega (arith, pow_step 256 k) in
     big_endian_snoc 0 (bytes_of k (n / 256)) (n % 256) ∙ ap (λ (m : ℕ). m * 256 + n % 256) (number_back k (n / 256) small) ∙ div-add-mod' n 256
 
--- and so is a float, a NaN too, behind any bytes and before any
+-- what stands at a place of some bytes is read as what was written there, whatever stands before and behind
+module _ (bs : List ℕ) where
+  -- what stands behind what stands there
+  pub past : (a r : List ℕ) (at k q : ℕ) → q ≡ at + k → length a ≡ k → drop at bs ≡ a ++ r → drop q bs ≡ r
+  past a r at k q p l e = ap (λ (n : ℕ). drop n bs) p ∙ sym (drop-drop k at bs) ∙ ap (drop k) e ∙ drop_at a r k l
+
+  pub byte_there : (b : ℕ) (r : List ℕ) (at : ℕ) → drop at bs ≡ b ∷ r → get_or bs at 0 ≡ b
+  byte_there b r at e =
+      let z : at ≡ at + 0 = omega arith in
+      ap (λ (n : ℕ). get_or bs n 0) z ∙ sym (get_or-drop at bs 0 0) ∙ ap (λ (l : List ℕ). get_or l 0 0) e
+
+  pub number_there : (k n : ℕ) (r : List ℕ) (at : ℕ) → n < 256 ^ k → drop at bs ≡ bytes_of k n ++ r → num_at bs at k ≡ n
+  number_there k n r at h e =
+      ap (λ (l : List ℕ). big_endian (take k l)) e ∙ ap big_endian (take_at (bytes_of k n) r k (length_bytes_of k n)) ∙ number_back k n h
+
+  -- a NaN too
+  pub float_there : (x : Float) (r : List ℕ) (at : ℕ) → T (fits binary64 x) → drop at bs ≡ float_bytes x ++ r → float_at bs at ≡ x
+  float_there x r at h e =
+      ap (of_bits binary64) (number_there float_size (to_bits binary64 x) r at (to_bits-lt binary64 x h) e) ∙ of_bits-to_bits binary64 x h
+
+  -- the floats of a row, and each of them
+  pub row_there : (xs : List Float) (r : List ℕ) (at n : ℕ) → length xs ≡ n → AllFit xs → drop at bs ≡ row_bytes xs ++ r → floats_at bs at n ≡ xs
+  unfolding floats_at row_bytes
+  row_there [] r at n l h e = rw (← l) refl
+  row_there (x ∷ xs) r at n l h e =
+      let f = e ∙ append_assoc (float_bytes x) (row_bytes xs) r in
+      let on = past (float_bytes x) (row_bytes xs ++ r) at float_size (at + float_size) refl (length_bytes_of float_size (to_bits binary64 x)) f in
+      rw (← l)
+      (λ i. float_there x (row_bytes xs ++ r) at (h 0) f i ∷ row_there xs r (at + float_size) (length xs) refl (λ j. h (suc j)) on i)
+
+  pub in_row : (xs : List Float) (r : List ℕ) (at i q : ℕ) → q ≡ at + float_size * i → i < length xs → AllFit xs → drop at bs ≡ row_bytes xs ++ r
+      → float_at bs q ≡ get_or xs i nan
+  unfolding row_bytes
+  in_row [] r at i q p l h e = absurd (omega arith)
+  in_row (x ∷ xs) r at zero q p l h e =
+      let s : q ≡ at = omega (arith, p) in
+      ap (float_at bs) s ∙ float_there x (row_bytes xs ++ r) at (h 0) (e ∙ append_assoc (float_bytes x) (row_bytes xs) r)
+  in_row (x ∷ xs) r at (suc i) q p l h e =
+      let f = e ∙ append_assoc (float_bytes x) (row_bytes xs) r in
+      let on = past (float_bytes x) (row_bytes xs ++ r) at float_size (at + float_size) refl (length_bytes_of float_size (to_bits binary64 x)) f in
+      in_row xs r (at + float_size) i q (omega (arith, p)) (omega arith) (λ j. h (suc j)) on
+
+-- a float behind any bytes and before any
 pub float_back : (front rest : List ℕ) (at : ℕ) (x : Float) → length front ≡ at → T (fits binary64 x) → float_at (front ++ (float_bytes x ++ rest)) at ≡ x
-float_back front rest at x l h =
-    ap (λ (bs : List ℕ). of_bits binary64 (big_endian (take float_size bs))) (drop_at front (float_bytes x ++ rest) at l)
-    ∙ ap (λ (bs : List ℕ). of_bits binary64 (big_endian bs)) (take_at (float_bytes x) rest float_size (length_bytes_of float_size (to_bits binary64 x)))
-    ∙ ap (of_bits binary64) (number_back float_size (to_bits binary64 x) (to_bits-lt binary64 x h))
-    ∙ of_bits-to_bits binary64 x h
+float_back front rest at x l h = float_there (front ++ (float_bytes x ++ rest)) x rest at h (drop_at front (float_bytes x ++ rest) at l)
 
 -- and floats one after the other
 pub row_back : (front : List ℕ) (xs : List Float) (rest : List ℕ) (at : ℕ) → length front ≡ at → AllFit xs
     → floats_at (front ++ (row_bytes xs ++ rest)) at (length xs) ≡ xs
-unfolding floats_at row_bytes
-row_back front [] rest at l h = refl
-row_back front (x ∷ xs) rest at l h =
-    let bs = float_bytes x in
-    let whole : front ++ ((bs ++ row_bytes xs) ++ rest) ≡ front ++ (bs ++ (row_bytes xs ++ rest)) = rw (append_assoc bs (row_bytes xs) rest) refl in
-    let moved : front ++ (bs ++ (row_bytes xs ++ rest)) ≡ (front ++ bs) ++ (row_bytes xs ++ rest) = rw (append_assoc front bs (row_bytes xs ++ rest)) refl in
-    let long : length (front ++ bs) ≡ at + float_size = omega (arith, length-append front bs, length_bytes_of float_size (to_bits binary64 x)) in
-    ap (λ (b : List ℕ). floats_at b at (suc (length xs))) whole
-    ∙ (ap (λ (y : Float). y ∷ floats_at (front ++ (bs ++ (row_bytes xs ++ rest))) (at + float_size) (length xs)) (float_back front (row_bytes xs ++ rest) at x l (h 0))
-    ∙ ap (λ (b : List ℕ). x ∷ floats_at b (at + float_size) (length xs)) moved
-    ∙ ap (λ (ys : List Float). x ∷ ys) (row_back (front ++ bs) xs rest (at + float_size) long (λ i. h (suc i))))
+row_back front xs rest at l h = row_there (front ++ (row_bytes xs ++ rest)) xs rest at (length xs) refl h (drop_at front (row_bytes xs ++ rest) at l)

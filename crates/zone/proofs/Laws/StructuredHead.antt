@@ -22,7 +22,7 @@ use Rattle.zone.proofs.Laws.ElementLayout.{treatments_few}
 use Rattle.zone.proofs.Laws.Structure.{whole_of, Structured, structured}
 
 -- the elements of the zone are those that the bytes hold
-length_elements : (bs : List ℕ) (p n : ℕ) → length (elements_at bs p n) ≡ n
+pub length_elements : (bs : List ℕ) (p n : ℕ) → length (elements_at bs p n) ≡ n
 unfolding elements_at
 length_elements bs p zero = refl
 length_elements bs p (suc n) = ap suc (length_elements bs (p + size_at bs p) n)

@@ -1,11 +1,13 @@
 -- What is claimed of each zone: of the values of `init_node_temps`, `operative`, `demand`, `why`, `update_temperatures` and `hour_step`, which are the
 -- equations of BS EN ISO 52016-1, and of their refusals. Each line is a type that is proved elsewhere.
-use Rattle.std.specs.Prelude.{List, ℕ}
+use Rattle.std.specs.Prelude.{List, ℕ, ◌≤◌}
+use Rattle.zone.specs.declared.format.conditions.Conditions.{Conditions}
 use Rattle.zone.specs.declared.format.conditions.FixedRate.{FixedRate}
 use Rattle.zone.specs.declared.record.zone_record.Zone.{Zone}
 use Rattle.zone.specs.declared.calls.state.State.{State}
 use Rattle.zone.specs.Record.BuildingElement.{standard_coefficients}
 use Rattle.zone.specs.Claims.Head.{HeadClaims, ZoneClaims, ConditionsClaims}
+use Rattle.zone.specs.Claims.RoundTrip.{HourInRange, HourRead}
 use Rattle.zone.specs.Claims.Refusals.{CallRefusals, IndicesOfZone}
 use Rattle.zone.specs.Claims.DemandClaims.{DemandCallSigns, HourCallSigns}
 use Rattle.zone.specs.Claims.Why.{WhyAnswers, WhyRefuses}
@@ -21,6 +23,8 @@ pub record EachZone (z : Zone) : Type 0 where
   pub heads : HeadClaims
   pub zone : ZoneClaims z
   pub conditions : (fixed : FixedRate) (bytes : List ℕ) → ConditionsClaims fixed z bytes
+  -- each hour in range has bytes that are read as it: none is turned away,
+  pub hours : z.count ≤ 24 → (fixed : FixedRate) (c : Conditions) → HourInRange fixed z c → HourRead fixed z c
   -- each call has these refusals, each of which comes whenever its condition holds and under no other, and these indices,
   pub refusals : CallRefusals standard_coefficients z
   pub operative_reasons : OperativeReasons z

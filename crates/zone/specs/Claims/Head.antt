@@ -5,12 +5,12 @@ use Rattle.solver.specs.Refusals.{RefusesOnly}
 use Rattle.zone.specs.Record.Numbers.{structure}
 use Rattle.zone.specs.Format.Bytes.{Bytes}
 use Rattle.zone.specs.Format.Layout.{length_size, length_field, basis_in, count_in, conditions_length}
-use Rattle.zone.specs.Format.ElementLayout.{sizes}
 use Rattle.zone.specs.Format.Decode.{zone_at}
 use Rattle.zone.specs.Format.Head.{ReadHead, structure_of, head_of}
 use Rattle.zone.specs.Format.Conditions.{conditions_of}
 use Rattle.zone.specs.Check.ZoneTest.{zone_test}
 use Rattle.zone.specs.Claims.Encode.{head_bytes, conditions_bytes}
+use Rattle.zone.specs.Claims.RoundTrip.{ZoneFits, zone_as_read, head_length, HeadRead, HourInRange, conditions_as_read}
 use Rattle.zone.specs.Claims.HeadRefusals.{HeadRefusal, ZoneRefusal, ConditionsRefusal}
 use Rattle.zone.specs.declared.record.zone_record.Zone.{Zone}
 use Rattle.zone.specs.declared.format.conditions.Conditions.{Conditions}
@@ -25,12 +25,15 @@ pub data OfHead (bs : List ℕ) : (number index : ℕ) → Type 0 where
 pub record AcceptedHead (bs : List ℕ) (h : ReadHead Zone) : Type 0 where
   pub within : h.length ≤ length bs
   -- "Length 53 + 171 per five-node element, 123 + 8t per Transparent."
-  pub size : h.length ≡ length_size + (53 + sizes (take h.zone.count h.zone.building_elements))
+  pub size : h.length ≡ head_length h.zone
   pub tested : zone_test h.zone ≡ ok tt
   -- it is read from its own bytes, whatever follows them
   pub followed : (behind : List ℕ) → head_of (take h.length bs ++ behind) ≡ ok h
   -- which are the bytes of its zone
   pub bytes : Bytes bs → take h.length bs ≡ head_bytes h.length h.zone
+  -- whose values the code's types hold, and whose places that no bytes hold are as a reader leaves them
+  pub fits : Bytes bs → ZoneFits h.zone
+  pub unused : zone_as_read h.zone ≡ h.zone
 
 pub record HeadClaims : Type 0 where
   pub accepted : (bs : List ℕ) (h : ReadHead Zone) → head_of bs ≡ ok h → AcceptedHead bs h
@@ -39,6 +42,8 @@ pub record HeadClaims : Type 0 where
   -- "A zone given as a record is tested first, as its head would be": once its structure is right, a head is judged as its zone is
   pub as_record : (bs : List ℕ) (n : ℕ) → structure_of bs ≡ ok n
       → head_of bs ≡ bind (zone_test (zone_at bs)) λ _. ok (record { zone = zone_at bs; length = n })
+  -- each zone that passes has a head that is read as it: none is turned away
+  pub read : (z : Zone) → ZoneFits z → zone_test z ≡ ok tt → HeadRead z
   -- no two heads are read as the same zone and length
   pub injective : (a b : List ℕ) (h : ReadHead Zone) → Bytes a → Bytes b → head_of a ≡ ok h → head_of b ≡ ok h → take h.length a ≡ take h.length b
   pub refusals : (bs : List ℕ) → RefusesOnly HeadRefusal (head_of bs)
@@ -54,5 +59,8 @@ pub record ConditionsClaims (fixed : FixedRate) (z : Zone) (bs : List ℕ) : Typ
   pub size : (c : Conditions) → conditions_of fixed z bs ≡ ok c → length bs ≡ conditions_length z.count
   -- accepted ones are the bytes of what they are read as,
   pub bytes : (c : Conditions) → Bytes bs → conditions_of fixed z bs ≡ ok c → bs ≡ conditions_bytes z.count c
+  -- which is in range, and whose places that no bytes hold are as a reader leaves them,
+  pub in_range : ZoneFits z → (c : Conditions) → Bytes bs → conditions_of fixed z bs ≡ ok c → HourInRange fixed z c
+  pub unused : (c : Conditions) → conditions_of fixed z bs ≡ ok c → conditions_as_read z.count c ≡ c
   -- so no two are read as the same
   pub injective : (c : Conditions) (other : List ℕ) → Bytes bs → Bytes other → conditions_of fixed z bs ≡ ok c → conditions_of fixed z other ≡ ok c → bs ≡ other
