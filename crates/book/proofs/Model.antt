@@ -1,4 +1,4 @@
--- What is claimed of books, for all layers that meet InterfaceLaws: Sessions has the claim about the whole list, Books what follows for books, Laws what the
+-- What is claimed of books, for all layers that meet InterfaceLaws: Sessions has the claim about the whole list, InSession what a session has of one call, Books what follows for books, Laws what the
 -- functions' proofs cite. Caller, CodeLaws and Formed are words of the proofs.
 pub mod InterfaceLaws
 pub mod Formed
@@ -11,4 +11,5 @@ pub mod Contents
 pub mod AppendCut
 pub mod Whole
 pub mod Sessions
+pub mod InSession
 mod Example

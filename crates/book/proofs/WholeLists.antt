@@ -1,10 +1,14 @@
 -- Whole lists of calls on the year book, and what else is claimed of its books.
-use Rattle.std.proofs.Common.{List, ℕ}
+use Rattle.std.proofs.Common.{◌≡◌, refl, List, ℕ}
+use Rattle.std.specs.Prelude.{Ok, Err}
+use Rattle.std.specs.Prelude as Rust
+use Rattle.book.specs.declared.book_error.BookError.{BookError}
+use Rattle.book.specs.Model.Calls as Book
 use Rattle.book.specs.Model.Plain.{empty, book, WellFormed}
 use Rattle.book.specs.Model.Session.{CodeTypes}
-use Rattle.book.specs.Model.Claims.{WholeLists, SessionFrom, Claims}
+use Rattle.book.specs.Model.Claims.{WholeLists, SessionFrom, HandedOn, Claims}
 use Rattle.book.specs.Year.{year_interface}
-use Rattle.book.specs.Answers.{rust_types}
+use Rattle.book.specs.Answers.{given_of, answer_by, rust_types}
 use Rattle.book.proofs.Replies.{rust_laws}
 use Rattle.book.proofs.Model.CodeLaws.{CodeLaws}
 use Rattle.book.proofs.Model.Sessions as Sessions
@@ -45,6 +49,14 @@ session_exactly = session_exactly_at rust_types rust_laws
 -- The same from any book that is held, be it by a list of calls or by any accepted bytes.
 pub session_from : (head : List ℕ) (is : List year_interface.Item) → WellFormed year_interface head is → SessionFrom year_interface rust_types (book head is)
 session_from = session_from_at rust_types rust_laws
+
+-- What a caller gives the next call: the values of the reply are those that its answer hands back.
+pub handed_on : HandedOn year_interface rust_types (λ r. r.values)
+handed_on r = by r.answer
+  where
+    by : (x : Rust.Result (Unit {0}) BookError) → given_of r.values ≡ Book.handed_back (answer_by x (given_of r.values))
+    by (Ok u) = refl
+    by (Err e) = refl
 
 -- ---- what follows for books
 

@@ -11,6 +11,7 @@ mod layout;
 mod promised;
 mod reader;
 mod record;
+mod session;
 mod versions;
 
 pub use book::{BookState, Reply, append, begin};
@@ -20,3 +21,4 @@ pub use layout::{FRONT_SIZE, LENGTH_SIZE};
 pub use promised::promises;
 pub use reader::read_record;
 pub use record::ReadRecord;
+pub use session::{append_in_session, begin_in_session, take_up_in_session};

@@ -14,7 +14,7 @@ ghost use Rattle.book.specs.PlantLimits.{PlantClaims, LimitsApart};
 ghost use Rattle.book.specs.RetiredAppends.{RetiredAppends};
 ghost use Rattle.book.specs.HouseP.{BeginOfP, BooksOfP};
 
-#[tactic(auto, using(crate::proofs::WholeLists::whole_lists, crate::proofs::WholeLists::session_exactly, crate::proofs::WholeLists::session_from, crate::proofs::Contracts::handed_on, crate::proofs::WholeLists::year_claims, crate::proofs::Refusals::book_refusals, crate::proofs::Errors::one_error, crate::proofs::VersionOrder::version_claims, crate::proofs::Rests::rest_claims, crate::proofs::PlantLimits::limits_apart, crate::proofs::RetiredAppends::retired_appends, crate::proofs::HouseP::begin_of_p, crate::proofs::HouseP::books_of_p))]
+#[tactic(auto, using(crate::proofs::WholeLists::whole_lists, crate::proofs::WholeLists::session_exactly, crate::proofs::WholeLists::session_from, crate::proofs::WholeLists::handed_on, crate::proofs::WholeLists::year_claims, crate::proofs::Refusals::book_refusals, crate::proofs::Errors::one_error, crate::proofs::VersionOrder::version_claims, crate::proofs::Rests::rest_claims, crate::proofs::PlantLimits::limits_apart, crate::proofs::RetiredAppends::retired_appends, crate::proofs::HouseP::begin_of_p, crate::proofs::HouseP::books_of_p))]
 pub fn promises()
     ensures whole_lists { WholeLists year_interface rust_types }
     ensures every_list { SessionFrom year_interface rust_types empty }

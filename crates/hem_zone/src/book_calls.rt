@@ -96,8 +96,9 @@ pub extern "C" fn hem_append(
     heating_limit: f64,
     cooling_limit: f64,
 ) -> u32
-    ensures { (result, (buf.new, c_book_state temps.new nodes.new count.new used.new last_version.new))
-        ≡ hem_append_outcome head.now buf.old (c_book_state temps.old nodes.old count.old used.old last_version.old) conditions.now version heating_limit cooling_limit }
+    ensures { let given = c_book_state temps.old nodes.old count.old used.old last_version.old in
+        (result, (buf.new, c_book_state temps.new nodes.new count.new used.new last_version.new))
+        ≡ hem_append_outcome head.now buf.old given conditions.now version heating_limit cooling_limit }
 {
     let mut zone = Zone::none();
     match read_head(head, &mut zone) {

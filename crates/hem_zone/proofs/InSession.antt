@@ -1,9 +1,5 @@
--- What the contracts of hem_begin, hem_append and hem_take_up ensure is what a session holds of their calls: a contract that said less would be
--- refused here.
+-- What the definitions of hem_begin, hem_append and hem_take_up leave is what a session has of their calls.
 use Rattle.std.proofs.Common.{ℕ, ◌≡◌, refl, ap, ◌∙◌, List, ◌++◌, take, Float}
-use contract.Lifetimes.{Lfts}
-use denote.Triple.Clauses.{AtExit}
-use borrow.Fn.Kinds.{Dens, ended_of}
 use Rattle.zone.specs.Promise.{Result, ok, refused, bind}
 use Rattle.zone.specs.Format.Head.{ReadHead, head_of}
 use Rattle.zone.proofs.Claims.Head.{head_then}
@@ -12,21 +8,14 @@ use Rattle.book.specs.Model.Calls as Book
 use Rattle.book.specs.Model.Session.{CallSpec}
 use Rattle.book.specs.Year.{hour_item, Carried, year_interface}
 use Rattle.book.proofs.Model.CodeLaws.{AnswerOfCall, of_begin, of_append, of_take_up}
+use Rattle.book.proofs.Model.InSession as OfCall
 use Rattle.hem_zone.specs.Code.{answer_code, lent_after, answered}
 use Rattle.hem_zone.specs.Arrays.{limits_of}
 use Rattle.hem_zone.specs.Zone.{with_zone}
 use Rattle.hem_zone.specs.Book.{CBookState, book_state_of, c_book_state_of, book_out, hem_begin_outcome, hem_append_outcome, hem_take_up_outcome}
 use Rattle.hem_zone.specs.BookTypes.{answer_of, reply_in, c_types}
+use Rattle.hem_zone.specs.InSession.{AppendInSession}
 use Rattle.hem_zone.proofs.BookTypes.{answer_back}
-use Rattle.hem_zone.proofs.BookParameters.{BeginGiven, AppendGiven, TakeUpGiven, begin_given, begin_left, append_given, append_left, take_up_given, take_up_left}
-use Rattle.hem_zone.proofs.book_calls.hem_begin.Kinds as begin_kinds
-use Rattle.hem_zone.proofs.book_calls.hem_begin.Reads as begin_reads
-use Rattle.hem_zone.proofs.book_calls.hem_append.Kinds as append_kinds
-use Rattle.hem_zone.proofs.book_calls.hem_append.Reads as append_reads
-use Rattle.hem_zone.proofs.book_calls.hem_take_up.Kinds as take_up_kinds
-use Rattle.hem_zone.proofs.book_calls.hem_take_up.Reads as take_up_reads
-
--- ---- the definitions that the contracts are equal to
 
 module _ (held : CBookState) where
   answered_meets : (buf : List ℕ) (d : Result (Book.BookState Carried × List ℕ)) → AnswerOfCall year_interface (Book.outcome_of (book_state_of held) buf d).answer
@@ -60,37 +49,17 @@ pub append_meets : (used behind buf : List ℕ) (h : ReadHead Zone) (held : CBoo
     → CallSpec year_interface c_types (c, after) out (Book.append year_interface h.zone (book_state_of held) (hour_item version conditions (limits_of heating_limit cooling_limit)) buf)
 append_meets used behind buf h held conditions version heating_limit cooling_limit c out after k e = append_of (take h.length used ++ behind) buf held conditions version heating_limit cooling_limit h c out after (head_then used behind h k) e
 
+pub append_in_session : (head buf : List ℕ) (held : CBookState) (conditions : List ℕ) (version : ℕ) (heating_limit cooling_limit : Float) (c : ℕ) (out : List ℕ) (after : CBookState)
+    → (c, (out, after)) ≡ hem_append_outcome head buf held conditions version heating_limit cooling_limit
+    → AppendInSession head (hour_item version conditions (limits_of heating_limit cooling_limit)) buf held (c, after) out
+append_in_session head buf held conditions version heating_limit cooling_limit c out after e v h spare behind k q same used =
+    OfCall.append_in_session year_interface c_types h.zone (hour_item version conditions (limits_of heating_limit cooling_limit)) buf held (c, after) out
+    (append_of head buf held conditions version heating_limit cooling_limit h c out after (ap head_of q ∙ head_then v.bytes behind h k) e)
+    v h spare k refl same used
+
 pub take_up_is : (bytes : List ℕ) (held : CBookState) → hem_take_up_outcome bytes held ≡ reply_in (Book.take_up year_interface (book_state_of held) bytes)
 unfolding hem_take_up_outcome Book.take_up
 take_up_is bytes held = answered_is held (Book.take_up_res year_interface bytes)
 
 pub take_up_meets : (bytes : List ℕ) (held : CBookState) → answer_of (hem_take_up_outcome bytes held) ≡ Book.take_up year_interface (book_state_of held) bytes
 take_up_meets bytes held = ap answer_of (take_up_is bytes held) ∙ answer_back _ (of_take_up (book_state_of held) bytes)
-
--- ---- the contracts: a has the parameters as a call was given them, e what was lent as it left it; each is named in BookParameters.antt. These statements stand in
--- proofs/, since specs/ cannot name a function's contract; of the definitions the same is said in specs/Engine.antt
-
-module _ (κs : Lfts 7) (a : Dens κs begin_kinds.ps) (r : ℕ) (e : AtExit (ended_of 7 begin_kinds.ps begin_kinds.r) κs) where
-  abbrev begun : BeginGiven
-  begun = begin_given κs a
-
-  pub begin_ensures : begin_reads.Post κs a r e
-      → CallSpec year_interface c_types (r, (begin_left κs e).1) (begin_left κs e).0 (Book.begin year_interface begun.head (book_state_of begun.held) begun.buf)
-  begin_ensures p = begin_meets _ _ _ _ _ _ p
-
--- The head handed in is the book's own, as it stands at the front of its used bytes, with any bytes behind it.
-module _ (κs : Lfts 8) (a : Dens κs append_kinds.ps) (r : ℕ) (e : AtExit (ended_of 8 append_kinds.ps append_kinds.r) κs) where
-  abbrev appended : AppendGiven
-  appended = append_given κs a
-
-  pub append_ensures : (used behind : List ℕ) (h : ReadHead Zone) → head_of used ≡ ok h → appended.head ≡ take h.length used ++ behind → append_reads.Post κs a r e
-      → CallSpec year_interface c_types (r, (append_left κs e).1) (append_left κs e).0
-      (Book.append year_interface h.zone (book_state_of appended.held) (hour_item appended.version appended.conditions (limits_of appended.heating_limit appended.cooling_limit)) appended.buf)
-  append_ensures used behind h k q p = append_of _ _ _ _ _ _ _ h _ _ _ (ap head_of q ∙ head_then used behind h k) p
-
-module _ (κs : Lfts 6) (a : Dens κs take_up_kinds.ps) (r : ℕ) (e : AtExit (ended_of 6 take_up_kinds.ps take_up_kinds.r) κs) where
-  abbrev taken_up : TakeUpGiven
-  taken_up = take_up_given κs a
-
-  pub take_up_ensures : take_up_reads.Post κs a r e → answer_of (r, take_up_left κs e) ≡ Book.take_up year_interface (book_state_of taken_up.held) taken_up.bytes
-  take_up_ensures p = ap answer_of p ∙ take_up_meets _ _
