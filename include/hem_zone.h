@@ -18,8 +18,15 @@
  *  - The calling thread rounds to nearest, and denormal numbers are on (MXCSR: rounding 00, FTZ and DAZ
  *    0), as the C standard has it at the start. In another environment the values are others; a library
  *    built with -ffast-math can change it unasked.
+ *  - Floating-point exceptions are masked in the calling thread (MXCSR bits 7 to 12 are 1), as at the start
+ *    of a C program. A head with `h_pli` 1e-310 is in range and overflows in 1 / h_pli: in a process that
+ *    unmasks overflow (feenableexcept, gfortran's -ffpe-trap) that is a SIGFPE, which kills it.
  *  - The calling thread has HEM_STACK bytes of stack left.
  * Nothing else is owed: every byte string, every number and every float, NaN too, is taken.
+ *
+ * The processor. The code is compiled for x86-64-v2: x86-64 with SSE4.2 and POPCNT, and what comes with
+ * these (SSE3, SSSE3, SSE4.1, CMPXCHG16B, LAHF), as most processors have had it since 2009. A call may set the
+ * sticky exception flags of the calling thread (MXCSR bits 0 to 5); it reads and clears none.
  *
  * Ownership. The caller owns every array. The library keeps no pointer after a call, allocates
  * nothing and has no state of its own, so calls on different arrays may run at the same time.

@@ -110,6 +110,31 @@ static void test_hour_step(const uint8_t *p, const uint8_t *warm) {
     free(balance);
 }
 
+/* A conductance whose reciprocal is beyond all floats: 1e-310, which is in range. Floating-point exceptions are masked, as at
+   the start of a program. Nothing passes through the window then. */
+static void test_least_conductance(const uint8_t *p) {
+    uint8_t *head = lent(HEAD), *even = hour_p(20, 24), *warm = hour_p(21, 24);
+    double *temps = lent(HEM_TEMPS * sizeof *temps), *out = lent(HEM_OUT * sizeof *out), *balance = lent(HEM_BALANCE * sizeof *balance);
+    uint64_t nodes = 99;
+    memcpy(head, p, HEAD);
+    put_double(head + HEM_HEAD_AT_ELEMENTS + HEM_TRANSPARENT_AT_H_PLI, 1e-310);
+    expect("h_pli 1e-310: start-up accepted", hem_start_up(head, HEAD, temps, &nodes) == 0);
+    expect("h_pli 1e-310: 20, 20, 20", nodes == NODES && temps[0] == 20 && temps[1] == 20 && temps[2] == 20);
+    expect("h_pli 1e-310: hour step accepted",
+           hem_hour_step(head, HEAD, temps, nodes, even, HOUR, 2, NAN, NAN, out, balance) == 0);
+    expect("h_pli 1e-310: no demand, 20, 20, 20", out[0] == 0 && out[1] == 0 && temps[0] == 20 && temps[1] == 20 && temps[2] == 20);
+    expect("h_pli 1e-310: an hour that is heated accepted",
+           hem_hour_step(head, HEAD, temps, nodes, warm, HOUR, 2, NAN, NAN, out, balance) == 0 && 0 < out[0] && temps[0] == 20 && temps[2] == 21);
+    put_double(head + HEM_HEAD_AT_ELEMENTS + HEM_TRANSPARENT_AT_H_PLI, 0);
+    expect("h_pli 0 refused: 5 at element 1", hem_start_up(head, HEAD, temps, &nodes) == 5 + 256);
+    free(head);
+    free(even);
+    free(warm);
+    free(temps);
+    free(out);
+    free(balance);
+}
+
 static void test_operative(const uint8_t *p) {
     double *temps = twenty(), *operative = lent(sizeof *operative);
     *operative = -1;
@@ -288,6 +313,7 @@ int main(int argc, char **argv) {
     test_demand(p, warm, crossed);
     test_update(p, warm);
     test_hour_step(p, warm);
+    test_least_conductance(p);
     test_operative(p);
     test_book(p, warm);
     test_limits(p, warm);

@@ -13,7 +13,6 @@ use Rattle.zone.proofs.Claims.HouseP.{house_p_lem, hour_of_p_length, claim}
 use Rattle.book.proofs.WholeLists as Book
 use Rattle.book.proofs.Errors as BookErrors
 use Rattle.book.proofs.Rests.{rest_claims}
-use Rattle.book.proofs.RetiredAppends.{retired_appends}
 use Rattle.book.proofs.PlantLimits.{plant_claims, limits_apart}
 use Rattle.book.proofs.HouseP.{begin_of_p, books_of_p}
 use Rattle.book.proofs.Refusals.{book_refusals}
@@ -73,7 +72,6 @@ books =
       rests = rest_claims;
       limits = plant_claims;
       limits_apart = limits_apart;
-      retired = retired_appends;
       begin_of_p = begin_of_p;
       books_of_p = books_of_p;
       questions = question_claims;

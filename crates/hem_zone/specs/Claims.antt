@@ -37,7 +37,7 @@ pub data AfterHead (P : (number index : ℕ) → Type 0) : (number index : ℕ) 
 abbrev pub last_number : ℕ
 last_number = 24
 
--- a number of the papers, and an index for which the 32 bits of an answer have room beside it
+-- a refusal's number (Specification, Table of refusals), and an index for which the 32 bits of an answer have room beside it
 pub record InAnswer (number index : ℕ) : Type 0 where
   pub from_1 : 1 ≤ number
   pub to_last : number ≤ last_number

@@ -23,7 +23,6 @@ use Rattle.book.specs.Model.Claims as Book
 use Rattle.book.specs.Answers.{rust_types}
 use Rattle.book.specs.HouseP.{BeginOfP, BooksOfP}
 use Rattle.book.specs.Refusals as OfBooks
-use Rattle.book.specs.RetiredAppends.{RetiredAppends}
 use Rattle.book.specs.VersionOrder as Order
 use Rattle.book.specs.Rests.{RestClaims}
 use Rattle.book.specs.PlantLimits.{PlantClaims, LimitsApart}
@@ -125,12 +124,11 @@ pub record BooksArePlainBooks : Type 0 where
   -- What else is claimed of books: when two are equal, what a cut leaves, which bytes are taken up.
   pub books : Book.Claims year_interface
   -- Versions never fall, and 18 comes where one would; which rest of the bytes a take-up drops; an append is the hour step with the limits that it names, and ends
-  -- as version 2's where its power is within them; books tell limits apart; and an hour with the fixed rate is appended no more.
+  -- as version 2's where its power is within them; and books tell limits apart. That an hour with the fixed rate is appended no more is one of `BookRefusals`.
   pub versions : Order.VersionClaims
   pub rests : (head : List ℕ) (is : List year_interface.Item) (S : WellFormed year_interface head is) → RestClaims head is S
   pub limits : (z : Zone) (given : Calls.BookState Carried) (conditions buf : List ℕ) (l : Limits) → PlantClaims z given conditions buf l
   pub limits_apart : LimitsApart
-  pub retired : RetiredAppends
   -- House P's book: its begin, entry and cuts
   pub begin_of_p : BeginOfP
   pub books_of_p : BooksOfP

@@ -1,4 +1,4 @@
--- Every refusal of the papers has a number from 1 to the last and an index of at most 8,783: family by family.
+-- Every refusal has a number from 1 to the last and an index of at most 8,783: family by family.
 use Rattle.std.proofs.Common.{ℕ, ◌≤◌, rules}
 use Rattle.zone.specs.Promise.{SolveRefusal, solve_divisor, solve_temperature}
 use Rattle.zone.specs.Claims.HeadRefusals as Head
@@ -8,7 +8,7 @@ use Rattle.tools.specs.Refusals.{QuestionRefusal, question_take_up, question_inv
 use Rattle.weather.specs.Refusals.{WeatherRefusal, weather_absent, weather_invalid, weather_missing}
 use Rattle.hem_zone.specs.Claims.{AfterHead, of_head, of_call, last_number}
 
--- a refusal of the papers
+-- a refusal (Specification, Table of refusals)
 pub record Numbered (number index : ℕ) : Type 0 where
   pub from_1 : 1 ≤ number
   pub to_last : number ≤ last_number
