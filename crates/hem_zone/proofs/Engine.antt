@@ -12,6 +12,9 @@ use Rattle.zone.proofs.Claims.NodeOrder.{node_order}
 use Rattle.zone.proofs.Claims.HouseP.{house_p_lem, hour_of_p_length, claim}
 use Rattle.book.proofs.WholeLists as Book
 use Rattle.book.proofs.Errors as BookErrors
+use Rattle.solver.proofs.Errors as SolverErrors
+use Rattle.zone.proofs.Claims.Errors as ZoneErrors
+use Rattle.weather.proofs.Errors as WeatherErrors
 use Rattle.book.proofs.Rests.{rest_claims}
 use Rattle.book.proofs.PlantLimits.{plant_claims, limits_apart}
 use Rattle.book.proofs.HouseP.{begin_of_p, books_of_p}
@@ -35,7 +38,7 @@ every_call =
     record {
       refusals = claims;
       told_apart = told_apart;
-      one_error = record { book = BookErrors.one_error; questions = QuestionErrors.one_error };
+      one_error = record { solver = SolverErrors.one_error; zone = ZoneErrors.one_error; book = BookErrors.one_error; questions = QuestionErrors.one_error; weather = WeatherErrors.one_error };
       first_faults = first_faults;
       books = book_refusals;
       questions = question_refusals;

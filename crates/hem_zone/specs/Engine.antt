@@ -4,6 +4,7 @@
 -- that is proved elsewhere; the contract of `promises` (src/promised.rt) names the whole, `Engine`, which stands at the end.
 use Rattle.std.specs.Prelude.{◌≡◌, Bool, true, List, ◌++◌, take, ℕ, ◌+◌, ◌*◌, cond, length, Float}
 use Rattle.solver.specs.Claims.Worked.{Worked}
+use Rattle.solver.specs.Refusals as OfSolves
 use Rattle.zone.specs.declared.format.limits.Limits.{Limits}
 use Rattle.zone.specs.declared.record.building_element.Kind.{Kind}
 use Rattle.zone.specs.declared.record.zone_record.Zone.{Zone}
@@ -13,6 +14,7 @@ use Rattle.zone.specs.Format.Layout.{shortest_length, longest_length, conditions
 use Rattle.zone.specs.Format.ElementLayout.{element_size}
 use Rattle.zone.specs.Format.Head.{ReadHead, head_of}
 use Rattle.zone.specs.Claims.EachZone.{EachZone}
+use Rattle.zone.specs.Claims.Errors as OfZones
 use Rattle.zone.specs.Claims.FirstFault.{FirstFaults}
 use Rattle.zone.specs.Claims.NodeOrder.{NodeOrder}
 use Rattle.zone.specs.Claims.HouseP.{HousePClaims, hour_of_p, all_hold, table}
@@ -31,7 +33,7 @@ use Rattle.tools.specs.Claims.{QuestionClaims}
 use Rattle.tools.specs.Refusals as OfQuestions
 use Rattle.tools.specs.ConvertClaims.{ConvertClaims}
 use Rattle.weather.specs.Claims.{WeatherClaims}
-use Rattle.weather.specs.Refusals.{WeatherRefusals}
+use Rattle.weather.specs.Refusals as OfWeather
 use Rattle.hem_zone.specs.Arrays.{limits_of}
 use Rattle.hem_zone.specs.Claims.{Claims, ToldApart}
 use Rattle.hem_zone.specs.Why.{WhyNumbers}
@@ -42,8 +44,11 @@ use Rattle.hem_zone.specs.BookTypes.{answer_of, reply_in, c_types}
 
 -- Number and index name one error of the layer's own
 pub record OneErrorEach : Type 0 where
+  pub solver : OfSolves.OneError
+  pub zone : OfZones.OneError
   pub book : OfBooks.OneError
   pub questions : OfQuestions.OneError
+  pub weather : OfWeather.OneError
 
 -- A refusal carries its number, changes no lent byte, and hands the temperatures back unchanged.
 pub record EveryCallTells : Type 0 where
@@ -59,7 +64,7 @@ pub record EveryCallTells : Type 0 where
   pub books : OfBooks.BookRefusals
   pub questions : OfQuestions.QuestionRefusals
   pub conversion : OfQuestions.ConvertRefusals
-  pub weather : WeatherRefusals
+  pub weather : OfWeather.WeatherRefusals
 
 -- ---- values
 
