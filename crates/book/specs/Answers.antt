@@ -1,5 +1,5 @@
--- What the functions answer, for what the definitions say: number and index of a refusal, and the values handed back.
--- Specification, Table of refusals; Values of a book.
+-- What the functions answer, in the words of the definitions: number and index of a refusal, and the values handed back.
+-- Specification, What a refusal is; Table of refusals; Values of a book.
 use Rattle.std.specs.Prelude.{ℕ, Ok, Err}
 use Rattle.std.specs.Prelude as Rust
 use Rattle.zone.specs.Answers as Zone

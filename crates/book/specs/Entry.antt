@@ -15,7 +15,7 @@ use Rattle.book.specs.Layout.{version_size, following_length}
 abbrev pub front_bytes : Zone → (version : ℕ) → List ℕ
 front_bytes z version = bytes_of length_size (following_length z version) ++ bytes_of version_size version
 
--- trigger byte 0 or 1, trigger rate (zero bits if 0)
+-- trigger byte 1 and the trigger rate, or trigger byte 0 and 8 zero bytes
 abbrev pub trigger_bytes : Option Float → List ℕ
 trigger_bytes None = bytes_of 1 0 ++ bytes_of float_size 0
 trigger_bytes (Some rate) = bytes_of 1 1 ++ float_bytes rate
@@ -30,7 +30,7 @@ demand_bytes d =
 abbrev pub temperature_bytes : Zone → State → List ℕ
 temperature_bytes z s = row_bytes (take (node_count z) s.temps)
 
--- Entry: conditions, heating, cooling, rate, trigger byte, trigger rate, N node temperatures. `body` is the conditions' bytes as they were given, and
--- from version 3 on those of the two floats after the conditions.
+-- An entry: length and version, `body`, heating, cooling, rate, trigger byte, trigger rate, N node temperatures. `body` is the conditions' bytes as they were
+-- given, and in version 3 behind them those of the two limits.
 unfoldable pub entry_of : Zone → (version : ℕ) → (body : List ℕ) → Demand → State → List ℕ
 entry_of z version body d s = front_bytes z version ++ (body ++ (demand_bytes d ++ temperature_bytes z s))

@@ -1,4 +1,4 @@
--- House P's book at the layers of the year: Head of P 180 bytes, entry 216: cut at 395, no entry; at 396, one.
+-- House P's book: a head of 180 bytes and an entry of 216; cut at 395 it has no entry, at 396 one.
 -- Specification, House P; Fixed rate.
 use Rattle.std.specs.Prelude.{◌≡◌, List, ◌++◌, ℕ, ◌+◌, ◌≤◌, length, take, drop}
 use Rattle.zone.specs.Promise.{ok, zero64}
@@ -9,14 +9,14 @@ use Rattle.book.specs.Model.Interface.{Written}
 use Rattle.book.specs.Model.Calls.{BookState, accepted, begin_res, take_up}
 use Rattle.book.specs.Year.{hour, Carried, carried, no_entry_version, year_interface}
 
--- a begin: its 180 bytes in front of the buffer; temperatures 20, 20, 20
+-- a begin: the head's 180 bytes stand in front of the buffer; temperatures 20, 20, 20
 abbrev pub begun : BookState Carried
 begun = record { state = carried twenty no_entry_version; count = 0; used = 180 }
 
 abbrev pub BeginOfP : Type 0
 BeginOfP = (buf : List ℕ) → 180 ≤ length buf → begin_res year_interface head_of_p buf ≡ ok (begun, head_of_p ++ drop 180 buf)
 
--- its hour, setpoints 20 and 24, of a version: an entry of so many bytes, temperatures as before; and the cuts, a byte before its end and at it
+-- its hour with setpoints 20 and 24, by a version: an entry of so many bytes, temperatures as before it; and the cuts, a byte before its end and at it
 pub record BookOfP (version : ℕ) (body : List ℕ) (size : ℕ) : Type 0 where
   pub entry : Written Carried
   pub gives : year_interface.step house_p 0 (carried twenty no_entry_version) (hour version body) ≡ ok entry
@@ -29,8 +29,8 @@ pub record BookOfP (version : ℕ) (body : List ℕ) (size : ℕ) : Type 0 where
 abbrev pub no_power : Limits
 no_power = record { heating = zero64; cooling = zero64 }
 
--- entry 216: cut at 395, no entry; at 396, one, of version 1 and of version 2; of version 3 16 bytes more. So too of the hour as it was written before, with
--- the fixed rate 0: entries with code 0 that are already written are still taken up
+-- of versions 1 and 2 216 bytes, cut at 395 and at 396; of version 3 16 more, cut at 411 and at 412. An entry of the same hour with the fixed rate 0, which an
+-- append would refuse, is still taken up.
 pub record BooksOfP : Type 0 where
   pub version_1 : BookOfP 1 hour_of_p 216
   pub old_hour : BookOfP 1 old_hour_of_p 216

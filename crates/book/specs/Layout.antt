@@ -19,11 +19,11 @@ version_size = 1
 abbrev pub front_size : ℕ
 front_size = length_size + version_size
 
--- Length 147 + 41n + 8N, fixed by the head: of what follows the 4 bytes in which it stands; with limits more, below
+-- the length of an entry, 147 + 41n + 8N, of version 3 16 more, counts what follows the 4 bytes in which it stands; n and N are of the head. Here is the 147
 abbrev pub fixed_length : ℕ
 fixed_length = 147
 
--- version 3 has two floats more, behind the conditions: its entry grows by 16 bytes
+-- version 3 has two floats more, behind the conditions: 16 bytes
 abbrev pub limits_length : (version : ℕ) → ℕ
 limits_length version = cond (has_limits version) power_limits_size 0
 

@@ -3,10 +3,10 @@
 use Rattle.std.specs.Prelude.{ℕ}
 pub use Rattle.zone.specs.Record.Numbers.{false_entry}
 
--- buffer too short, 16
+-- 16: the buffer is too short
 abbrev pub buffer_short : ℕ
 buffer_short = 16
 
--- 8,784 entries held, 17; a 8,785th 17
+-- 17: of an append that is given a count of 8,784 or more, of a take-up at an 8,785th entry
 abbrev pub book_full : ℕ
 book_full = 17

@@ -1,5 +1,5 @@
--- A plant with a limit, at an append: its whole outcome by the hour step with the limits that the call names, when these change nothing, and
--- that books tell them apart.
+-- The limits of the plant, at an append: its whole outcome by the hour step with the limits that the call names; when limits change nothing; and that books
+-- tell limits apart.
 -- Specification, Limits of the plant; Append; Equality of books.
 use Rattle.std.specs.Prelude.{ℕ, ◌+◌, ◌*◌, ◌<◌, ◌≡◌, ◌⊎◌, true, List, ◌++◌, T, leb, ltb, length, take, drop}
 use Rattle.std.specs.Float.{binary64}
@@ -20,7 +20,7 @@ use Rattle.book.specs.Entry.{entry_of}
 use Rattle.book.specs.Model.Calls.{BookState, append_res}
 use Rattle.book.specs.Year.{Carried, carried, may_follow, limits_part, hour_item, year_interface}
 
--- both are f64s, as the limits of every call are
+-- both are floats of 64 bits, as the limits of every call are
 pub record AreF64 (l : Limits) : Type 0 where
   pub heating : T (fits binary64 l.heating)
   pub cooling : T (fits binary64 l.cooling)
@@ -40,8 +40,8 @@ module _ (z : Zone) (given : BookState Carried) (conditions buf : List ℕ) (l :
   append version = append_res year_interface z given (hour_item version conditions l) buf
 
   pub record PlantClaims : Type 0 where
-    -- The zone's; 17; 18 with the count held; the hour step's with the call's own limits, bit for bit, so 19 after 9 and in version 3 alone; 16 by the
-    -- length of that version.
+    -- The zone's; 17; 18 with the count held as index; the hour step's with the call's own limits, bit for bit, so 19 after 9 and in version 3 alone; 16 by
+    -- the length of an entry of that version.
     pub whole : AreF64 l → (version : ℕ) → append version ≡ (
         bind (zone_test z) λ _.
         bind (require (ltb given.count most_entries) book_full) λ _.
@@ -49,7 +49,7 @@ module _ (z : Zone) (given : BookState Carried) (conditions buf : List ℕ) (l :
         bind (hour_step Retired standard_coefficients z version l given.state.state conditions) λ h.
         bind (require (leb (given.used + whole_length z version) (length buf)) buffer_short) λ _.
         ok (appended version h))
-    -- Length 147 + 41n + 8N with its own 4 bytes; The entry grows by 16 bytes
+    -- the length, 147 + 41n + 8N, and its own 4 bytes; of version 3 16 more
     pub size : (version : ℕ) → (version ≡ 1) ⊎ (version ≡ 2) → whole_length z version ≡ 151 + 41 * z.count + 8 * node_count z
     pub size_3 : whole_length z 3 ≡ 167 + 41 * z.count + 8 * node_count z
     -- An hour whose power is within both limits ends as version 2's: one demand, one state, and entries that differ in length, version byte and limits only.

@@ -13,14 +13,14 @@ use Rattle.book.specs.RetiredAppends.{RetiredAppends}
 use Rattle.book.specs.Answers.{number_of, index_of}
 use Rattle.book.specs.declared.book_error.BookError.{BookError}
 
--- Begin book: head, start-up, then buffer too short, 16.
+-- Begin: the head's, then start-up's, then 16, the buffer too short.
 pub data BeginRefusal : (number index : ℕ) → Type 0 where
   begin_head : {number index : ℕ} → HeadRefusal number index → BeginRefusal number index
   begin_start_up : {number index : ℕ} → StartUpRefusal number index → BeginRefusal number index
   begin_buffer_short : BeginRefusal buffer_short 0
 
--- Append: 8,784 entries held, 17; the hour step's; buffer, 16. The zone is tested first; 18 comes after 17, its index the count held; the hour
--- step's have 19, a limit out of range, after 9.
+-- Append: the zone's; 17, a count of 8,784 or more; 18 of the version, with the count as index; the hour step's from 6 on, with 19, a limit out of range,
+-- after 9; 16, the buffer too short.
 pub data AppendRefusal (count : ℕ) : (number index : ℕ) → Type 0 where
   append_zone : {number index : ℕ} → ZoneRefusal number index → AppendRefusal count number index
   append_book_full : AppendRefusal count book_full 0
@@ -28,7 +28,7 @@ pub data AppendRefusal (count : ℕ) : (number index : ℕ) → Type 0 where
   append_hour : {number index : ℕ} → KnownHourRefusal number index → AppendRefusal count number index
   append_buffer_short : AppendRefusal count buffer_short 0
 
--- Take up: head; start-up; then per whole entry, a 8,785th 17, a false one 18, with the entry's index from 0
+-- Take-up: the head's; start-up's; then entry by entry 17 for the 8,785th, or 18 for a false one, with its index from 0
 pub data TakeUpRefusal : (number index : ℕ) → Type 0 where
   take_up_head : {number index : ℕ} → HeadRefusal number index → TakeUpRefusal number index
   take_up_start_up : {number index : ℕ} → StartUpRefusal number index → TakeUpRefusal number index
@@ -40,9 +40,9 @@ pub record BookRefusals : Type 0 where
   pub begins : (head buf : List ℕ) → RefusesOnly BeginRefusal (begin_res year_interface head buf)
   pub appends : (z : Zone) (given : BookState Carried) (i : Item) (buf : List ℕ) → RefusesOnly (AppendRefusal given.count) (append_res year_interface z given i buf)
   pub take_ups : (bytes : List ℕ) → RefusesOnly TakeUpRefusal (take_up_res year_interface bytes)
-  -- an append of an hour with code 0 has 8
+  -- an append of an hour with rate code 0 has 8 in its place in that order
   pub fixed_rates : RetiredAppends
 
--- number and index: no two errors have the same
+-- no two errors have the same number and index
 abbrev pub OneError : Type 0
 OneError = (e e' : BookError) → number_of e ≡ number_of e' → index_of e ≡ index_of e' → e ≡ e'

@@ -1,5 +1,5 @@
--- What is dropped at the end is a rest under 5 bytes, or shorter than its version byte calls for; an unknown version byte makes any rest of
--- 5 bytes or more count as a whole entry, a false one: what a take-up makes of bytes behind a book's own.
+-- What a take-up makes of bytes behind a book's own. It drops a rest under 5 bytes, or shorter than its version byte calls for; an unknown version byte makes
+-- any rest of 5 bytes or more count as one whole entry, a false one.
 -- Specification, Where an entry ends.
 use Rattle.std.specs.Prelude.{ℕ, ◌+◌, ◌*◌, ◌≤◌, ◌<◌, ◌≡◌, ◌≢◌, ◌⊎◌, List, ◌++◌, length, take}
 use Rattle.zone.specs.Promise.{Result, ok, refused}
@@ -21,25 +21,25 @@ module _ (head : List ℕ) (is : List Item) (S : WellFormed year_interface head 
   abbrev pub DroppedBehind : (rest : List ℕ) → Type 0
   DroppedBehind rest = taken_up_with rest ≡ ok (own_book_state year_interface head S.contents)
 
-  -- 41n + 8N, fixed by the head
+  -- 41n + 8N: the part of an entry's length that the head gives
   abbrev pub length_by_head : ℕ
   length_by_head = 41 * S.contents.zone.count + 8 * node_count S.contents.zone
 
   pub record RestClaims : Type 0 where
     pub under_5 : (rest : List ℕ) → length rest < 5 → DroppedBehind rest
-    -- 4 bytes and the length, 147 + 41n + 8N
+    -- shorter than an entry of version 1 or 2: the 4 bytes of its length, and 147 + 41n + 8N;
     pub short : (rest : List ℕ) → 5 ≤ length rest → (version_in rest ≡ 1) ⊎ (version_in rest ≡ 2) → length rest < 151 + length_by_head → DroppedBehind rest
-    -- The entry grows by 16 bytes
+    -- of version 3 16 more
     pub short_3 : (rest : List ℕ) → 5 ≤ length rest → version_in rest ≡ 3 → length rest < 167 + length_by_head → DroppedBehind rest
-    -- A rest of so many bytes counts, whatever is behind them: 17 where no entry may follow;
+    -- A rest of so many bytes or more begins with a whole entry, whatever is behind it: 17 where the book holds 8,784 already;
     pub whole_full : (rest : List ℕ) → (version_in rest ≡ 1) ⊎ (version_in rest ≡ 2) → 151 + length_by_head ≤ length rest → length is ≡ most_entries → taken_up_with rest ≡ refused book_full 0
     pub whole_full_3 : (rest : List ℕ) → version_in rest ≡ 3 → 167 + length_by_head ≤ length rest → length is ≡ most_entries → taken_up_with rest ≡ refused book_full 0
-    -- and a wrong length inside it makes it false: its first four bytes do not say where it ends
+    -- else a wrong length in its first four bytes makes it false, 18 with its index: they do not say where it ends
     pub wrong_length : (rest : List ℕ) → (version_in rest ≡ 1) ⊎ (version_in rest ≡ 2) → 151 + length_by_head ≤ length rest → length is < most_entries
         → take 4 rest ≢ bytes_of 4 (147 + length_by_head) → taken_up_with rest ≡ refused false_entry (length is)
     pub wrong_length_3 : (rest : List ℕ) → version_in rest ≡ 3 → 167 + length_by_head ≤ length rest → length is < most_entries
         → take 4 rest ≢ bytes_of 4 (163 + length_by_head) → taken_up_with rest ≡ refused false_entry (length is)
-    -- An unknown version byte: a false entry, 18 at its index, or 17 where no entry may follow
+    -- An unknown version byte: a false entry, 18 with its index, or 17 where the book holds 8,784 already
     pub unknown : (rest : List ℕ) → 5 ≤ length rest → version_in rest ≢ 1 → version_in rest ≢ 2 → version_in rest ≢ 3 → length is < most_entries
         → taken_up_with rest ≡ refused false_entry (length is)
     pub unknown_full : (rest : List ℕ) → 5 ≤ length rest → version_in rest ≢ 1 → version_in rest ≢ 2 → version_in rest ≢ 3 → length is ≡ most_entries

@@ -1,5 +1,5 @@
 -- The layers of the year book: the head's reader, start-up and the hour step of the crates below, and the bytes of an entry.
--- Specification, Plain book; Append; Where an entry ends; Fixed rate; Values of a book.
+-- Specification, Plain book; Append; Take-up; Where an entry ends; Fixed rate; Values of a book.
 use Rattle.std.specs.Prelude.{Bool, cond, ◌&&◌, ℕ, ◌-◌, List, [], ◌++◌, length, take, drop, leb}
 use Rattle.std.proofs.Math.Option.{Option, none, some}
 use Rattle.zone.specs.Promise.{Result, ok, bind, require_at}
@@ -20,8 +20,8 @@ use Rattle.book.specs.Numbers.{false_entry}
 use Rattle.book.specs.Layout.{most_entries, front_size, limits_length, whole_length, body_length}
 use Rattle.book.specs.Entry.{entry_of}
 
--- the plain book holds each hour's with its conditions: the version that an append names, and `body`, the conditions' bytes; behind them, from version 3
--- on, those of the limits: the plain book holds them with the conditions, bit for bit
+-- an hour as the plain book holds it, bit for bit: the version that its append named, and `body`, the bytes of its conditions and, in version 3, behind them
+-- those of its limits
 pub data Item : Type 0 where
   hour : (version : ℕ) (body : List ℕ) → Item
 
@@ -54,7 +54,7 @@ pub record Carried : Type 0 where
 abbrev pub carried : State → (last_version : ℕ) → Carried
 carried s last_version = record { state = s; last_version = last_version }
 
--- 1 where there is none
+-- the last version of a book without entries
 abbrev pub no_entry_version : ℕ
 no_entry_version = 1
 
@@ -63,11 +63,12 @@ start_up z =
     bind (init_node_temps standard_coefficients z) λ s.
     ok (carried s no_entry_version)
 
--- a book may pass from 1 to 2 but never back, else 18, as for a version that no hour has; version 3 may follow versions 1 and 2, never the reverse
+-- a version that hours have, and not below the last one: a book may stay at its version or rise, from 1 to 3 too, and never falls; else 18
 abbrev pub may_follow : (last_version version : ℕ) → Bool
 may_follow last_version version = hour_version version && leb last_version version
 
--- the entry that an hour has, and what is carried after it: the version is tested, its index the count held, and the hour is written by that version's rule
+-- the entry that an hour has, and what is carried after it: the version is tested first (18, with the count held as index), and the hour step is by that
+-- version's rule
 unfoldable pub hour_entry : FixedRate → Zone → (count : ℕ) → Carried → Item → Result (Written Carried)
 hour_entry fixed z k s (hour version body) =
     bind (require_at (may_follow s.last_version version) false_entry k) λ _.
@@ -91,8 +92,8 @@ body_in z version e = take (body_length z version) (drop front_size e)
 unfoldable pub item_in : Zone → (entry : List ℕ) → Item
 item_in z e = hour (version_in e) (body_in z (version_in e) e)
 
--- Entries of every version with code 0 already written are still taken up, each judged by what the hour step would write without this refusal; an append has
--- that refusal
+-- An append refuses an hour with rate code 0 (`Retired`). A take-up judges an entry with code 0, of any version, by its hour step as if this refusal were not
+-- (`StillTaken`).
 abbrev pub year_interface : Interface
 year_interface =
     record {

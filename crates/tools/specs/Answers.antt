@@ -1,5 +1,5 @@
 -- What the functions answer, in the words of the definitions: a refusal by its number and index.
--- Specification, Table of refusals.
+-- Specification, What a refusal is; Table of refusals.
 use Rattle.std.specs.Prelude.{ℕ, Ok, Err}
 use Rattle.std.specs.Prelude as Rust
 use Rattle.zone.specs.Promise.{Result, ok, refused}

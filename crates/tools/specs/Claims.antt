@@ -1,4 +1,5 @@
--- What is claimed of the three questions: of the definitions that the contracts of their functions cite. Comparisons, distance, bound and number are written out.
+-- What is claimed of the three questions: of the definitions that the contracts of their functions cite. Comparisons, distance, bound and the refusal's number
+-- are written out.
 -- Specification, Questions over a book.
 use Rattle.std.specs.Prelude.{ℕ, zero, suc, ◌+◌, ◌<◌, ◌≡◌, ◌↔◌, Bool, true, false, not, cond, ◌&&◌, List, ◌++◌, length, get_or, Float, None, Some}
 use Rattle.std.proofs.Math.Option.{none}
@@ -58,13 +59,13 @@ module _ (c : Contents year_interface) where
     pub nearest : (value : Float) → value_valid value ≡ true → (i : ℕ) → nearest_hour_in bytes value ≡ ok (Some i) → NearestHour value i
     pub some_nearest : (value : Float) → value_valid value ≡ true → 0 < hours_held → (i : ℕ) × (nearest_hour_in bytes value ≡ ok (Some i))
     pub no_nearest : (value : Float) → value_valid value ≡ true → (nearest_hour_in bytes value ≡ ok None) ↔ (hours_held ≡ 0)
-    -- as many hours as lie within the band; none where none does
+    -- as many hours as lie within the band; 0 exactly where none does, all exactly where all do
     pub counted : (lower upper : Float) → band_valid lower upper ≡ true → hours_within_in bytes lower upper ≡ ok (count_of hours_held 0 (in_band lower upper))
     pub none_within : (lower upper : Float) → band_valid lower upper ≡ true
         → (hours_within_in bytes lower upper ≡ ok 0) ↔ ((i : ℕ) → i < hours_held → in_band lower upper i ≡ false)
     pub all_within : (lower upper : Float) → band_valid lower upper ≡ true
         → (hours_within_in bytes lower upper ≡ ok hours_held) ↔ ((i : ℕ) → i < hours_held → in_band lower upper i ≡ true)
-    -- 20, a value not finite or outside ±1e6 or a band whose lower end is above its upper, of an empty book too
+    -- 20 where a value is not within ±1e6 or a band's lower end is above its upper, also of a book without hours
     pub first_invalid_lem : (value : Float) → value_valid value ≡ false → first_above_in bytes value ≡ refused 20 0
     pub within_invalid : (lower upper : Float) → band_valid lower upper ≡ false → hours_within_in bytes lower upper ≡ refused 20 0
     pub nearest_invalid : (value : Float) → value_valid value ≡ false → nearest_hour_in bytes value ≡ refused 20 0
@@ -78,10 +79,11 @@ pub record QuestionClaims : Type 0 where
       → temperature c i ≡ operative_of c.zone (get_or c.entries i none_there).after.state.temps
   pub before_first : (c : Contents year_interface) → temperature_before c 0 ≡ operative_of c.zone c.start.state.temps
   pub before_next : (c : Contents year_interface) (i : ℕ) → temperature_before c (suc i) ≡ temperature c i
-  -- a value not finite or outside ±1e6 or a band whose lower end is above its upper
+  -- a value that is taken is within ±1e6, both included; the upper end of a band is not below its lower
   pub valid_value : (value : Float) → value_valid value ≡ (le (neg (decimal 1000000 0)) value && le value (decimal 1000000 0))
   pub valid_band : (lower upper : Float) → band_valid lower upper ≡ (value_valid lower && value_valid upper && not (lt upper lower))
-  -- What a question is asked of is what a take-up accepts, as many hours, the last state after the last; else it has the take-up's refusal, whatever the value.
+  -- A question is asked of what a take-up accepts: there are as many hours as its count, and the state after the last is the one that it hands back. Of other
+  -- bytes the question has the take-up's refusal, whatever the value.
   pub accepted : (bytes : List ℕ) (v : BookState Carried) → take_up_res year_interface bytes ≡ ok v
       → (c : Contents year_interface) × (contents_in year_interface bytes ≡ ok c) × (hours_held c ≡ v.count) × (last_state c.start c.entries ≡ v.state)
   pub asked_of : (bytes : List ℕ) (c : Contents year_interface) → contents_in year_interface bytes ≡ ok c → AcceptedClaims c bytes

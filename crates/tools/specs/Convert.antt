@@ -1,5 +1,5 @@
--- A converter rewrites a whole accepted book, code 0 becoming code 1 with the rate twice; every demand, temperature and chosen rate must be
--- the same bits as before, and the output is what the plain book has for the new conditions, triggers included. Code 1 hours pass through untouched.
+-- The conversion of a whole book that is taken up: an hour with rate code 0 becomes one with code 1 and its rate twice, and an hour with code 1 stays as it is.
+-- The output is what the plain book has for these hours.
 -- Specification, Conversion.
 use Rattle.std.specs.Prelude.{ℕ, Bool, not, cond, List, [], ◌++◌, map, length, drop, leb, eqb}
 use Rattle.std.specs.List.{list_all}
@@ -11,7 +11,7 @@ use Rattle.book.specs.Model.PlainTakeUp.{take_up_plain}
 use Rattle.book.specs.Year.{Item, hour, year_interface}
 use Rattle.tools.specs.Numbers.{version_1_entry}
 
--- the body of an hour: its conditions, and behind them what its version has more
+-- the body of an hour is its conditions' bytes and, in version 3, behind them those of its limits, which stay
 abbrev pub converted_body : List ℕ → List ℕ
 converted_body body = cond (is_fixed body) (rate_twice body) body
 
@@ -22,7 +22,7 @@ converted_item (hour version body) = hour version (converted_body body)
 abbrev pub has_fixed_rate : Item → Bool
 has_fixed_rate (hour version body) = is_fixed body
 
--- Books with version 1 entries are not converted.
+-- A book with an entry of version 1 is not converted.
 abbrev pub is_version_1 : Item → Bool
 is_version_1 (hour version body) = eqb version 1
 
@@ -31,8 +31,8 @@ pub record ConvertedBook : Type 0 where
   pub count : ℕ
   pub bytes : List ℕ
 
--- Refused: 24, such a book, tested after it is accepted, then 16 for the output. The output has the used bytes of the plain book with the same head and
--- the converted hours.
+-- After the take-up 24, an entry of version 1, then 16, the output shorter than the used length. The output has the used bytes of the plain book with the same
+-- head and the converted hours.
 unfoldable pub convert_items : (head : List ℕ) (is : List Item) → (out : List ℕ) → Result ConvertedBook
 convert_items head is out =
     bind (contents_of year_interface head is) λ _.
@@ -49,6 +49,6 @@ convert_plain (book head is) out = convert_items head is out
 unfoldable pub convert_in : (bytes out : List ℕ) → Result ConvertedBook
 convert_in bytes out = bind (take_up_plain year_interface bytes) λ p. convert_plain p out
 
--- bytes behind it stay
+-- the output after the call: its bytes behind the book stay
 abbrev pub output : ConvertedBook → (out : List ℕ) → List ℕ
 output b out = b.bytes ++ drop (length b.bytes) out

@@ -1,4 +1,5 @@
 -- What the converter answers, in the words of the definition, and what it leaves in the output.
+-- Specification, Conversion; What a refusal is; Table of refusals.
 use Rattle.std.specs.Prelude.{ℕ, Ok, Err, List, length}
 use Rattle.std.specs.Prelude as Rust
 use Rattle.zone.specs.Promise.{Result, ok, refused}

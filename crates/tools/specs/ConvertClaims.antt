@@ -1,6 +1,6 @@
--- What is claimed of the converter: every demand, temperature and chosen rate must be the same bits as before, and the output is what the plain book has for the
--- new conditions, triggers included. Code 1 hours pass through untouched.
--- Specification, Conversion.
+-- What is claimed of the converter: every demand, temperature, chosen rate and trigger has the same bits as before, the output is what the plain book has for
+-- the converted hours, and an hour with rate code 1 stays as it is.
+-- Specification, Conversion; Fixed rate.
 use Rattle.std.specs.Prelude.{ℕ, ◌+◌, ◌≤◌, ◌<◌, ◌≡◌, true, false, not, List, [], ◌∷◌, ◌++◌, map, length, take, drop}
 use Rattle.std.specs.List.{list_all}
 use Rattle.zone.specs.Promise.{ok, refused}
@@ -20,8 +20,8 @@ unfoldable pub Appended : Zone → (k : ℕ) → Carried → List (Entry year_in
 Appended z k s [] = Unit {0}
 Appended z k s (e ∷ es) = (year_interface.append_step z k s e.item ≡ ok (record { bytes = e.bytes; after = e.after })) × Appended z (k + 1) e.after es
 
--- Of an accepted book and its output, taken up both: one zone, one start-up, and hour by hour the converted hour, the same state after it, and the same bytes but
--- those of a fixed rate's code and second float. So demands, rates and triggers stand in the output as they did.
+-- Of an accepted book and its output, both taken up: one zone, one start-up, and hour by hour the converted hour, the same state after it, and the same bytes
+-- but those of a fixed rate's code and second float. So demands, rates and triggers stand in the output as they did.
 pub record Converts (bytes : List ℕ) (b : ConvertedBook) : Type 0 where
   pub head : List ℕ
   pub old : Contents year_interface
@@ -45,7 +45,7 @@ pub record Converts (bytes : List ℕ) (b : ConvertedBook) : Type 0 where
   -- and converting again changes nothing.
   pub again : (out : List ℕ) → length b.bytes ≤ length out → convert_in b.bytes out ≡ ok b
 
--- Refused: 24, such a book, tested after it is accepted, then 16 for the output: of an accepted book, whose hours are `is`
+-- Of an accepted book, whose hours are `is`: 24 where it has an entry of version 1; else 16 where the output is shorter than the used length.
 pub record ConvertReasons (bytes : List ℕ) (v : BookState Carried) (is : List Item) : Type 0 where
   pub version_1 : list_all (λ i. not (is_version_1 i)) is ≡ false → (out : List ℕ) → convert_in bytes out ≡ refused version_1_entry 0
   pub short : list_all (λ i. not (is_version_1 i)) is ≡ true → (out : List ℕ) → length out < v.used → convert_in bytes out ≡ refused buffer_short 0
@@ -59,9 +59,9 @@ pub record ConvertClaims : Type 0 where
   pub reasons : (bytes : List ℕ) (v : BookState Carried) (c : Contents year_interface) → take_up_res year_interface bytes ≡ ok v → contents_in year_interface bytes ≡ ok c
       → ConvertReasons bytes v (map (λ e. e.item) c.entries)
   pub converts : (bytes out : List ℕ) (b : ConvertedBook) → convert_in bytes out ≡ ok b → Converts bytes b
-  -- Code 1 hours pass through untouched.
+  -- An hour with rate code 1 stays as it is.
   pub untouched : (body : List ℕ) → is_fixed body ≡ false → converted_body body ≡ body
-  -- So the output for a book with no other is its used bytes.
+  -- So the output for a book that has no other hours is its used bytes.
   pub unchanged : (head : List ℕ) (is : List Item) (S : WellFormed year_interface head is)
       → list_all (λ i. not (is_version_1 i)) is ≡ true → list_all (λ i. not (has_fixed_rate i)) is ≡ true
       → (out : List ℕ) → length (used_bytes year_interface head S.contents) ≤ length out

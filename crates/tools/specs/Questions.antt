@@ -1,5 +1,4 @@
--- Three questions over an accepted book. The definitions speak of the plain book's hours and of the states after
--- them.
+-- Three questions over an accepted book. The definitions speak of the plain book's hours and of the states after them.
 -- Specification, Questions over a book.
 use Rattle.std.specs.Prelude.{ℕ, ◌+◌, Bool, not, cond, ◌&&◌, ◌||◌, List, [], ◌∷◌, map, length, get_or, ltb, Float, Option, None, Some}
 use Rattle.std.specs.Float.{nan}
@@ -32,11 +31,11 @@ after ts i = get_or ts i nan
 abbrev pub before : (start : Float) → (temperatures : List Float) → (i : ℕ) → Float
 before start ts i = get_or (start ∷ ts) i nan
 
--- the first of so many hours that passes a test. Where no such hour exists the first and third yield none
+-- the first of so many hours that passes a test; none where no hour does
 unfoldable pub first_hour : (hours : ℕ) → (ℕ → Bool) → Option ℕ
 first_hour hours test = cond (ltb (first_below hours test) hours) (Some (first_below hours test)) None
 
--- ---- the first hour at which operative temperature goes from at or below a given value to above it
+-- ---- the first hour at which the operative temperature goes from at or below a given value to above it
 
 abbrev pub goes_above : (value temperature_before temperature : Float) → Bool
 goes_above value temperature_before temperature = le temperature_before value && lt value temperature
@@ -69,7 +68,7 @@ none_nearer value ts i = all 0 (length ts) λ j. not (nearer (distance value (af
 unfoldable pub nearest_hour : (value : Float) → (temperatures : List Float) → Option ℕ
 nearest_hour value ts = first_hour (length ts) (none_nearer value ts)
 
--- ---- over bytes. Refused: 20, a value not finite or outside ±1e6 or a band whose lower end is above its upper, tested after the book is accepted.
+-- ---- over bytes: the take-up's refusals, then 20 where a value is not within ±1e6 or a band's upper end is below its lower
 
 -- finite and within ±1e6, both included: the bound that temperatures have
 abbrev pub value_valid : Float → Bool

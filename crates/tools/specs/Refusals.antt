@@ -1,5 +1,5 @@
--- Which numbers and indices the questions and the converter can be refused with: tested after the book is accepted.
--- Specification, Order of tests.
+-- Which numbers and indices the questions and the converter can be refused with: those of the take-up, then their own.
+-- Specification, Order of tests; Table of refusals.
 use Rattle.std.specs.Prelude.{ℕ, ◌≡◌, List, Float}
 use Rattle.zone.specs.Promise.{RefusesOnly}
 use Rattle.book.specs.Refusals.{TakeUpRefusal}
@@ -14,7 +14,7 @@ pub data QuestionRefusal : (number index : ℕ) → Type 0 where
   question_take_up : {number index : ℕ} → TakeUpRefusal number index → QuestionRefusal number index
   question_invalid : QuestionRefusal question_value 0
 
--- Refused: 24, a book with an entry of version 1, tested after it is accepted, then 16 for the output.
+-- The take-up's; 24, an entry of version 1; 16, the output shorter than the used length.
 pub data ConvertRefusal : (number index : ℕ) → Type 0 where
   convert_take_up : {number index : ℕ} → TakeUpRefusal number index → ConvertRefusal number index
   convert_version_1 : ConvertRefusal version_1_entry 0
@@ -29,6 +29,6 @@ pub record QuestionRefusals : Type 0 where
 abbrev pub ConvertRefusals : Type 0
 ConvertRefusals = (bytes out : List ℕ) → RefusesOnly ConvertRefusal (convert_in bytes out)
 
--- number and index: no two errors have the same
+-- no two errors of a question have the same number and index
 abbrev pub OneError : Type 0
 OneError = (e e' : QuestionError) → number_of e ≡ number_of e' → index_of e ≡ index_of e' → e ≡ e'

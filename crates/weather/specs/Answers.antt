@@ -1,4 +1,5 @@
 -- What an answer of the code says: a value, or number and index of a refusal.
+-- Specification, What a refusal is; Table of refusals.
 use Rattle.std.specs.Prelude.{ℕ, Ok, Err}
 use Rattle.std.specs.Prelude.{Result as Answer}
 use Rattle.zone.specs.Promise.{Result, ok, refused}

@@ -25,7 +25,7 @@ all_digits bs = list_all is_digit bs
 abbrev pub is_digits : List ℕ → Bool
 is_digits bs = not (length bs == 0) && all_digits bs
 
--- digits, and perhaps a point with digits after it, from what points split it into
+-- digits, and perhaps a point with digits behind it, given as the pieces between its points
 unfoldable pub unsigned : (minus : Bool) → List (List ℕ) → Option Decimal
 unsigned minus [] = None
 unsigned minus (whole ∷ []) = cond (is_digits whole) (Some (record { minus = minus; digits = whole; places = 0 })) None
@@ -33,7 +33,7 @@ unsigned minus (whole ∷ fraction ∷ []) =
     cond (is_digits whole && is_digits fraction) (Some (record { minus = minus; digits = whole ++ fraction; places = length fraction })) None
 unsigned minus (whole ∷ fraction ∷ third ∷ others) = None
 
--- A decimal is a minus or none, digits, and perhaps a point with digits after it.
+-- A decimal is a minus or none, one digit or more, and perhaps a point with one digit or more behind it.
 unfoldable pub decimal_of : (field : List ℕ) → Option Decimal
 decimal_of [] = None
 decimal_of (b ∷ bs) = cond (eqb b minus_sign) (unsigned true (split point bs)) (unsigned false (split point (b ∷ bs)))
@@ -43,10 +43,10 @@ unfoldable pub number : (digits : List ℕ) → ℕ
 number [] = 0
 number (b ∷ bs) = (b - digit0) * 10 ^ length bs + number bs
 
--- Each written decimal becomes the nearest f64, ties to even; a minus stays on a zero: of the fraction number / 10 ^ places, by the library's rounding.
+-- The binary64 nearest to number / 10 ^ places, ties to even, by the library's rounding; a zero with a minus is -0.0.
 unfoldable pub value : Decimal → Float
 value d = round binary64 d.minus (number d.digits) (10 ^ d.places)
 
--- it is n / 10 ^ k, whatever zeros are written
+-- it is n / 10 ^ k before any rounding, has no minus, and may have zeros in front and behind
 unfoldable pub is : (n k : ℕ) → Decimal → Bool
 is n k d = not d.minus && eqb (number d.digits * 10 ^ k) (n * 10 ^ d.places)

@@ -1,12 +1,12 @@
 -- Fields, and a file, and what the definition makes of them: the sharp cases of the rules, calculated.
--- Specification, Decimals of a weather file.
+-- Specification, Decimals of a weather file; Weather of a line; Ranges.
 use Rattle.std.specs.Prelude.{◌≡◌, ℕ, List, [], ◌∷◌, ◌++◌, replicate}
 use Rattle.std.specs.Float.{binary64}
 use Rattle.std.specs.Float.Ieee.{of_bits}
 use Rattle.zone.specs.Promise.{ok, refused}
 use Rattle.weather.specs.Weather.{dry_bulb, radiation, weather_from, weather_of}
 
--- a field's bytes are ASCII; the comment writes them
+-- a field's bytes are ASCII; the comment above each shows the text
 pub record FieldExamples : Type 0 where
   -- `99.9`
   pub dry_bulb_1 : dry_bulb (57 ∷ 57 ∷ 46 ∷ 57 ∷ []) ≡ refused 23 0
@@ -66,7 +66,8 @@ example_file = replicate 8 10 ++ 49 ∷ 57 ∷ 57 ∷ 57 ∷ 44 ∷ 49 ∷ 44 �
 pub record FileExample : Type 0 where
   pub line_1 : weather_of example_file 1 ≡ ok (record { dry_bulb = of_bits binary64 0xbfe0_0000_0000_0000; direct_normal = of_bits binary64 0x4062_c000_0000_0000; diffuse_horizontal = of_bits binary64 0x4030_4000_0000_0000 })
   pub line_2 : weather_of example_file 2 ≡ refused 21 0
-  -- the fields are tested one by one in file order: a bad seventh before a missing fifteenth, a missing fifteenth before a bad sixteenth, and the other way round
+  -- the fields are tested one by one in file order: a bad seventh before a missing fifteenth, a missing seventh before a bad fifteenth, a missing fifteenth
+  -- before a bad sixteenth
   pub seventh_first : weather_from (120 ∷ []) (57 ∷ 57 ∷ 57 ∷ 57 ∷ []) (120 ∷ []) ≡ refused 22 0
   pub seventh_missing_first : weather_from (57 ∷ 57 ∷ 46 ∷ 57 ∷ []) (120 ∷ []) (120 ∷ []) ≡ refused 23 0
   pub fifteenth_next : weather_from (48 ∷ []) (57 ∷ 57 ∷ 57 ∷ 57 ∷ []) (120 ∷ []) ≡ refused 23 0

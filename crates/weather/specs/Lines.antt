@@ -4,26 +4,26 @@ use Rattle.std.specs.Prelude.{ℕ, zero, suc, ◌-◌, ◌==◌, if◌then◌els
 use Rattle.weather.specs.Numbers.{line_feed, carriage_return, comma, header_lines}
 use Rattle.weather.specs.Split.{split}
 
--- one carriage return taken off the end, where there is one
+-- without the one carriage return at the end, where there is one
 abbrev pub without_return : List ℕ → List ℕ
 without_return bs = if slice_index bs (length bs - 1) == carriage_return then take (length bs - 1) bs else bs
 
--- Of what stands between line feeds all but the last ends with one, and so perhaps with the carriage return of a CR LF.
+-- Of the pieces between line feeds each but the last ended with a line feed, and loses a carriage return right before it; the last keeps its own.
 unfoldable pub ended : List (List ℕ) → List (List ℕ)
 ended [] = []
 ended (last ∷ []) = last ∷ []
 ended (line ∷ next ∷ others) = without_return line ∷ ended (next ∷ others)
 
--- A line ends with LF or CR LF, the last also at the end of the file.
+-- A line ends with LF, or with CR LF; what stands behind the last LF is a line too.
 unfoldable pub lines : (file : List ℕ) → List (List ℕ)
 unfolding ended
 lines file = ended (split line_feed file)
 
--- a chosen line, counted from 1 after the headers
+-- the line of this number, counted from 1 behind the headers
 unfoldable pub line_of : (file : List ℕ) → (line : ℕ) → Option (List ℕ)
 line_of file zero = None
 line_of file (suc before) = slice_get (drop header_lines (lines file)) before
 
--- comma-separated lines: a field, counted from 1
+-- a field of a line, counted from 1; commas part them
 unfoldable pub field_of : (line : List ℕ) → (place : ℕ) → Option (List ℕ)
 field_of line place = slice_get (split comma line) (place - 1)

@@ -26,7 +26,7 @@ digit0 = 48
 abbrev pub digit9 : ℕ
 digit9 = 57
 
--- ---- eight header lines, then comma-separated lines, dry bulb in the seventh field, direct normal and diffuse horizontal radiation in the fifteenth and sixteenth
+-- ---- eight header lines; then lines of fields, the seventh dry bulb, the fifteenth direct normal and the sixteenth diffuse horizontal radiation
 
 abbrev pub header_lines : ℕ
 header_lines = 8
@@ -40,11 +40,11 @@ direct_normal_field = 15
 abbrev pub diffuse_horizontal_field : ℕ
 diffuse_horizontal_field = 16
 
--- more than 12 digits
+-- the most digits that a decimal may have
 abbrev pub most_digits : ℕ
 most_digits = 12
 
--- ---- refusals: 21, line or field absent; 22, not a decimal, more than 12 digits or out of range; 23, missing
+-- ---- refusals: 21, line or field absent; 22, no decimal, more than 12 digits, or out of range; 23, missing
 
 abbrev pub absent : ℕ
 absent = 21

@@ -1,4 +1,5 @@
 -- Which numbers and indices the weather of a line can be refused with.
+-- Specification, Order of tests; What a refusal is.
 use Rattle.std.specs.Prelude.{ℕ, ◌≡◌, List}
 use Rattle.zone.specs.Promise.{RefusesOnly}
 use Rattle.weather.specs.declared.weather_error.WeatherError.{WeatherError}

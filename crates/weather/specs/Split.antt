@@ -1,4 +1,5 @@
--- What stands between the separators of a byte string.
+-- What stands between the separators of a byte string: line feeds, commas or points.
+-- Specification, Weather of a line; Decimals of a weather file.
 use Rattle.std.specs.Prelude.{ℕ, Bool, true, not, ◌&&◌, ◌==◌, List, [], ◌∷◌}
 use Rattle.std.specs.List.{slice_split}
 

@@ -13,7 +13,7 @@ abbrev pub present : {A : Type 0} → (number : ℕ) → Option A → Result A
 present number (Some a) = ok a
 present number None = refused number 0
 
--- 22, not a decimal, more than 12 digits or out of range; 23, missing, which is tested just before the range
+-- no decimal 22, more than 12 digits 22, missing 23, out of range 22, in this order
 unfoldable pub tested : (is_missing : Decimal → Bool) → (range : Float → Bool) → (field : List ℕ) → Result Float
 tested is_missing range field =
     bind (present invalid (decimal_of field)) λ d.
@@ -22,7 +22,7 @@ tested is_missing range field =
     bind (require (range (value d)) invalid) λ _.
     ok (value d)
 
--- A dry bulb of 99.9 or a radiation of 9999 is missing
+-- a dry bulb of 99.9 is missing, and so is a radiation of 9999
 abbrev pub dry_bulb : (field : List ℕ) → Result Float
 dry_bulb field = tested (is 999 1) temperature_range field
 
@@ -37,7 +37,7 @@ weather_from seventh fifteenth sixteenth =
     bind (radiation sixteenth) λ h.
     ok (record { dry_bulb = t; direct_normal = n; diffuse_horizontal = h })
 
--- After 21, which is for each of the three fields
+-- 21 where any of the three fields is absent; then the fields themselves
 unfoldable pub weather_in : (line : List ℕ) → Result Weather
 weather_in line =
     bind (present absent (field_of line dry_bulb_field)) λ seventh.
@@ -45,6 +45,6 @@ weather_in line =
     bind (present absent (field_of line diffuse_horizontal_field)) λ sixteenth.
     weather_from seventh fifteenth sixteenth
 
--- The answer is the three numbers of a chosen line
+-- the three numbers of the line of this number; 21 where it is absent
 unfoldable pub weather_of : (file : List ℕ) → (line : ℕ) → Result Weather
 weather_of file line = bind (present absent (line_of file line)) weather_in

@@ -27,18 +27,18 @@ pub record Outcome (State : Type 0) : Type 0 where
   pub buffer : List ℕ
 
 module _ {State : Type 0} where
-  -- a refusal gives its number and an index, and hands back unchanged the temperatures, count and used length that it was given
+  -- a refusal gives its number and an index, and hands back unchanged the values that it was given
   abbrev pub answer_from : (given : BookState State) → Result (BookState State) → Answer State
   answer_from g (ok v) = accepted v
   answer_from g (refused c j) = refused_with c j g
 
-  -- and it changes no byte of the buffer
+  -- a refusal changes no byte of the buffer either
   abbrev pub outcome_of : (given : BookState State) → (buf : List ℕ) → Result (BookState State × List ℕ) → Outcome State
   outcome_of g buf (ok r) = record { answer = accepted r.0; buffer = r.1 }
   outcome_of g buf (refused c j) = record { answer = refused_with c j g; buffer = buf }
 
 module _ (L : Interface) where
-  -- Begin book: head, start-up, then buffer too short, 16.
+  -- Begin: the head's refusals, start-up's, then 16, the buffer too short.
   unfoldable pub begin_res : (head buf : List ℕ) → Result (BookState L.State × List ℕ)
   begin_res head buf =
       bind (L.head_of head) λ h.
@@ -49,7 +49,7 @@ module _ (L : Interface) where
   unfoldable pub begin : (head : List ℕ) → (given : BookState L.State) → (buf : List ℕ) → Outcome L.State
   begin head g buf = outcome_of g buf (begin_res head buf)
 
-  -- Append: 8,784 entries held, 17; the hour step's; buffer, 16. The zone is tested first.
+  -- Append: the zone's refusals; 17, a count of 8,784 or more; 18 of the version, then the hour step's; 16, the buffer too short.
   unfoldable pub append_res : L.Zone → (given : BookState L.State) → L.Item → (buf : List ℕ) → Result (BookState L.State × List ℕ)
   append_res z g i buf =
       bind (L.given_test z g.state) λ _.
@@ -78,7 +78,7 @@ module _ (L : Interface) where
   check_entry k c (ok e) = cond (equal_bytes e.bytes c) (ok e.after) (refused false_entry k)
   check_entry k c (refused n j) = refused false_entry k
 
-  -- per whole entry, a 8,785th 17, a false one 18: from index k, state s and used length u on
+  -- entry by entry 17 for the 8,785th, else 18 for a false one: from index k, state s and used length u on
   unfoldable pub check_entries : L.Zone → (k : ℕ) → L.State → (u : ℕ) → List (List ℕ) → Result (BookState L.State)
   check_entries z k s u [] = ok (record { state = s; count = k; used = u })
   check_entries z k s u (c ∷ cs) =

@@ -15,8 +15,8 @@ use Rattle.book.specs.Model.Session.{CodeTypes, Session}
 module _ (L : Interface) where
   -- ---- lists of calls
 
-  -- One claim about the whole list, not one for each call: for every list of calls that starts with no book, whatever the functions return, each answer, each lent
-  -- buffer and the book held after each call are the plain book's.
+  -- One claim about the whole list, not one for each call: for every list of calls that starts with no book, whatever the functions return, each answer, each
+  -- lent buffer and the book held after each call are the plain book's.
   abbrev pub WholeLists : CodeTypes L → Type 0
   WholeLists T = (cs : Calls L) (es : List (Event L.State)) → Session L T none cs es → es ≡ plain_run L empty cs
 
@@ -77,23 +77,23 @@ module _ (L : Interface) where
   kept_by at head is S = items_ending_by L at (length head) S.contents.entries
 
   pub record OfBook (head : List ℕ) (is : List L.Item) (S : WellFormed L head is) : Type 0 where
-    -- appends come once there is one: then an append is made, whatever its item and the bytes behind the used ones.
+    -- An append to a book that is there can be made, whatever its item and the bytes behind the used ones.
     pub append_made : (i : L.Item) (spare : List ℕ) → (a : Answer L.State) × ((plain_make L (book head is) (call_append i spare)).answer ≡ some a)
-    -- Append: its hour added: an accepted append holds its item behind the others, whatever came before.
+    -- After an accepted append the book holds the item behind the others, whatever came before.
     pub append_holds : (i : L.Item) (spare : List ℕ) (v : BookState L.State) → (plain_make L (book head is) (call_append i spare)).answer ≡ some (accepted v)
         → (plain_make L (book head is) (call_append i spare)).next ≡ book head (is ++ (i ∷ []))
-    -- Cut at a byte from the head's end to the used length: then a cut is made, its answer is that of the take-up of the bytes before it,
+    -- A cut between the head's end and the used length, ends included, can be made: its answer is that of the take-up of the bytes before it,
     pub cut_made : (at : ℕ) → length head ≤ at → at ≤ length (used_bytes L head S.contents)
         → (plain_make L (book head is) (call_cut at)).answer ≡ some (take_up L (own_book_state L head S.contents) (take at (used_bytes L head S.contents)))
     -- and it holds the items whose entries end by then.
     pub cut_holds : (at : ℕ) → length head ≤ at → at ≤ length (used_bytes L head S.contents)
         → (plain_make L (book head is) (call_cut at)).next ≡ book head (kept_by at head is S)
-    -- No other cut is made.
+    -- No other cut can be made.
     pub cut_made_only : (at : ℕ) (a : Answer L.State) → (plain_make L (book head is) (call_cut at)).answer ≡ some a
         → (length head ≤ at) × (at ≤ length (used_bytes L head S.contents))
-    -- A cut's two sentences say the same: the bytes before it taken up, and the items whose entries end by then.
+    -- The two ways to say what a cut leaves agree: the bytes before it taken up, and the items whose entries end by then.
     pub cut_is_take_up : (at : ℕ) → length head ≤ at → cut_plain L head is at ≡ take_up_plain L (take at (used_bytes L head S.contents))
-    -- A cut is never refused.
+    -- The take-up of what a cut leaves is never refused.
     pub cut_accepted : (at : ℕ) → length head ≤ at → (g : BookState L.State)
         → (v : BookState L.State) × (take_up L g (take at (used_bytes L head S.contents)) ≡ accepted v)
     -- It keeps the first items and loses the others.

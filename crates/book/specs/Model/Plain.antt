@@ -8,7 +8,7 @@ use Rattle.book.specs.Model.Bytes.{concat}
 use Rattle.book.specs.Model.Interface.{Interface}
 use Rattle.book.specs.Model.Calls.{BookState}
 
--- It holds a head's bytes and hours
+-- it is empty, or holds a head's bytes and hours
 pub data Plain (Item : Type 0) : Type 0 where
   empty : Plain Item
   book : (head : List ℕ) → (items : List Item) → Plain Item
@@ -29,7 +29,7 @@ module _ {L : Interface} where
   abbrev pub entry_bytes : List (Entry L) → List ℕ
   entry_bytes es = concat (map (λ e. e.bytes) es)
 
-  -- the state after entries, at first s
+  -- the state after entries, s where there are none
   abbrev pub last_state : (s : L.State) → List (Entry L) → L.State
   last_state s [] = s
   last_state s (e ∷ es) = last_state e.after es
@@ -41,7 +41,7 @@ pub record Contents (L : Interface) : Type 0 where
   pub entries : List (Entry L)
 
 module _ (L : Interface) where
-  -- per hour the entry that the hour step gives from the node temperatures before it: from index k and state s on
+  -- per hour the entry that the hour step gives from the state before it: from index k and state s on
   unfoldable pub entries_of : L.Zone → (k : ℕ) → L.State → List L.Item → Result (List (Entry L))
   entries_of z k s [] = ok []
   entries_of z k s (i ∷ is) =
@@ -49,7 +49,7 @@ module _ (L : Interface) where
       bind (entries_of z (k + 1) w.after is) λ es.
       ok (record { item = i; bytes = w.bytes; after = w.after } ∷ es)
 
-  -- at first start-up's
+  -- the first of them from start-up's state
   unfoldable pub contents_of : (head : List ℕ) → List L.Item → Result (Contents L)
   contents_of head is =
       bind (L.head_of head) λ h.
@@ -57,11 +57,11 @@ module _ (L : Interface) where
       bind (entries_of h.zone 0 s is) λ es.
       ok (record { zone = h.zone; start = s; entries = es })
 
-  -- Its used bytes are the head, then per hour the entry
+  -- its used bytes: the head, then per hour the entry
   abbrev pub used_bytes : (head : List ℕ) → Contents L → List ℕ
   used_bytes head c = head ++ entry_bytes c.entries
 
-  -- its count, used length and temperatures are the number of these entries, the length of these bytes and the last node temperatures
+  -- its values: the state after the last entry (start-up's where there is none), the number of these entries, the length of these bytes
   abbrev pub own_book_state : (head : List ℕ) → Contents L → BookState L.State
   own_book_state head c = record { state = last_state c.start c.entries; count = length c.entries; used = length (used_bytes head c) }
 
@@ -75,7 +75,7 @@ module _ (L : Interface) where
 
   -- ---- what a begin, an append and a cut make of it, or the refusal
 
-  -- Begin: its head, no hours.
+  -- a begin: the head's own bytes, no hours
   unfoldable pub begin_plain : (head buf : List ℕ) → Result (Plain L.Item)
   begin_plain head buf =
       bind (L.head_of head) λ h.
@@ -83,7 +83,7 @@ module _ (L : Interface) where
       bind (require (leb h.length (length buf)) buffer_short) λ _.
       ok (book (take h.length head) [])
 
-  -- Append: its hour added. `spare` are the bytes of the lent buffer behind the used ones.
+  -- an append: as it was, with the hour behind the others; `spare` are the bytes of the lent buffer behind the used ones
   unfoldable pub append_plain : (head : List ℕ) (is : List L.Item) → L.Item → (spare : List ℕ) → Result (Plain L.Item)
   append_plain head is i spare =
       bind (contents_of head is) λ c.
@@ -99,13 +99,13 @@ module _ (L : Interface) where
       let others = items_ending_by at (b + length e.bytes) es in
       cond (leb (b + length e.bytes) at) (e.item ∷ others) others
 
-  -- cut at a byte from the head's end to the used length: the hours whose entries end by then stay
+  -- a cut at a place between the head's end and the used length, ends included: the hours whose entries end by then stay
   unfoldable pub cut_plain : (head : List ℕ) (is : List L.Item) → (at : ℕ) → Result (Plain L.Item)
   cut_plain head is at =
       bind (contents_of head is) λ c.
       ok (book head (items_ending_by at (length head) c.entries))
 
-  -- A plain book as lists of calls leave it: its bytes are a head, and head, start-up and items are all accepted, at most 8,784 items
+  -- a plain book as lists of calls leave it: no bytes behind the head's own, head, start-up and items all accepted, and at most 8,784 items
   pub record WellFormed (head : List ℕ) (is : List L.Item) : Type 0 where
     pub contents : Contents L
     pub head_is : L.head_of head ≡ ok (record { zone = contents.zone; length = length head })

@@ -40,7 +40,7 @@ module _ (L : Interface) (z : L.Zone) where
   refuses_or_differs (ok e) c = not (equal_bytes e.bytes c)
   refuses_or_differs (refused n j) c = true
 
-  -- an entry is false if the hour step refuses its conditions there or gives other bytes
+  -- an entry is false where the hour step refuses its item or gives other bytes
   unfoldable pub false_at : (start : L.State) → (bs : List ℕ) → (k : ℕ) → Bool
   false_at start bs k = refuses_or_differs (step_at start bs k) (entry_at bs k)
 
@@ -48,19 +48,19 @@ module _ (L : Interface) (z : L.Zone) where
   unfoldable pub first_invalid : (start : L.State) → (bs : List ℕ) → ℕ
   first_invalid start bs = first_below (number_of_entries bs) (λ k. eqb k L.limit || false_at start bs k)
 
-  -- per whole entry, a 8,785th 17, a false one 18
+  -- of the first invalid entry: 17 where it is the 8,785th, else 18 with its index
   abbrev pub refusal_at : (k : ℕ) → Result (Unit {0})
   refusal_at k = cond (eqb k L.limit) (refused book_full 0) (refused false_entry k)
 
   unfoldable pub test_entries : (start : L.State) → (bs : List ℕ) → Result (Unit {0})
   test_entries start bs = cond (eqb (first_invalid start bs) (number_of_entries bs)) (ok tt) (refusal_at (first_invalid start bs))
 
-  -- whole entries' conditions
+  -- the items of all whole entries
   abbrev pub items_in : (bs : List ℕ) → List L.Item
   items_in bs = items_before bs (number_of_entries bs)
 
 module _ (L : Interface) where
-  -- Take-up: head and whole entries' conditions in its bytes
+  -- a take-up: the head, and the items of the whole entries, that stand in its bytes
   unfoldable pub take_up_plain : (bytes : List ℕ) → Result (Plain L.Item)
   take_up_plain bytes =
       bind (L.head_of bytes) λ h.

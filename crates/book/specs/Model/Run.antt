@@ -10,7 +10,7 @@ use Rattle.book.specs.Model.Plain.{Plain, empty, book, Snapshot, snapshot, begin
 use Rattle.book.specs.Model.PlainTakeUp.{take_up_plain}
 
 -- What the caller chooses. Of a begin: the head's bytes, the values that it hands in, and the whole buffer. Of an append: the item, and the bytes
--- behind the used ones, of any number. Of a take-up: the values that it hands in, and the bytes. Of a cut: the byte.
+-- behind the used ones, of any number. Of a take-up: the values that it hands in, and the bytes. Of a cut: the place.
 pub data Call (State Item : Type 0) : Type 0 where
   call_begin : (head : List ℕ) → (given : BookState State) → (buf : List ℕ) → Call State Item
   call_append : Item → (spare : List ℕ) → Call State Item
@@ -18,7 +18,7 @@ pub data Call (State Item : Type 0) : Type 0 where
   call_cut : (at : ℕ) → Call State Item
 
 -- What is seen of a call: its answer; the whole buffer after it, where one was lent; and the book held after it. No answer where the call may not be
--- made: appends and cuts come once there is a book, a cut lies within the head's end to the used length.
+-- made: appends and cuts come once there is a book, and a cut lies between the head's end and the used length, ends included.
 pub record Event (State : Type 0) : Type 0 where
   pub answer : Option (Answer State)
   pub buffer : Option (List ℕ)
@@ -41,7 +41,7 @@ module _ (L : Interface) where
   abbrev pub written_to : (lent : Option (List ℕ)) → Option (Snapshot L.State) → Option (List ℕ)
   written_to lent seen = from_option lent (λ v. map_option (written v) lent) seen
 
-  -- accepted: the values of the new book. Refused: what was given, the buffer as it was, and leave it as it was.
+  -- accepted: the values of the new book. Refused: the values that were given, and buffer and plain book as they were.
   abbrev pub plain_outcome : (given : BookState L.State) → (lent : Option (List ℕ)) → Plain L.Item → Result (Plain L.Item) → PlainOutcome
   plain_outcome g lent p (ok q) = record { answer = map_option (λ v. accepted v.values) (snapshot L q); buffer = written_to lent (snapshot L q); next = q }
   plain_outcome g lent p (refused c j) = record { answer = some (refused_with c j g); buffer = lent; next = p }
@@ -49,7 +49,7 @@ module _ (L : Interface) where
   abbrev pub plain_not_made : Plain L.Item → PlainOutcome
   plain_not_made p = record { answer = none; buffer = none; next = p }
 
-  -- a call on a book: of an append it is fed not its zone, the used bytes or anything that a call handed back: of these it has its own
+  -- an append or a cut: zone, used bytes and values are not fed to the plain book, which has its own
   abbrev pub on_book : Plain L.Item → ((head : List ℕ) → List L.Item → Snapshot L.State → PlainOutcome) → PlainOutcome
   on_book empty f = plain_not_made empty
   on_book (book head is) f = from_option (plain_not_made (book head is)) (f head is) (snapshot L (book head is))

@@ -9,7 +9,7 @@ use Rattle.book.specs.Model.Calls as Book
 use Rattle.book.specs.Model.Plain.{Snapshot}
 use Rattle.book.specs.Model.Run.{Call, call_begin, call_append, call_take_up, call_cut, Calls, Event}
 
--- The types of the functions' values and replies, and what they stand for: the values; and number and values for each reply.
+-- The types of the functions' values and replies, and what they stand for: values, and for each reply an answer.
 pub record CodeTypes (L : Interface) : Type 1 where
   pub BookState : Type 0
   pub Reply : Type 0
@@ -51,7 +51,7 @@ module _ (L : Interface) (T : CodeTypes L) where
 
   -- A call that a caller makes who holds this book, and what is seen of it. Of the function it has what the contract ensures, and nothing else. Each
   -- call on a book is given the zone of its head, the used bytes as the last call on it left them, and the temperatures, count and used length that
-  -- this call handed back; a cut book comes back by a take-up of the bytes before it. What else is carried, as the last version, is given with them.
+  -- this call handed back, and with them the last version; a cut book comes back by a take-up of the bytes before the cut.
   pub data Made : HeldBook L → Call L.State L.Item → Event L.State → Type 0 where
     begins : (h : HeldBook L) (head buf : List ℕ) (g : T.BookState) (r : T.Reply) (out : List ℕ)
         → CallSpec L T r out (Book.begin L head (T.given_of g) buf)
@@ -64,7 +64,7 @@ module _ (L : Interface) (T : CodeTypes L) where
         → L.head_of v.bytes ≡ ok h → T.given_of g ≡ v.values
         → CallSpec L T r out (Book.append L h.zone (T.given_of g) i (v.bytes ++ spare))
         → Made (some v) (call_append i spare) (after_append L (returned r out))
-    -- Cut at a byte from the head's end to the used length
+    -- the place lies between the head's end and the used length, ends included
     cuts : (v : Snapshot L.State) (h : ReadHead L.Zone) (at : ℕ) (g : T.BookState) (r : T.Reply)
         → L.head_of v.bytes ≡ ok h → h.length ≤ at → at ≤ v.values.used → T.given_of g ≡ v.values
         → T.answer_of r ≡ Book.take_up L (T.given_of g) (take at v.bytes)
