@@ -1,5 +1,5 @@
-/* Hour steps of a house of 24 five-node elements in one winter hour, for counting instructions:
- *     instructions STEPS WINDOWS      (WINDOWS 0: one rate, 1: target and another rate with windows open)
+/* Hour steps of a house of five-node elements in one winter hour, for counting instructions:
+ *     instructions ELEMENTS STEPS WINDOWS      (WINDOWS 0: one rate, 1: target and another rate with windows open)
  * The house is that of bench/src/houses.rs; each step has entry version 1 and starts from the temperatures that the one
  * before left. */
 #include <stdio.h>
@@ -8,11 +8,15 @@
 
 #include "hem_zone.h"
 
-enum { ELEMENTS = 24 };
+enum { MOST_ELEMENTS = 24 };
 
-static unsigned char head[4 + 53 + 171 * ELEMENTS];
-static unsigned char conditions[113 + 41 * ELEMENTS];
+static int elements;
+static unsigned char head[4 + 53 + 171 * MOST_ELEMENTS];
+static unsigned char conditions[113 + 41 * MOST_ELEMENTS];
 static unsigned char *at;
+
+static size_t head_size(void) { return 4 + 53 + 171 * (size_t)elements; }
+static size_t conditions_size(void) { return 113 + 41 * (size_t)elements; }
 
 static void put_byte(unsigned value) { *at++ = (unsigned char)value; }
 
@@ -43,13 +47,13 @@ static void make_head(void) {
     static const double k_pli[5] = {10000, 20000, 20000, 20000, 10000};
     static const double h_pli[4] = {12, 6, 6, 12};
     at = head;
-    put_number(sizeof head - 4, 4);
+    put_number(head_size() - 4, 4);
     put_byte(1);
     put_byte(1);
-    put_byte(ELEMENTS);
+    put_byte((unsigned)elements);
     put_number(10000, 2);
     put_floats(front, 6);
-    for (int i = 0; i < ELEMENTS; i++) {
+    for (int i = 0; i < elements; i++) {
         const double own[7] = {10.0 + i, pitches[i % 6], 20, 4.14, 5.13, 0.6, 20};
         put_byte(kinds[i % 6]);
         put_byte(0);
@@ -67,19 +71,20 @@ static void make_conditions(int windows) {
     put_byte(1);
     put_float(0.5);
     put_float(windows ? 4.0 : 0.5);
-    for (int i = 0; i < ELEMENTS; i++) put_part(2, 50);
+    for (int i = 0; i < elements; i++) put_part(2, 50);
 }
 
 int main(int count, char **words) {
-    if (count != 3) return 2;
+    if (count != 4) return 2;
+    elements = atoi(words[1]);
+    if (elements < 1 || elements > MOST_ELEMENTS) return 2;
     double temps[HEM_TEMPS], out[HEM_OUT], balance[HEM_BALANCE];
     uint64_t nodes = 0;
     make_head();
-    make_conditions(atoi(words[2]));
-    uint32_t answer = hem_start_up(head, sizeof head, temps, &nodes);
-    for (int i = atoi(words[1]); answer == 0 && i > 0; i--)
-        answer = hem_hour_step(head, sizeof head, temps, nodes, conditions, sizeof conditions, 1, 0.0, 0.0, out,
-                               balance);
+    make_conditions(atoi(words[3]));
+    uint32_t answer = hem_start_up(head, head_size(), temps, &nodes);
+    for (int i = atoi(words[2]); answer == 0 && i > 0; i--)
+        answer = hem_hour_step(head, head_size(), temps, nodes, conditions, conditions_size(), 1, 0.0, 0.0, out, balance);
     if (answer != 0) fprintf(stderr, "refused: %u\n", (unsigned)answer);
     return answer != 0;
 }
