@@ -1,4 +1,5 @@
--- What a call answers, in the words of the definitions: a refusal by the papers' number and index.
+-- What a call answers, in the words of the definitions: a refusal by its number and index.
+-- Specification, Table of refusals; What a refusal is.
 use Rattle.std.specs.Prelude.{ℕ, Ok, Err, List, Float}
 use Rattle.std.specs.Prelude as Rust
 use Rattle.solver.specs.Answers as Solver

@@ -1,4 +1,5 @@
--- Conditions: accepted ones have the paper's size.
+-- Conditions: accepted ones have the size that the count of elements gives.
+-- Specification, Conditions.
 use Rattle.std.proofs.Common.{ℕ, ◌≤◌, ◌≡◌, sym, true, ◌&&◌, List, map, leb-true, eqb-true, leb, eqb, length, take}
 use Rattle.solver.specs.Result.{ok, require}
 use Rattle.solver.proofs.Promise.{bind_ok, require_ok, ok_inj, and_true}

@@ -1,4 +1,5 @@
 -- Accepted conditions determine their bytes.
+-- Specification, Conditions.
 use Rattle.std.proofs.Common.{ℕ, suc, zero, ◌+◌, ◌*◌, ◌-◌, ◌≤◌, ◌≡◌, refl, sym, ap, ◌∙◌, Bool, true, false, cond, ◌&&◌, true≢false, List, [], ◌∷◌, ◌++◌, map, arith, eqb-true, eqb, length, take, get_or, replicate, take_all, take_at, Float}
 use Rattle.solver.specs.Result.{ok, require_at}
 use Rattle.solver.proofs.Promise.{bind_ok, require_ok, and_true}
@@ -30,7 +31,7 @@ conditions_float s i = float_at s (8 * i)
 abbrev hour_float : List ℕ → (at i : ℕ) → Float
 hour_float s at i = float_at s (at + 8 * i)
 
--- "113 + 41n bytes"
+-- 113 + 41n bytes
 pub conditions_length_lem : (n : ℕ) → conditions_length n ≡ 113 + 41 * n
 conditions_length_lem n = refl
 

@@ -1,4 +1,5 @@
--- Heads: an accepted one lies within the bytes and depends on its own bytes only; its zone passes `zone_test`; its length is the paper's.
+-- Heads: an accepted one lies within the bytes and depends on its own bytes only; its zone passes `zone_test`; its length is that of its elements.
+-- Specification, Head.
 use Rattle.std.proofs.Common.{ℕ, suc, zero, ◌+◌, ◌≤◌, ◌≡◌, refl, sym, subst, ◌∙◌, List, ◌++◌, arith, leb-true, leb, take, length, length-append, take_at, length-take-le}
 use Rattle.solver.specs.Result.{ok, bind, require}
 use Rattle.solver.proofs.Promise.{ok_inj, bind_ok, require_ok, and_true}

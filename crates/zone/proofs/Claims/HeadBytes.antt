@@ -1,4 +1,5 @@
 -- An accepted head's zone determines its bytes.
+-- Specification, Head.
 use Rattle.std.proofs.Common.{ℕ, suc, zero, ◌+◌, ◌*◌, ◌-◌, ◌≤◌, ◌≡◌, refl, sym, ap, ◌∙◌, Bool, true, cond, ◌&&◌, List, [], ◌∷◌, ◌++◌, arith, leb-true, leb, length, take, get_or, replicate, take_at, Float}
 use Rattle.solver.specs.F64.{zero64}
 use Rattle.solver.specs.Result.{ok, require_at}
@@ -35,7 +36,7 @@ element_float s p i = float_at s (p + (element_floats + 8 * i))
 abbrev zone_float : List ℕ → (i : ℕ) → Float
 zone_float s i = float_at s (zone_floats + 8 * i)
 
--- "171 per five-node element, 123 + 8t per Transparent"
+-- 171 per five-node element, 123 + 8t per Transparent
 pub element_size_lem : (k : Kind) (t : ℕ) → element_size k t ≡ cond (is_two_nodes k) (123 + 8 * t) 171
 element_size_lem k t = refl
 

@@ -1,4 +1,5 @@
 -- Which numbers and indices heads, zones given as records and conditions are refused with.
+-- Specification, Order in a head.
 use Rattle.std.proofs.Common.{ℕ, zero, suc, ◌+◌, ◌≤◌, ◌<◌, ◌≡◌, refl, ◌&&◌, List, map, arith, leb-true, leb, eqb, length, take, length-take}
 use Rattle.solver.specs.Result.{ok}
 use Rattle.solver.specs.Refusals.{RefusesOnly, accepts}
@@ -51,7 +52,7 @@ take_few n l h = simp length-take (omega arith)
 
 -- ---- heads
 
--- "length outside 176 to 4,157"
+-- length outside 176 to 4,157
 pub shortest_length_lem : shortest_length ≡ 176
 shortest_length_lem = refl
 

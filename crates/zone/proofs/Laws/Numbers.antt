@@ -1,4 +1,5 @@
--- What lies in a range of document 01 is a number.
+-- What lies in a range is a number.
+-- Specification, Ranges.
 use Rattle.std.proofs.Common.{◌≡◌, true, Float}
 use lib.Ieee.{neg, le, lt}
 use Rattle.solver.specs.F64.{decimal}

@@ -1,4 +1,5 @@
--- Update, demand and hour step of document 01: the tests in the paper's order, then the calculation.
+-- Update, demand and hour step: the tests in their order, then the calculation.
+-- Specification, Order of tests; Update; Hour step; Entry versions; Limits of the plant; Fixed rate.
 use Rattle.std.specs.Prelude.{ℕ, Bool, true, ◌&&◌, cond, List, leb, Float}
 use Rattle.std.specs.Float.Ieee.{neg, lt}
 use Rattle.solver.specs.F64.{◌+ᶠ◌, ◌*ᶠ◌, ◌/ᶠ◌, decimal, zero64}
@@ -53,7 +54,7 @@ demand fixed c z s bytes =
     bind (tested fixed z s bytes) λ h.
     space_heat_cool_demand c z (slots_of z s) h
 
--- ---- hour step (document 01, and document 02 (a), (b)): the demand is met, by the rule of the entry version that the call names
+-- ---- hour step: the demand is met, by the rule of the entry version that the call names
 
 -- the versions that hours have: 1 to 3
 abbrev pub first_version : ℕ
@@ -65,28 +66,28 @@ newest_version = 3
 abbrev pub hour_version : (version : ℕ) → Bool
 hour_version version = leb first_version version && leb version newest_version
 
--- "Entry version 3 adds two floats after the conditions": an hour of an earlier version has no limits, and those of the call are not looked at
+-- Entry version 3 adds two floats after the conditions: an hour of an earlier version has no limits, and those of the call are not looked at
 abbrev pub limits_version : ℕ
 limits_version = 3
 
 abbrev pub has_limits : (version : ℕ) → Bool
 has_limits version = leb limits_version version
 
--- "greatest heating and greatest cooling in watts, 0 to 1e7"
+-- greatest heating and greatest cooling in watts, 0 to 1e7
 abbrev pub power_limits_range : Limits → Bool
 power_limits_range l = power_limit_range l.heating && power_limit_range l.cooling
 
 abbrev pub limits_valid : (version : ℕ) → Limits → Bool
 limits_valid version l = cond (has_limits version) (power_limits_range l) true
 
--- "Turned away: 19, a limit out of range, after 9"
+-- 19, a limit out of range, after 9
 unfoldable pub tested_hour_and_limits : FixedRate → Zone → (version : ℕ) → Limits → State → List ℕ → Result Conditions
 tested_hour_and_limits fixed z version l s bytes =
     bind (tested_hour fixed z s bytes) λ h.
     bind (require (limits_valid version l) limit_value) λ _.
     ok h
 
--- "An hour step alone names one too; an unknown one is 18, index 0, before 6": after the zone's 4, 5
+-- An hour step alone names one too; an unknown one is 18, index 0, before 6: after the zone's 4, 5
 unfoldable pub tested_step : FixedRate → Zone → (version : ℕ) → Limits → State → List ℕ → Result Conditions
 tested_step fixed z version l s bytes =
     bind (zone_test z) λ _.
@@ -97,7 +98,7 @@ tested_step fixed z version l s bytes =
 unfoldable pub delivered : Conditions → Demand → Float
 delivered h d = (d.space_heat_demand +ᶠ d.space_cool_demand) *ᶠ decimal 1000 0 /ᶠ h.delta_t_h
 
--- "Delivered power strictly beyond them becomes the limit, for cooling its negation"
+-- Delivered power strictly beyond them becomes the limit, for cooling its negation
 unfoldable pub limited : Limits → (w : Float) → Float
 limited l w = cond (lt l.heating w) l.heating (cond (lt w (neg l.cooling)) (neg l.cooling) w)
 
@@ -105,8 +106,8 @@ limited l w = cond (lt l.heating w) l.heating (cond (lt w (neg l.cooling)) (neg 
 unfoldable pub delivered_by : (version : ℕ) → Limits → Conditions → Demand → Float
 delivered_by version l h d = cond (has_limits version) (limited l (delivered h d)) (delivered h d)
 
--- "From entry version 2 on, delivered power below 0 uses the cooling fraction, any other the heating fraction. Version 1 entries keep their own rule";
--- "Shares follow version 2": w is what is delivered, after the limits
+-- From entry version 2 on, delivered power below 0 uses the cooling fraction, any other the heating fraction. Version 1 entries keep their own rule;
+-- Shares follow version 2: w is what is delivered, after the limits
 abbrev pub cooling_fraction_version : ℕ
 cooling_fraction_version = 2
 
@@ -123,7 +124,7 @@ pub record HourResult : Type 0 where
   pub state : State
   pub balance : HeatBalance
 
--- "demand is reported uncut". A call's hour step has the fixed rate retired; an entry is "judged by what the hour step would write without this refusal"
+-- demand is reported uncut. A call's hour step has the fixed rate retired; an entry is judged by what the hour step would write without this refusal
 unfoldable pub hour_step : FixedRate → Coefficients → Zone → (version : ℕ) → Limits → State → List ℕ → Result HourResult
 hour_step fixed c z version l s bytes =
     bind (tested_step fixed z version l s bytes) λ h.

@@ -1,5 +1,6 @@
--- Document 02 (e), why this rate, why this load: "From the node temperatures before an hour and its conditions, a tool names the earliest of these that holds
--- for that demand". The temperatures, the rate found and the closeness are the demand's own (Hour/Demand.antt).
+-- Why this rate, why this load: from the node temperatures before an hour and its conditions, a tool names the earliest of these that holds
+-- for that demand. The temperatures, the rate found and the closeness are the demand's own (Hour/Demand.antt).
+-- Specification, Why this rate, why this load; Fixed rate.
 use Rattle.std.specs.Prelude.{ℕ, cond, not, ◌&&◌, List, Float}
 use Rattle.std.specs.Float.Ieee.{lt, eq}
 use Rattle.solver.specs.F64.{zero64}
@@ -22,15 +23,15 @@ use Rattle.zone.specs.Hour.Demand.{control_temperature, free_temperatures, ach_t
 use Rattle.zone.specs.Calls.State.{slots_of}
 use Rattle.zone.specs.Calls.Hour.{tested}
 
--- "heating, cooling or neither, by the hour's demand"
+-- heating, cooling or neither, by the hour's demand
 unfoldable pub load_of : Demand → Load
 load_of d = cond (lt zero64 d.space_heat_demand) Heating (cond (lt d.space_cool_demand zero64) CoolingLoad Neither)
 
 -- c: the standards' numbers; z: the zone; t: the node temperatures before the hour; h: the hour's conditions
 module _ (c : Coefficients) (z : Zone) (t : List Float) (h : Conditions) where
-  -- the list, in the paper's order: "no choice of rates (code 0, or both equal); free temperature not above the ventilation setpoint; free air not above the
+  -- the list, in its order: no choice of rates (code 0, or both equal); free temperature not above the ventilation setpoint; free air not above the
   -- supply; windows open would not lower the free temperature; with the rate found it is still above the cooling setpoint and not close to it by the windows
-  -- test; windows enough". Free is at the target rate; the rate found is the one that reaches the ventilation setpoint
+  -- test; windows enough. Free is at the target rate; the rate found is the one that reaches the ventilation setpoint
   unfoldable pub reason_for : AirChangesPerHourArgument → Result Reason
   reason_for (Cooling ach) = ok NoChoice
   reason_for (TargetAndWindowsOpen target windows_open) =
@@ -46,14 +47,14 @@ module _ (c : Coefficients) (z : Zone) (t : List Float) (h : Conditions) where
       cond (lt h.temp_setpnt_cool temp_extra && not (close_in_windows_test temp_extra h.temp_setpnt_cool)) (ok StillAboveCoolingSetpoint)
       (ok WindowsEnough)))))
 
-  -- "Beside it stands heating, cooling or neither, by the hour's demand. An hour that the demand refuses gets that refusal."
+  -- Beside it stands heating, cooling or neither, by the hour's demand. An hour that the demand refuses gets that refusal.
   unfoldable pub why_of : Result (Reason × Load)
   why_of =
       bind (space_heat_cool_demand c z t h) λ d.
       bind (reason_for h.ach_args) λ reason.
       ok (reason, load_of d)
 
--- from a state and the conditions' bytes: the demand's tests first, "and the tool of (e) answers for code 0 as before"
+-- from a state and the conditions' bytes: the demand's tests first; of an hour with code 0 reasons are still told
 unfoldable pub why : Coefficients → Zone → State → List ℕ → Result (Reason × Load)
 why c z s bytes =
     bind (tested StillTaken z s bytes) λ h.

@@ -1,4 +1,5 @@
--- Document 01, "Ranges, all finite", and document 02 (b): each range once. A comparison with a NaN is false, so a NaN lies in none.
+-- Ranges, each once; what lies in one is finite. A comparison with a NaN is false, so a NaN lies in none.
+-- Specification, Ranges; Zeros and NaN.
 use Rattle.std.specs.Prelude.{ℕ, ◌^◌, Bool, true, ◌&&◌, List, [], ◌∷◌, ltb, leb, Float}
 use Rattle.std.specs.Float.Ieee.{neg, lt, le}
 use Rattle.solver.specs.F64.{decimal}

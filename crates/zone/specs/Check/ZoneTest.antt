@@ -1,4 +1,5 @@
 -- A zone given as a record, tested as its head would be: 4, then 5.
+-- Specification, A zone as a record; Order in a head.
 use Rattle.std.specs.Prelude.{ℕ, ◌+◌, Bool, ◌&&◌, List, [], ◌∷◌, take, leb}
 use Rattle.solver.specs.Result.{Result, ok, bind, require, require_at}
 use Rattle.zone.specs.Record.Numbers.{structure, zone_value}
@@ -59,7 +60,7 @@ values_test z =
     bind (require (front_in_range z) zone_value) λ _.
     all_required element_in_range zone_value (take z.count z.building_elements) 1
 
--- "element count n (1 to 24)"
+-- element count n (1 to 24)
 abbrev pub count_valid : ℕ → Bool
 count_valid n = leb 1 n && leb n 24
 

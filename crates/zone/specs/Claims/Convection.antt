@@ -1,5 +1,6 @@
--- Document 02 (d), convection by direction: what the internal part of a heat balance has of its elements, told by the states before and after an accepted
+-- Convection by direction: what the internal part of a heat balance has of its elements, told by the states before and after an accepted
 -- update or hour step. Pitches, coefficients and temperatures are written out, with nothing of `heat_flow_direction`, `is_direction` and `terms_where`.
+-- Specification, Direction of heat flow and h_ci; Heat balance.
 use Rattle.std.specs.Prelude.{ℕ, suc, ◌-◌, ◌≡◌, true, false, List, [], ◌∷◌, get_or, Float}
 use Rattle.std.specs.Float.{nan}
 use Rattle.std.specs.Float.Ieee.{is_nan, lt, le}
@@ -20,8 +21,8 @@ use Rattle.zone.specs.Physics.System.{zone_two_nodes}
 use Rattle.zone.specs.Physics.NodeLayout.{first_node}
 use Rattle.zone.specs.Calls.Hour.{update_temperatures, HourResult, hour_step}
 
--- direction and h_ci at an inner surface: "2.5 for (internal) pitch 60 to 120 inclusive. Otherwise upwards 5.0, downwards 0.7: a ceiling (below 60) is
--- upwards unless the air is colder than the surface; a floor (above 120) is upwards only if it is."
+-- direction and h_ci at an inner surface: 2.5 for (internal) pitch 60 to 120 inclusive. Otherwise upwards 5.0, downwards 0.7: a ceiling (below 60) is
+-- upwards unless the air is colder than the surface; a floor (above 120) is upwards only if it is.
 pub data Flows (pitch air surface : Float) : HeatFlowDirection → (h_ci : Float) → Type 0 where
   wall : le (decimal 60 0) pitch ≡ true → le pitch (decimal 120 0) ≡ true → Flows pitch air surface Horizontal (decimal 25 1)
   ceiling_upwards : lt pitch (decimal 60 0) ≡ true → lt air surface ≡ false → Flows pitch air surface Upwards (decimal 50 1)
@@ -36,7 +37,7 @@ surface_of z s e = get_or s.temps (first_node (zone_two_nodes z) (suc e) - 1) na
 abbrev pub air_of : Zone → State → Float
 air_of z s = get_or s.temps (first_node (zone_two_nodes z) z.count) nan
 
--- element e's term of the convective total: "air and surface are those from before the step" in direction and h_ci, and from after it in the heat
+-- element e's term of the convective total: air and surface are those from before the step in direction and h_ci, and from after it in the heat
 pub record Term (z : Zone) (before after : State) (e : ℕ) (direction : HeatFlowDirection) (x : Float) : Type 0 where
   pub h_ci : Float
   pub flows : Flows (element z.building_elements e).pitch (air_of z before) (surface_of z before e) direction h_ci
@@ -52,7 +53,7 @@ pub data Parted (z : Zone) (before after : State) : (n e : ℕ) (total horizonta
   downwards : {n e : ℕ} {x : Float} {t h u d : List Float}
       → Term z before after e Downwards x → Parted z before after n (suc e) t h u d → Parted z before after (suc n) e (x ∷ t) h u (x ∷ d)
 
--- "three sums of its convective total's terms, signs kept, horizontal, upwards and downwards, each added in element order. The old total remains"
+-- three sums of its convective total's terms, signs kept, horizontal, upwards and downwards, each added in element order. The old total remains
 pub record ByDirection (z : Zone) (before after : State) (b : HeatBalanceInternalBoundary) : Type 0 where
   pub terms : List Float
   pub horizontal : List Float
@@ -64,7 +65,7 @@ pub record ByDirection (z : Zone) (before after : State) (b : HeatBalanceInterna
   pub upwards_is : b.fabric_int_air_convective_upwards ≡ sum_from0 upwards
   pub downwards_is : b.fabric_int_air_convective_downwards ≡ sum_from0 downwards
 
--- "The coefficient function is to yield the direction with the number": of every pitch that is a number
+-- The coefficient function is to yield the direction with the number: of every pitch that is a number
 abbrev pub YieldsDirection : Type 0
 YieldsDirection = (pitch air surface : Float) → is_nan pitch ≡ false
     → Flows pitch air surface (surface_convection standard_coefficients pitch air surface).direction (surface_convection standard_coefficients pitch air surface).h_ci

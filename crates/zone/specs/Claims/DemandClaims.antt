@@ -1,4 +1,5 @@
 -- What is claimed of a demand: heating is not below 0, cooling not above it, and at most one of them is not 0.
+-- Specification, What a demand answers; Units and signs.
 use Rattle.std.specs.Prelude.{ℕ, ◌≡◌, true, ◌⊎◌, List}
 use Rattle.std.specs.Float.Ieee.{le}
 use Rattle.solver.specs.F64.{zero64}
@@ -16,7 +17,7 @@ pub record Signs (d : Demand) : Type 0 where
   pub cooling : le d.space_cool_demand zero64 ≡ true
   pub one : (d.space_heat_demand ≡ zero64) ⊎ (d.space_cool_demand ≡ zero64)
 
--- "heating ≥ 0, cooling ≤ 0": of every accepted demand, and of that in every accepted hour step
+-- heating ≥ 0, cooling ≤ 0: of every accepted demand, and of that in every accepted hour step
 abbrev pub DemandCallSigns : Coefficients → Zone → Type 0
 DemandCallSigns c z = (fixed : FixedRate) (s : State) (bytes : List ℕ) (d : Demand) → demand fixed c z s bytes ≡ ok d → Signs d
 

@@ -1,4 +1,5 @@
 -- What is claimed of heads, of zones given as records and of an hour's conditions.
+-- Specification, Head; Conditions; A zone as a record; What a refusal is.
 use Rattle.std.specs.Prelude.{ℕ, ◌+◌, ◌≤◌, ◌≡◌, List, ◌++◌, length, take}
 use Rattle.solver.specs.Result.{ok, bind}
 use Rattle.solver.specs.Refusals.{RefusesOnly}
@@ -16,7 +17,7 @@ use Rattle.zone.specs.declared.record.zone_record.Zone.{Zone}
 use Rattle.zone.specs.declared.format.conditions.Conditions.{Conditions}
 use Rattle.zone.specs.declared.format.conditions.FixedRate.{FixedRate}
 
--- "an index for 4, 5, 9 (element from 1, 0 if none)": of a refused head 0, or that of an element which its count byte counts, once basis and count are right
+-- an index for 4, 5, 9 (element from 1, 0 if none): of a refused head 0, or that of an element which its count byte counts, once basis and count are right
 pub data OfHead (bs : List ℕ) : (number index : ℕ) → Type 0 where
   no_element : {number : ℕ} → OfHead bs number 0
   element : {number index : ℕ} → structure ≤ number → basis_in bs ≤ 1 → count_in bs ≤ 24 → 1 ≤ index → index ≤ count_in bs → OfHead bs number index
@@ -24,7 +25,7 @@ pub data OfHead (bs : List ℕ) : (number index : ℕ) → Type 0 where
 -- an accepted head
 pub record AcceptedHead (bs : List ℕ) (h : ReadHead Zone) : Type 0 where
   pub within : h.length ≤ length bs
-  -- "Length 53 + 171 per five-node element, 123 + 8t per Transparent."
+  -- Length 53 + 171 per five-node element, 123 + 8t per Transparent.
   pub size : h.length ≡ head_length h.zone
   pub tested : zone_test h.zone ≡ ok tt
   -- it is read from its own bytes, whatever follows them
@@ -37,9 +38,9 @@ pub record AcceptedHead (bs : List ℕ) (h : ReadHead Zone) : Type 0 where
 
 pub record HeadClaims : Type 0 where
   pub accepted : (bs : List ℕ) (h : ReadHead Zone) → head_of bs ≡ ok h → AcceptedHead bs h
-  -- "Bytes after the length are not the head's.": accepted or refused, with number and index
+  -- Bytes after the length are not the head's: accepted or refused, with number and index
   pub alike : (a b : List ℕ) (n : ℕ) → n ≡ length_size + length_field a → n ≤ length a → n ≤ length b → take n a ≡ take n b → head_of a ≡ head_of b
-  -- "A zone given as a record is tested first, as its head would be": once its structure is right, a head is judged as its zone is
+  -- A zone given as a record is tested first, as its head would be: once its structure is right, a head is judged as its zone is
   pub as_record : (bs : List ℕ) (n : ℕ) → structure_of bs ≡ ok n
       → head_of bs ≡ bind (zone_test (zone_at bs)) λ _. ok (record { zone = zone_at bs; length = n })
   -- each zone that passes has a head that is read as it: none is turned away
@@ -55,7 +56,7 @@ pub record ZoneClaims (z : Zone) : Type 0 where
 
 pub record ConditionsClaims (fixed : FixedRate) (z : Zone) (bs : List ℕ) : Type 0 where
   pub refusals : RefusesOnly ConditionsRefusal (conditions_of fixed z bs)
-  -- "113 + 41n bytes"
+  -- 113 + 41n bytes
   pub size : (c : Conditions) → conditions_of fixed z bs ≡ ok c → length bs ≡ conditions_length z.count
   -- accepted ones are the bytes of what they are read as,
   pub bytes : (c : Conditions) → Bytes bs → conditions_of fixed z bs ≡ ok c → bs ≡ conditions_bytes z.count c

@@ -1,4 +1,5 @@
--- "Node order: element by element, outer to inner surface, the air last": to slots and back is the same.
+-- Node order: element by element, outer to inner surface, the air last: to slots and back is the same.
+-- Specification, Node order.
 use Rattle.std.specs.Prelude.{ℕ, ◌+◌, ◌<◌, ◌≡◌, Bool, List, length, get_or, Float}
 use Rattle.std.specs.Float.{nan}
 use Rattle.solver.specs.F64.{zero64}

@@ -1,4 +1,5 @@
--- Document 01, "Refused, operation by operation", and document 02's 18 and 19: which numbers and indices operative temperature, demand, hour step, update and start-up can be refused with.
+-- Which numbers and indices operative temperature, demand, hour step, update and start-up can be refused with.
+-- Specification, Order of tests; Table of refusals; What a refusal is.
 use Rattle.std.specs.Prelude.{ℕ, ◌≤◌, List, Float}
 use Rattle.solver.specs.Refusals.{RefusesOnly, SolveRefusal}
 use Rattle.zone.specs.declared.record.building_element.Coefficients.{Coefficients}
@@ -17,34 +18,34 @@ pub data OperativeRefusal : (number index : ℕ) → Type 0 where
   operative_zone : {number index : ℕ} → ZoneRefusal number index → OperativeRefusal number index
   operative_state_invalid : OperativeRefusal state_invalid 0
 
--- "Demand and hour step"
+-- Demand and hour step
 pub data DemandRefusal : (number index : ℕ) → Type 0 where
   -- the zone's 4, 5
   demand_zone : {number index : ℕ} → ZoneRefusal number index → DemandRefusal number index
-  -- "state of wrong node count or with a value not finite or beyond ±1e6"
+  -- state of wrong node count or with a value not finite or beyond ±1e6
   demand_state_invalid : DemandRefusal state_invalid 0
   -- 7, 8, 9
   demand_conditions : {number index : ℕ} → ConditionsRefusal number index → DemandRefusal number index
-  -- "cooling below heating setpoint"
+  -- cooling below heating setpoint
   demand_cooling_below_heating : DemandRefusal cooling_below_heating 0
-  -- "ventilation below heating"
+  -- ventilation below heating
   demand_ventilation_below_heating : DemandRefusal ventilation_below_heating 0
-  -- "then per solve": 12, 13
+  -- then per solve: 12, 13
   demand_solve : {number index : ℕ} → SolveRefusal number index → DemandRefusal number index
-  -- "last, loaded and free temperature differ by something close to 0"
+  -- last, loaded and free temperature differ by something close to 0
   demand_no_effect : DemandRefusal no_effect 0
 
--- an hour of a version that hours have: the demand's, and "19, a limit out of range"
+-- an hour of a version that hours have: the demand's, and 19, a limit out of range
 pub data KnownHourRefusal : (number index : ℕ) → Type 0 where
   hour_demand : {number index : ℕ} → DemandRefusal number index → KnownHourRefusal number index
   hour_limit_value : KnownHourRefusal limit_value 0
 
--- the hour step has 18 besides: "an unknown one is 18, index 0"
+-- the hour step has 18 besides: an unknown one is 18, index 0
 pub data HourRefusal : (number index : ℕ) → Type 0 where
   hour_known : {number index : ℕ} → KnownHourRefusal number index → HourRefusal number index
   hour_false_entry : HourRefusal false_entry 0
 
--- "Update: 6 to 9, its own gains, fraction and rate tested in 9 after the conditions, index 0, then 12, 13."
+-- Update: 6 to 9, its own gains, fraction and rate tested in 9 after the conditions, index 0, then 12, 13.
 pub data UpdateRefusal : (number index : ℕ) → Type 0 where
   update_zone : {number index : ℕ} → ZoneRefusal number index → UpdateRefusal number index
   update_state_invalid : UpdateRefusal state_invalid 0
@@ -52,7 +53,7 @@ pub data UpdateRefusal : (number index : ℕ) → Type 0 where
   update_conditions_value : UpdateRefusal conditions_value 0
   update_solve : {number index : ℕ} → SolveRefusal number index → UpdateRefusal number index
 
--- "Start-up: 11, 12, 13, 14 from its solves; 15 when the limit passes without settling." Not 10: its two setpoints are one.
+-- Start-up: 11, 12, 13, 14 from its solves; 15 when the limit passes without settling. Not 10: its two setpoints are one.
 pub data StartUpRefusal : (number index : ℕ) → Type 0 where
   start_up_zone : {number index : ℕ} → ZoneRefusal number index → StartUpRefusal number index
   start_up_ventilation_below_heating : StartUpRefusal ventilation_below_heating 0
@@ -60,7 +61,7 @@ pub data StartUpRefusal : (number index : ℕ) → Type 0 where
   start_up_no_effect : StartUpRefusal no_effect 0
   start_up_not_settled : StartUpRefusal not_settled 0
 
--- "an index for 4, 5, 9 (element from 1, 0 if none)": an element of this zone
+-- an index for 4, 5, 9 (element from 1, 0 if none): an element of this zone
 abbrev pub OfZone : Zone → (number index : ℕ) → Type 0
 OfZone z number index = index ≤ z.count
 

@@ -1,4 +1,5 @@
 -- What is claimed of start-up's passes: which of them settle, and how many went before.
+-- Specification, Passes.
 use Rattle.std.specs.Prelude.{ℕ, suc, ◌<◌, ◌≡◌, true, false, List, Float}
 use Rattle.solver.specs.Result.{ok, refused}
 use Rattle.zone.specs.declared.record.building_element.Coefficients.{Coefficients}
@@ -35,7 +36,7 @@ module _ (c : Coefficients) (z : Zone) where
   abbrev pub SettledInLimit : List Float → Type 0
   SettledInLimit u = SettledAt z.start_up_limit (slots_of z (start_state z)) u
 
-  -- "15 means that no pass up to the limit settled", and if none does, 15 is the answer
+  -- 15 means that no pass up to the limit settled, and if none does, 15 is the answer
   abbrev pub StartUpNotSettled : Type 0
   StartUpNotSettled = (j : ℕ) → init_node_temps c z ≡ refused not_settled j → (u : List Float) × LimitUnsettled u
 

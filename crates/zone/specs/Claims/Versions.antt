@@ -1,5 +1,6 @@
--- Document 02 (a), (b): the hour step of each entry version. The first five claims say what it is for every version and any limits, in the papers' words and
+-- The hour step of each entry version. The first five claims say what it is for every version and any limits, in the rule's own words and
 -- with nothing of `hour_version`, `delivered_by` and `delivered_fraction`.
+-- Specification, Hour step; Entry versions; Limits of the plant; Order of tests.
 use Rattle.std.specs.Prelude.{ℕ, ◌≡◌, ◌≢◌, true, false, cond, List, Float}
 use Rattle.std.specs.Float.Ieee.{neg, lt}
 use Rattle.solver.specs.F64.{◌+ᶠ◌, ◌*ᶠ◌, zero64}
@@ -17,11 +18,11 @@ use Rattle.zone.specs.Hour.Demand.{gains_heat_cool, share_or_zero, space_heat_co
 use Rattle.zone.specs.Calls.State.{slots_of}
 use Rattle.zone.specs.Calls.Hour.{power_limits_range, tested, step, demand, delivered, HourResult, hour_step}
 
--- document 01: "delivered × the heating fraction"
+-- version 1: delivered × the heating fraction
 abbrev pub heating_fraction : Conditions → (w : Float) → Float
 heating_fraction h w = h.frac_convective_heat
 
--- document 02: "delivered power below 0 uses the cooling fraction, any other the heating fraction"
+-- from version 2 on delivered power below 0 uses the cooling fraction, any other the heating fraction
 abbrev pub fraction_by_sign : Conditions → (w : Float) → Float
 fraction_by_sign h w = cond (lt w zero64) h.frac_convective_cool h.frac_convective_heat
 
@@ -29,7 +30,7 @@ fraction_by_sign h w = cond (lt w zero64) h.frac_convective_cool h.frac_convecti
 abbrev pub unlimited : (w : Float) → Float
 unlimited w = w
 
--- "Delivered power strictly beyond them becomes the limit, for cooling its negation"
+-- Delivered power strictly beyond them becomes the limit, for cooling its negation
 abbrev pub at_most : Limits → (w : Float) → Float
 at_most l w = cond (lt l.heating w) l.heating (cond (lt w (neg l.cooling)) (neg l.cooling) w)
 
@@ -39,7 +40,7 @@ pub record Within (l : Limits) (w : Float) : Type 0 where
   pub cooling : lt w (neg l.cooling) ≡ false
 
 module _ (fixed : FixedRate) (c : Coefficients) (z : Zone) (s : State) (bytes : List ℕ) where
-  -- document 01's hour step, which knows no version: "share = (convective + delivered × the .. fraction) / g, or 0 where g is close to 0". The demand is
+  -- the hour step by a convective fraction, which knows no version: share = (convective + delivered × the fraction) / g, or 0 where g is close to 0. The demand is
   -- reported as it is asked for, whatever becomes of the power.
   unfoldable pub hour_step_with : (power : (w : Float) → Float) (fraction : Conditions → (w : Float) → Float) → Result HourResult
   hour_step_with power fraction =
@@ -52,15 +53,15 @@ module _ (fixed : FixedRate) (c : Coefficients) (z : Zone) (s : State) (bytes : 
       ok (record { demand = d; state = r.0; balance = r.1 })
 
   pub record VersionClaims : Type 0 where
-    -- "Version 1 entries keep their own rule": version 1's hour is document 01's, whatever limits are handed in.
+    -- version 1's hour has the heating fraction for all power, whatever limits are handed in
     pub version_1 : (l : Limits) → hour_step fixed c z 1 l s bytes ≡ hour_step_with unlimited heating_fraction
-    -- "From entry version 2 on, delivered power below 0 uses the cooling fraction"
+    -- From entry version 2 on, delivered power below 0 uses the cooling fraction
     pub version_2 : (l : Limits) → hour_step fixed c z 2 l s bytes ≡ hour_step_with unlimited fraction_by_sign
-    -- "Entry version 3 adds two floats .. Shares follow version 2": of the power after the limits
+    -- version 3 has limits, and the shares of version 2, of the power after the limits
     pub version_3 : (l : Limits) → power_limits_range l ≡ true → hour_step fixed c z 3 l s bytes ≡ hour_step_with (at_most l) fraction_by_sign
-    -- "Turned away: 19, a limit out of range, after 9"
+    -- 19, a limit out of range, after 9
     pub out_of_range : (l : Limits) → power_limits_range l ≡ false → hour_step fixed c z 3 l s bytes ≡ bind (tested fixed z s bytes) (λ _. refused limit_value 0)
-    -- "an unknown one is 18, index 0, before 6": after the zone's 4, 5, whatever limits, state and conditions
+    -- an unknown one is 18, index 0, before 6: after the zone's 4, 5, whatever limits, state and conditions
     pub unknown : (version : ℕ) (l : Limits) → version ≢ 1 → version ≢ 2 → version ≢ 3 → hour_step fixed c z version l s bytes ≡ bind (zone_test z) (λ _. refused false_entry 0)
     -- Where an hour has no delivered power below 0, versions 1 and 2 are one, refusals included.
     pub not_cooled : (l : Limits) → ((h : Conditions) (d : Demand) → tested fixed z s bytes ≡ ok h → demand fixed c z s bytes ≡ ok d → lt (delivered h d) zero64 ≡ false)
@@ -69,5 +70,5 @@ module _ (fixed : FixedRate) (c : Coefficients) (z : Zone) (s : State) (bytes : 
     pub within_limits : (l : Limits) → power_limits_range l ≡ true
         → ((h : Conditions) (d : Demand) → tested fixed z s bytes ≡ ok h → demand fixed c z s bytes ≡ ok d → Within l (delivered h d))
         → hour_step fixed c z 3 l s bytes ≡ hour_step fixed c z 2 l s bytes
-    -- "demand is reported uncut": the demand of an hour knows neither its version nor its limits.
+    -- demand is reported uncut: the demand of an hour knows neither its version nor its limits.
     pub same_demand : (version : ℕ) (l : Limits) (r : HourResult) → hour_step fixed c z version l s bytes ≡ ok r → demand fixed c z s bytes ≡ ok r.demand

@@ -1,4 +1,5 @@
--- What a byte string is as an hour's conditions, in the order of document 01's refusals 7, 8, 9.
+-- What a byte string is as an hour's conditions, in the order of its refusals 7, 8, 9.
+-- Specification, Conditions; Order in conditions; Fixed rate.
 use Rattle.std.specs.Prelude.{ℕ, suc, zero, ◌+◌, ◌*◌, ◌-◌, Bool, true, false, cond, ◌&&◌, List, [], ◌∷◌, ◌++◌, map, get_or, length, take, replicate, leb, eqb, Float}
 use Rattle.solver.specs.Result.{Result, ok, bind, require}
 use Rattle.zone.specs.Format.Bytes.{num_at, float_at, float_size}
@@ -45,8 +46,8 @@ conditions_at bs n =
       elements = element_hours_at bs first_element_hour n ++ replicate (24 - n) no_element_hour;
     }
 
--- Code 0: "Entries of every version with code 0 already written are still taken up", "and the tool of (e) answers for code 0 as before. Every other call with it
--- is refused under 8, in its old place". Where it is taken its second float has all zero bits
+-- code 0: entries with it that are already written are still taken up, and reasons are told of it; every other call refuses it under 8, in this place. Where it
+-- is taken its second float has all zero bits
 abbrev pub fixed_rate_valid : FixedRate → List ℕ → Bool
 fixed_rate_valid Retired bs = false
 fixed_rate_valid StillTaken bs = eqb (num_at bs second_rate float_size) 0

@@ -1,4 +1,5 @@
 -- The kinds of elements by their numbers, and what a kind says of the element's bytes.
+-- Specification, Kinds and nodes; Head.
 use Rattle.std.specs.Prelude.{ℕ, ◌+◌, ◌*◌, Bool, cond, ◌&&◌, List, [], ◌∷◌, get_or, leb, eqb}
 use Rattle.zone.specs.Record.BuildingElement.{is_two_nodes}
 use Rattle.zone.specs.Format.Bytes.{float_size}
@@ -7,7 +8,7 @@ use Rattle.zone.specs.declared.record.building_element.Element.{Element}
 use Rattle.zone.specs.declared.record.building_element.Kind.{Kind}
 use Rattle.zone.specs.declared.record.building_element.Kind.TheVariants.{Opaque, AdjacentConditionedSpace, AdjacentUnconditionedSpaceSimple, Ground, Transparent, PartyWall}
 
--- kinds 0 to 5 in the Rust's enum order
+-- kinds 0 to 5 in the original's enum order
 unfoldable pub kind_of : ℕ → Kind
 kind_of k =
     cond (eqb k 0) Opaque
@@ -24,7 +25,7 @@ max_treatments k = cond (is_two_nodes k) 4 0
 abbrev pub treatments_valid : Kind → (treatments : ℕ) → Bool
 treatments_valid k t = leb t (max_treatments k)
 
--- "171 per five-node element, 123 + 8t per Transparent"
+-- 171 per five-node element, 123 + 8t per Transparent
 abbrev pub element_size : Kind → (treatments : ℕ) → ℕ
 element_size k t = cond (is_two_nodes k) (transparent_size + float_size * t) five_nodes_size
 

@@ -1,4 +1,5 @@
 -- Floats and kinds as they stand in bytes.
+-- Specification, Kinds and nodes.
 use Rattle.std.specs.Prelude.{ℕ, List, [], ◌∷◌, ◌++◌, Float}
 use Rattle.std.specs.Float.{binary64}
 use Rattle.std.specs.Float.Ieee.{to_bits}
@@ -14,7 +15,7 @@ unfoldable pub row_bytes : List Float → List ℕ
 row_bytes [] = []
 row_bytes (x ∷ xs) = float_bytes x ++ row_bytes xs
 
--- "kind 0 to 5 in the Rust's enum order"
+-- kind 0 to 5 in the original's enum order
 abbrev pub kind_number : Kind → ℕ
 kind_number Opaque = 0
 kind_number AdjacentConditionedSpace = 1

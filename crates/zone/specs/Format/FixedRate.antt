@@ -1,4 +1,5 @@
--- Hours with the fixed rate, code 0, and the same with code 1 (document 02 (g)).
+-- Hours with the fixed rate, code 0, and the same with code 1.
+-- Specification, Fixed rate; Conversion.
 use Rattle.std.specs.Prelude.{ℕ, Bool, List, ◌∷◌, ◌++◌, get_or, take, drop, eqb}
 use Rattle.zone.specs.Format.Bytes.{float_size}
 use Rattle.zone.specs.Format.Layout.{rate_code, first_rate, first_element_hour}
@@ -7,7 +8,7 @@ use Rattle.zone.specs.Format.Layout.{rate_code, first_rate, first_element_hour}
 abbrev pub is_fixed : List ℕ → Bool
 is_fixed bs = eqb (get_or bs rate_code 0) 0
 
--- "code 0 becoming code 1 with the rate twice"
+-- code 0 becoming code 1 with the rate twice
 abbrev pub rate_bytes : List ℕ → List ℕ
 rate_bytes bs = take float_size (drop first_rate bs)
 

@@ -1,4 +1,5 @@
--- What a byte string is as a head, in the order of document 01's refusals.
+-- What a byte string is as a head, in the order of a head's refusals.
+-- Specification, Order in a head; Head.
 use Rattle.std.specs.Prelude.{ℕ, suc, zero, ◌+◌, ◌&&◌, List, length, leb, eqb}
 use Rattle.solver.specs.Result.{Result, ok, bind, require, require_at}
 use Rattle.zone.specs.Record.Numbers.{head_short, head_length, head_version, structure}

@@ -1,8 +1,9 @@
--- Document 01, "Bytes of head and entry": where the parts of a head and of an hour's conditions begin, and how long they are.
+-- Where the parts of a head and of an hour's conditions begin, and how long they are.
+-- Specification, Head; Conditions.
 use Rattle.std.specs.Prelude.{ℕ, ◌+◌, ◌*◌, ◌-◌, List, get_or}
 use Rattle.zone.specs.Format.Bytes.{num_at, float_size}
 
--- "Each record: 4-byte length of what follows, then version byte": of a head 1
+-- Each record: 4-byte length of what follows, then version byte: of a head 1
 abbrev pub length_size : ℕ
 length_size = 4
 
@@ -12,7 +13,7 @@ version_of_head = 1
 abbrev pub version_at : ℕ
 version_at = length_size
 
--- "Head: basis, element count n, 2-byte start-up limit, six floats"; then the elements
+-- Head: basis, element count n, 2-byte start-up limit, six floats; then the elements
 abbrev pub basis_at : ℕ
 basis_at = version_at + 1
 
@@ -50,7 +51,7 @@ element_floats = 2
 abbrev pub element_arrays : ℕ
 element_arrays = element_floats + float_size * 7
 
--- "element part (5 floats and a byte ..)"
+-- an element's part of an hour: 5 floats and a byte
 abbrev pub open_byte : ℕ
 open_byte = float_size * 5
 
@@ -64,14 +65,14 @@ five_nodes_size = element_arrays + float_size * 5 + float_size * 4 + element_hou
 abbrev pub transparent_size : ℕ
 transparent_size = element_arrays + float_size * 2 + float_size * 1 + element_hour_size
 
--- "176 to 4,157": the shortest head's length is that of one Transparent with no treatments, the longest one's that of 24 five-node elements
+-- 176 to 4,157: the shortest head's length is that of one Transparent with no treatments, the longest one's that of 24 five-node elements
 abbrev pub shortest_length : ℕ
 shortest_length = first_element - length_size + transparent_size
 
 abbrev pub longest_length : ℕ
 longest_length = first_element - length_size + 24 * five_nodes_size
 
--- "Conditions: 12 floats ..; rate code .., two floats ..; per element .. 113 + 41n bytes."
+-- conditions: 12 floats, rate code, two floats, and the elements' parts: 113 + 41n bytes
 abbrev pub rate_code : ℕ
 rate_code = float_size * 12
 

@@ -1,4 +1,5 @@
--- Document 02 (b), "two floats after the conditions, greatest heating and greatest cooling".
+-- The limits of the plant: two floats behind the conditions, greatest heating and greatest cooling.
+-- Specification, Entry; Limits of the plant.
 use Rattle.std.specs.Prelude.{ℕ, ◌*◌, cond, List, [], ◌∷◌, length, leb}
 use Rattle.solver.specs.F64.{zero64}
 use Rattle.zone.specs.Format.Bytes.{float_at, float_size}

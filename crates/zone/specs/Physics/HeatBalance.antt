@@ -1,5 +1,6 @@
--- The heat balance of a time step, in W: 7, 4 and 14 values in the Rust's order, behind the 4 the convective total by direction, from the temperatures
+-- The heat balance of a time step, in W: 7, 4 and 14 values in the original's order, behind the 4 the convective total by direction, from the temperatures
 -- before (`temp_prev`) and after the step (`vector_x`), in their slots.
+-- Specification, Heat balance; Direction of heat flow and h_ci.
 use Rattle.std.specs.Prelude.{ℕ, zero, suc, Bool, cond, ◌||◌, List, [], ◌∷◌, eqb, Float}
 use Rattle.std.specs.Float.Ieee.{neg}
 use Rattle.solver.specs.F64.{◌+ᶠ◌, ◌-ᶠ◌, ◌*ᶠ◌, ◌/ᶠ◌, one64}
@@ -58,7 +59,7 @@ abbrev pub convective_loss_at : Coefficients → List Element → (temp_prev vec
 convective_loss_at c es temp_prev vector_x e =
     area_of es e *ᶠ (h_ci_at c es temp_prev e *ᶠ (air vector_x -ᶠ inner_surface vector_x e))
 
--- document 02 (d), "three sums of its convective total's terms, signs kept, horizontal, upwards and downwards, each added in element order": the
+-- three sums of the convective total's terms, signs kept, horizontal, upwards and downwards, each added in element order: the
 -- direction, as h_ci, is that of the temperatures before the step
 abbrev pub internal_boundary :
     Coefficients → Zone → (temp_prev vector_x : List Float) → Conditions → (gains_heat_cool f_hc_c : Float) → HeatBalanceInternalBoundary

@@ -1,4 +1,5 @@
--- The paper's node order, element by element from the outer to the inner surface and then the internal air, against slots.
+-- Node order, element by element from the outer to the inner surface and then the internal air, against slots.
+-- Specification, Node order; Which coefficients are kept.
 use Rattle.std.specs.Prelude.{ℕ, zero, suc, ◌+◌, ◌-◌, ◌*◌, Bool, List, get_or, set, replicate, Float}
 use Rattle.std.specs.Float.{nan}
 use Rattle.solver.specs.F64.{zero64}

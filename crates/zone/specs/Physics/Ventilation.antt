@@ -1,4 +1,4 @@
--- Ventilation: its heat transfer coefficient, and the air change rate that reaches a temperature, in the Rust's written order.
+-- Ventilation: its heat transfer coefficient, and the air change rate that reaches a temperature, in the original's written order.
 use Rattle.std.specs.Prelude.{cond, ◌||◌, Float}
 use Rattle.std.specs.Float.Ieee.{lt, le, ne}
 use Rattle.solver.specs.F64.{◌+ᶠ◌, ◌-ᶠ◌, ◌*ᶠ◌, ◌/ᶠ◌, one64, decimal}

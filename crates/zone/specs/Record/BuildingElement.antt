@@ -1,4 +1,5 @@
 -- What is worked out from one building element alone.
+-- Specification, Direction of heat flow and h_ci; Window treatments and h_pli; Constants and capacity; Kinds and nodes.
 use Rattle.std.specs.Prelude.{ℕ, ◌+◌, ◌/◌, ◌%◌, Bool, true, false, cond, not, ◌&&◌, ◌||◌, List, [], ◌∷◌, take, eqb, Float}
 use Rattle.std.specs.Float.Ieee.{lt, le}
 use Rattle.solver.specs.F64.{◌+ᶠ◌, ◌/ᶠ◌, one64, decimal}
@@ -12,7 +13,7 @@ use Rattle.zone.specs.declared.record.building_element.SurfaceConvection.{Surfac
 use Rattle.zone.specs.declared.record.zone_record.Zone.{Zone}
 
 -- f_int_c, f_sol_c: BS EN ISO 52016-1:2017, Table B.11; k_m_int: Table B.17; the three h_ci: BS EN ISO 13789:2017, Table 8; the pitches that part
--- ceilings, walls and floors: the Rust's PITCH_LIMIT_HORIZ_CEILING and PITCH_LIMIT_HORIZ_FLOOR
+-- ceilings, walls and floors: the original's PITCH_LIMIT_HORIZ_CEILING and PITCH_LIMIT_HORIZ_FLOOR
 unfoldable pub standard_coefficients : Coefficients
 standard_coefficients =
     record {
@@ -50,7 +51,7 @@ h_ci_of c Horizontal = c.h_ci_horizontal
 h_ci_of c Upwards = c.h_ci_upwards
 h_ci_of c Downwards = c.h_ci_downwards
 
--- document 02 (d), "the coefficient function is to yield the direction with the number": one test tells both
+-- the coefficient comes with its direction: one test tells both
 abbrev pub surface_convection : Coefficients → (pitch air surface : Float) → SurfaceConvection
 surface_convection c pitch air surface =
     let direction = heat_flow_direction c pitch air surface in

@@ -35,7 +35,7 @@ fn settled(z: &Zone, demand: Result<Demand, Refusal>, t: &[f64; 121]) -> Result<
 }
 
 // Each pass is an hour whose demand is met with start-up's fraction, 0.4, and the demand's rate, which is the fixed 0. The pass that settles does not store its
-// temperatures; the loop is left with those before it, with a refusal, or at the limit. It is a `loop` that breaks with its value: the papers name that form.
+// temperatures; the loop is left with those before it, with a refusal, or at the limit. It is a `loop` that breaks with its value (Specification, Forms that are kept).
 fn settle(c: Coefficients, z: &Zone, kept: &mut KeptMatrix) -> Result<State, Refusal>
     requires { held_in kept.old ≡ none_held }
     ensures { answered result ≡ bind (settle c z.now z.now.start_up_limit (slots_of z.now (start_state z.now))) λ t. ok (state_of z.now t) }

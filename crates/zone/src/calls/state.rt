@@ -1,5 +1,6 @@
-// The state that is carried from hour to hour, and what the calls answer. Calls that change it take it by value and hand back the new one, in a form that
-// the papers name.
+// The state that is carried from hour to hour, and what the calls answer. Calls that change it take it by value and hand back the new one
+// (Specification, Forms that are kept).
+// Specification, Forms that are kept; Why this rate, why this load.
 ghost use Rattle.std.specs.Prelude.{◌≡◌};
 ghost use Rattle.zone.specs.Answers.{answered};
 ghost use Rattle.zone.specs.Calls.Answers.{reply_in, update_reply};

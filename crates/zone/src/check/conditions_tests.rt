@@ -1,4 +1,5 @@
 // Refusals 8 and 9 of an hour's conditions.
+// Specification, Conditions.
 ghost use Rattle.std.specs.Prelude.{◌≡◌, ◌≤◌, length, map};
 ghost use Rattle.zone.specs.Format.Layout.{first_element_hour, conditions_length};
 ghost use Rattle.zone.specs.Answers.{answered};
@@ -79,7 +80,7 @@ fn ach_args_in_range(a: AirChangesPerHourArgument) -> bool
     }
 }
 
-// The first value out of range. The count is the zone's, for the papers' record of conditions has none; with `&c.elements[..n]` in its place a caller would
+// The first value out of range. The count is the zone's, for the record of conditions has none; with `&c.elements[..n]` in its place a caller would
 // hand over the conditions and a part of them.
 #[tactic(auto, unfolding(crate::specs::Format::Conditions::conditions_test))]
 pub fn conditions_test(n: usize, c: &Conditions) -> Result<(), Refusal>

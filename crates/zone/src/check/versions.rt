@@ -1,5 +1,6 @@
-// Entry versions, which an hour step and an append name, and the limits that an hour has from version 3 on. A version is a number and no enum: the
-// papers order versions ("from version 3 on"), and a caller may name any, also one that no hour has.
+// Entry versions, which an hour step and an append name, and the limits that an hour has from version 3 on. A version is a number and no enum:
+// versions have an order, and a caller may name any, also one that no hour has.
+// Specification, Entry versions.
 ghost use Rattle.std.specs.Prelude.{◌≡◌};
 ghost use Rattle.zone.specs.Calls.Hour.{hour_version, has_limits};
 

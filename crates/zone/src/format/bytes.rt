@@ -1,4 +1,4 @@
-// Numbers and floats in bytes, the highest byte first. Read at a place, as the definitions (`float_at s at`) and the papers' tables, which count from the
+// Numbers and floats in bytes, the highest byte first. Read at a place, as the definitions (`float_at s at`) and the tables of Specification, Bytes, which count from the
 // start of a head, have it: a part `&s[at..]` is `take (length s - at) (drop at s)` in a proof, and each call would need the law that this is `drop at s`.
 // The programs' `big_endian` has readers of these names that take what lies past the end as 0; these ask for bytes that are there (docs/DECISIONS.md).
 ghost use Rattle.std.specs.Prelude.{◌≡◌, ◌+◌, ◌≤◌, ◌<◌, length, take, drop};

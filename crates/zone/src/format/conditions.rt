@@ -1,7 +1,7 @@
 // The record of an hour's conditions.
 use crate::record::building_element::ElementHour;
 
-// A fixed air change rate, or a target with the rate of open windows. The papers name this enum, and have it as a field of the conditions.
+// A fixed air change rate, or a target with the rate of open windows. The enum, a field of the conditions, is a form that is kept (Specification, Forms that are kept).
 #[derive(Clone, Copy)]
 pub enum AirChangesPerHourArgument {
     Cooling(f64),
@@ -9,7 +9,7 @@ pub enum AirChangesPerHourArgument {
 }
 
 // Whether an hour may have the fixed rate, code 0. A call's may not, under 8; one that is written already is judged as it stands, and the reason for its
-// rate is still told (document 02 (g)).
+// rate is still told.
 #[derive(Clone, Copy)]
 pub enum FixedRate {
     Retired,

@@ -1,8 +1,9 @@
 // Where the parts of a head and of an hour's conditions begin, and how long they are.
+// Specification, Head; Conditions.
 
 pub const FLOAT_SIZE: usize = 8;
 
-// "Each record: 4-byte length of what follows, then version byte": of a head 1.
+// Each record: 4-byte length of what follows, then version byte: of a head 1.
 pub const LENGTH_SIZE: usize = 4;
 
 pub const VERSION_OF_HEAD: u8 = 1;

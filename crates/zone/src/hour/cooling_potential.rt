@@ -96,7 +96,7 @@ impl PreparedHour<'_, '_> {
     ) -> Result<VentilationChoice, Refusal>
         ensures { answered_with result last.new ≡ of_hour cooling_potential self.now free self.now.hour.now.ach_args last.old }
     {
-        // Copied before the match: the papers name that form.
+        // Copied before the match (Specification, Forms that are kept).
         let ach_args = self.hour.ach_args;
         match ach_args {
             AirChangesPerHourArgument::Cooling(ach) => Ok(VentilationChoice {

@@ -28,7 +28,7 @@ fn above(temp_free: f64, temp_setpnt_cool: f64) -> bool
     temp_setpnt_cool < temp_free && !close_in_demand(temp_free, temp_setpnt_cool)
 }
 
-// The second test is against the cooling setpoint, as in the Rust.
+// The second test is against the cooling setpoint, as in the original.
 fn below(temp_free: f64, temp_setpnt_heat: f64, temp_setpnt_cool: f64) -> bool
     ensures { result ≡ (lt temp_free temp_setpnt_heat && not (close_in_demand temp_free temp_setpnt_cool)) }
 {

@@ -1,4 +1,4 @@
-// Why an hour has its air change rate: the tests of the paper's list, one after the other, each with the calculation that it needs.
+// Why an hour has its air change rate: the tests of the list of reasons, one after the other, each with the calculation that it needs.
 // Target rate and windows' are two numbers, as in windows.rt.
 ghost use Rattle.std.specs.Prelude.{◌≡◌};
 ghost use Rattle.zone.specs.Answers.{answered};
@@ -62,7 +62,7 @@ impl HourStart<'_> {
     pub fn reason(&self) -> Result<Reason, Refusal>
         ensures { answered result ≡ reason_in self.now.coefficients self.now.zone.now self.now.temp_prev.now self.now.hour.now self.now.hour.now.ach_args }
     {
-        // Copied before the match: the papers name that form.
+        // Copied before the match (Specification, Forms that are kept).
         let ach_args = self.hour.ach_args;
         match ach_args {
             AirChangesPerHourArgument::Cooling(_) => Ok(Reason::NoChoice),

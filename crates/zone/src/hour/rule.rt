@@ -1,4 +1,5 @@
 // The rule of an entry version: whether its limits are in range, the power that a demand delivers, the total gains with it and their convective share.
+// Specification, Entry versions; Limits of the plant.
 ghost use Rattle.std.specs.Prelude.{◌≡◌, []};
 ghost use Rattle.zone.specs.Calls.Hour.{limits_valid, delivered, limited, delivered_by, delivered_fraction, convective_share};
 ghost use Rattle.zone.specs.Inner.Hour.{gains_by};
@@ -16,8 +17,8 @@ use solver::close_in_demand;
 // From this entry version on delivered power below 0 has the fraction of cooling.
 const COOLING_FRACTION_VERSION: u64 = 2;
 
-// An entry version, with the greatest powers of the plant. Versions are numbers: the papers order them, and a call may name any.
-// The papers name the calls' parameters, a version and its limits; `hour_step` and `next_hour_kept` make a `Rule` of both at once.
+// An entry version, with the greatest powers of the plant. Versions are numbers: they have an order, and a call may name any.
+// The calls have a version and its limits as two parameters; `hour_step` and `next_hour_kept` make a `Rule` of both at once.
 #[derive(Clone, Copy)]
 pub struct Rule {
     pub version: u64,

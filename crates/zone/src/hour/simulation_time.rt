@@ -1,4 +1,4 @@
-// What is used of the Rust's simulation time: the length of one timestep. Each call is one timestep, and a book's entries are their order.
+// What is used of the original's simulation time: the length of one timestep. Each call is one timestep, and a book's entries are their order.
 ghost use Rattle.std.specs.Prelude.{◌≡◌, []};
 ghost use Rattle.zone.specs.Hour.Demand.{delta_t};
 

@@ -1,4 +1,4 @@
-// One element's equations: coefficients and right sides, in the element's five slots. An element is taken by value, a form that the papers name.
+// One element's equations: coefficients and right sides, in the element's five slots. An element is taken by value (Specification, Forms that are kept).
 ghost use Rattle.std.specs.Prelude.{◌≡◌};
 ghost use Rattle.zone.specs.Physics.Equations.{rows_five, rows_two, rows_of, right_sides_five, right_sides_two, right_sides_of};
 ghost use Rattle.zone.specs.Inner.Assembly.{rows_in};

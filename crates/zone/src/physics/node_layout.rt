@@ -1,4 +1,5 @@
-// Between the paper's node order, in which states are handed out and stored, and slots.
+// Between node order, in which states are handed out and stored, and slots.
+// Specification, Node order.
 ghost use Rattle.std.specs.Prelude.{◌≡◌, ◌+◌, ◌≤◌};
 ghost use Rattle.zone.specs.Physics.System.{zone_two_nodes};
 ghost use Rattle.zone.specs.Physics.NodeLayout.{copy_nodes, to_slots, to_nodes};

@@ -1,4 +1,5 @@
 // A building element: its record, and what is worked out from it alone.
+// Specification, Forms that are kept; Kinds and nodes.
 ghost use Rattle.std.specs.Prelude.{◌≡◌};
 ghost use Rattle.zone.specs.Record.BuildingElement.{
   heat_flow_direction,
@@ -34,8 +35,7 @@ pub struct ElementHour {
 }
 
 // The coefficients of an element. A Transparent uses the first two of k_pli, the first of h_pli and the first
-// `treatments` of delta_r; any other kind all of k_pli and h_pli. One struct by value for every kind, whose arrays have room for any: the papers
-// name this form.
+// `treatments` of delta_r; any other kind all of k_pli and h_pli. One struct by value for every kind, whose arrays have room for any.
 #[derive(Clone, Copy)]
 pub struct Element {
     pub kind: Kind,

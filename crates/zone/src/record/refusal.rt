@@ -1,5 +1,6 @@
-// Why a call is refused. The papers give each refusal a number, and some the place of what is refused: an element's from 1 on, 0 for the zone or the
+// Why a call is refused. Each refusal has a number, and some the place of what is refused: an element's from 1 on, 0 for the zone or the
 // hour, or an entry's.
+// Specification, Table of refusals; What a refusal is.
 ghost use Rattle.std.specs.Prelude.{◌≡◌};
 ghost use Rattle.zone.specs.Answers.{number_of, index_of};
 ghost use Rattle.zone.specs.declared.record.refusal.Refusal.TheVariants.{Solve};
