@@ -44,7 +44,7 @@ the temperatures after the step, pitches of 60 and 120, and sums that another or
 printed, and there are at least as many of each as HELD (making/direction_cases.py) says.
 
 Reason and load of a demand are no values of the Rust. making/why.py has the tests of docs/SPECIFICATION.md in their
-paper's order; making/why_cases.py takes them on temperatures of the Rust's own update, at the target rate, at the rate
+order; making/why_cases.py takes them on temperatures of the Rust's own update, at the target rate, at the rate
 of open windows and at the rate found, with the demand's gains and their share. The rate found is worked out there by
 the Rust's formula; by the same formula come the rate that triggers heating and the chosen rate, which must be those of
 the Rust's demand. The load is by the Rust's demand. Beside the samples stand demands that are constructed

@@ -101,7 +101,7 @@ def conditions_answer(head, c, fixed_taken=False):
 
 
 def limits_answer(version, limits):
-    """(b): greatest heating and greatest cooling 0 to 1e7; no earlier version has them"""
+    """greatest heating and greatest cooling 0 to 1e7, from version 3 on; no earlier version has them"""
     good = version < LIMITS_VERSION or all(inside(0, MOST_LIMIT, x) for x in limits)
     return (0, 0) if good else (19, 0)
 

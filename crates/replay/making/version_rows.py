@@ -70,7 +70,7 @@ def make_book_versions(rows):
 
 
 def rest_answer(rest, last):
-    """(b): number and index of a rest behind two entries; a whole one is true but for its version"""
+    """number and index of a rest behind two entries; a whole one is true but for its version"""
     if len(rest) < FRONT:
         return 0, 0
     version = rest[VERSION_PLACE]
