@@ -11,9 +11,8 @@ use Rattle.zone.specs.Inner.Head.{structured_head, head_read}
 use Rattle.zone.specs.Check.ZoneTest.{zone_test}
 use Rattle.zone.specs.declared.record.zone_record.Zone.{Zone}
 use Rattle.zone.proofs.Promise.{answered_no, answered_yes}
-use Rattle.zone.specs.Inner.NextHour.{next_hour}
+use Rattle.zone.specs.Calls.NextHour.{next_hour, next_hour_reply}
 use Rattle.zone.specs.Calls.StartUp.{init_node_temps}
-use Rattle.zone.specs.Inner.NextHour.{next_hour_reply}
 use Rattle.zone.specs.declared.calls.state.State.{State}
 use Rattle.zone.specs.declared.calls.state.Demand.{Demand}
 use Rattle.zone.specs.declared.calls.state.Reply.{Reply as HourReply}

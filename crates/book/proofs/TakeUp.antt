@@ -13,9 +13,8 @@ use Rattle.zone.specs.declared.record.zone_record.Zone.{Zone}
 use Rattle.book.specs.declared.book_error.BookError.{BookError}
 use Rattle.zone.proofs.Promise.{and_true}
 use Rattle.zone.specs.Calls.Hour.{hour_version}
-use Rattle.zone.specs.Inner.NextHour.{next_hour}
+use Rattle.zone.specs.Calls.NextHour.{next_hour, next_hour_reply}
 use Rattle.zone.specs.Calls.StartUp.{init_node_temps}
-use Rattle.zone.specs.Inner.NextHour.{next_hour_reply}
 use Rattle.zone.specs.declared.calls.state.State.{State}
 use Rattle.zone.specs.declared.calls.state.Demand.{Demand}
 use Rattle.zone.specs.declared.calls.state.Reply.{Reply as HourReply}

@@ -1,7 +1,9 @@
 // Take-up: the entries of a book, one after the other.
 ghost use Rattle.std.specs.Prelude.{◌≡◌, ◌≤◌, length, drop, OnErr};
 ghost use Rattle.zone.specs.Promise.{ok};
+ghost use Rattle.zone.specs.Check.ZoneTest.{zone_test};
 ghost use Rattle.zone.specs.Inner.Head.{structured_head, head_read};
+ghost use Rattle.zone.specs.Record.BuildingElement.{standard_coefficients};
 ghost use Rattle.book.specs.Model.Calls as Book;
 ghost use Rattle.book.specs.Year.{carried, no_entry_version, year_interface};
 ghost use Rattle.book.specs.Answers.{given_of, answer_of};
@@ -10,36 +12,40 @@ ghost use Rattle.book.specs.Inner.Reader.{start_in};
 
 use crate::book::{BookState, Reply, no_entries, replied};
 use crate::book_error::BookError;
-use crate::checked_entry::EntryChecker;
+use crate::checked_entry::check_entry;
 use crate::entry::EntryLayout;
 use crate::layout::MOST_ENTRIES;
 use crate::record::Records;
-use zone::{KeptMatrix, Refusal, State, Zone, read_head, start_up_lent};
+use zone::{HourlyCalculation, Refusal, State, Zone, read_head};
 
-// The whole entries behind the head, in order, against the hour steps. The factored matrix is kept from entry to entry. The head's length is handed over beside
+// The whole entries behind the head, in order, against the hour steps, of a zone that passes its test. The head's length is handed over beside
 // the bytes, and not the bytes behind it alone: it is the first used length, too.
 #[tactic(auto, using(crate::proofs::TakeUp::check_end, zone::proofs::Promise::tested_few))]
 fn check_entries(
-    checker: &mut EntryChecker<'_>,
+    calculation: &mut HourlyCalculation<'_>,
     start: State,
     head_length: usize,
     bytes: &[u8],
 ) -> Result<BookState, BookError>
-    requires { head_length ≤ length bytes.now }
+    requires tested { zone_test calculation.old.zone.now ≡ ok tt }
+    requires standard { calculation.old.coefficients ≡ standard_coefficients }
+    requires inside { head_length ≤ length bytes.now }
     ensures { values_in result
-        ≡ Book.check_entries year_interface checker.old.zone.now 0 (carried start no_entry_version) head_length
-        (Book.whole_entries year_interface checker.old.zone.now (drop head_length bytes.now)) }
+        ≡ Book.check_entries year_interface calculation.old.zone.now 0 (carried start no_entry_version) head_length
+        (Book.whole_entries year_interface calculation.old.zone.now (drop head_length bytes.now)) }
 {
     let mut book = no_entries(start, head_length);
     let records = Records {
-        layout: EntryLayout { zone: checker.zone },
+        layout: EntryLayout {
+            zone: calculation.zone,
+        },
         rest: &bytes[head_length..],
     };
     for entry in records {
         if MOST_ENTRIES <= book.count {
             return Err(BookError::BookFull);
         }
-        let checked = checker.check_entry(&book, entry)?;
+        let checked = check_entry(calculation, &book, entry)?;
         book = BookState {
             state: checked.state,
             count: book.count + 1,
@@ -70,14 +76,10 @@ fn start_and_check(
     ensures start { start.new ≡ start_in start.old bytes.now }
     ensures values { values_in result ≡ Book.take_up_res year_interface bytes.now }
 {
-    let mut kept = KeptMatrix::none();
-    let state = start_up_lent(zone, &mut kept)?;
+    let mut calculation = HourlyCalculation::of(zone);
+    let state = calculation.start_up()?;
     *start = state;
-    let mut checker = EntryChecker {
-        zone,
-        kept: &mut kept,
-    };
-    check_entries(&mut checker, state, head_length, bytes)
+    check_entries(&mut calculation, state, head_length, bytes)
 }
 
 // A book in bytes, with what a tool reads it by: its head's zone and the state of its start-up go into those that are lent, also where what follows is

@@ -47,7 +47,6 @@ pub mod Why
 pub mod LoadTold
 pub mod ReasonTold
 pub mod NextHour
-pub mod NextKept
 pub mod StartUp
 pub mod Accepted
 pub mod Whole

@@ -6,11 +6,9 @@ pub use Rattle.zone.proofs.Laws.Decoded.{floats_length}
 pub use Rattle.zone.proofs.Laws.Element.{nodes_few}
 pub use Rattle.zone.proofs.Laws.Fits.{hour_behind, hour_fits, hour_nodes}
 pub use Rattle.zone.proofs.Laws.HeadAnswers.{head_no, head_yes}
-pub use Rattle.zone.proofs.Laws.Kept.{none_kept_in}
 pub use Rattle.zone.proofs.Laws.Limits.{limits_back, limits_length_lem, same_limits}
 pub use Rattle.std.proofs.lemmas.List.{drop-replicate as drop_replicate}
 pub use Rattle.zone.proofs.Laws.NextHour.{next_then}
-pub use Rattle.zone.proofs.Laws.NextKept.{next_kept}
 pub use Rattle.zone.proofs.Laws.RateTwice.{fixed_append, length_same as length_twice, twice_append}
 pub use Rattle.zone.proofs.Laws.Refusals.{because}
 pub use Rattle.zone.proofs.Laws.RoundTrip.{row_back}

@@ -1,5 +1,6 @@
 pub mod State
 pub mod Hour
+pub mod NextHour
 pub mod StartUp
 pub mod Why
 pub mod Numbers

@@ -1,7 +1,6 @@
 -- Words that only contracts need, of private functions and of those that one layer calls of the other: the code's split of a calculation. Nobody has to
 -- believe them: a law ties each to a definition outside, and no definition outside cites them.
 pub mod Head
-pub mod NextHour
 pub mod Assembly
 pub mod Assembled
 pub mod FabricSums

@@ -6,6 +6,7 @@ pub mod free;
 pub mod hour;
 pub mod hour_kept;
 pub mod hour_start;
+pub mod hourly_calculation;
 pub mod kept;
 pub mod load;
 pub mod reason;

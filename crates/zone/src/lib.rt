@@ -10,7 +10,7 @@ mod physics;
 mod promised;
 mod record;
 
-pub use calls::start_up::{init_node_temps, start_up_lent};
+pub use calls::start_up::init_node_temps;
 pub use calls::state::{Demand, Load, Reason, Reply, State};
 pub use check::versions::{has_limits, hour_version};
 pub use check::zone_tests::zone_test;
@@ -19,7 +19,7 @@ pub use format::head::read_head;
 pub use format::layout::{FIRST_ELEMENT_HOUR, FIRST_RATE, RATE_CODE, SECOND_RATE};
 pub use format::limits::{Limits, read_limits};
 pub use format::temperatures::read_temperatures;
-pub use hour::kept::KeptMatrix;
+pub use hour::hourly_calculation::HourlyCalculation;
 pub use hour::load::HeatCoolLoad;
 pub use hour::windows::VentilationChoice;
 pub use physics::balance::{

@@ -4,8 +4,7 @@ use Rattle.std.specs.Prelude.{Ok, Err}
 use Rattle.zone.specs.Promise.{Result, ok, refused}
 use Rattle.zone.specs.Record.BuildingElement.{standard_coefficients}
 use Rattle.zone.specs.Check.ZoneTest.{zone_test}
-use Rattle.zone.specs.Inner.NextHour.{next_hour}
-use Rattle.zone.specs.Inner.NextHour.{next_hour_reply}
+use Rattle.zone.specs.Calls.NextHour.{next_hour, next_hour_reply}
 use Rattle.zone.specs.declared.record.zone_record.Zone.{Zone}
 use Rattle.zone.specs.declared.calls.state.State.{State}
 use Rattle.zone.specs.declared.calls.state.Demand.{Demand}

@@ -18,8 +18,8 @@ use Rattle.zone.specs.declared.hour.hour.Meeting.TheVariants.{NotMet, WithGains}
 use Rattle.zone.specs.declared.hour.rule.Rule.{Rule}
 use Rattle.zone.specs.declared.physics.balance.HeatCoolGains.{HeatCoolGains}
 use Rattle.zone.specs.Answers.{answered, answered_with}
+use Rattle.zone.specs.Calls.NextHour.{next_hour}
 use Rattle.zone.specs.Inner.Hour.{demand_solved, step_balance, stepped}
-use Rattle.zone.specs.Inner.NextHour.{next_hour, solved_next}
 use Rattle.zone.specs.declared.record.building_element.Coefficients.{Coefficients}
 
 module _ (co : Coefficients) where
@@ -53,17 +53,17 @@ module _ (co : Coefficients) where
 
   -- the same without the heat balance
   module _ (fixed : FixedRate) (z : Zone) (r : Rule) (s : State) (bytes : List ℕ) (h : Conditions) (read : tested_hour_and_limits fixed z r.version r.limits s bytes ≡ ok h) (t : List Float) (t_is : t ≡ slots_of z s) (before : List Float) where
-    pub next_solved : next_hour fixed co z r.version r.limits s bytes ≡ solved_next z (demand_solved co z t h (WithGains r) before)
+    next_solved : next_hour fixed co z r.version r.limits s bytes ≡ bind (demand_solved co z t h (WithGains r) before) λ u. ok (u.0, state_of z u.1)
     unfolding next_hour demand_solved
     next_solved = go (space_heat_cool_demand co z t h) refl
       where
         last : (d : Demand) → space_heat_cool_demand co z t h ≡ ok d → (y : Result (List Float))
             → temperatures_with co z t h (gains_heat_cool h +ᶠ delivered_by r.version r.limits h d) (convective_share r.version h (delivered_by r.version r.limits h d) (gains_heat_cool h +ᶠ delivered_by r.version r.limits h d)) d.ach_cooling ≡ y
-            → next_hour fixed co z r.version r.limits s bytes ≡ solved_next z (demand_solved co z t h (WithGains r) before)
+            → next_hour fixed co z r.version r.limits s bytes ≡ bind (demand_solved co z t h (WithGains r) before) λ u. ok (u.0, state_of z u.1)
         last d p (ok after) q = rw (read, ← t_is, p, q) refl
         last d p (refused n i) q = rw (read, ← t_is, p, q) refl
 
-        go : (x : Result Demand) → space_heat_cool_demand co z t h ≡ x → next_hour fixed co z r.version r.limits s bytes ≡ solved_next z (demand_solved co z t h (WithGains r) before)
+        go : (x : Result Demand) → space_heat_cool_demand co z t h ≡ x → next_hour fixed co z r.version r.limits s bytes ≡ bind (demand_solved co z t h (WithGains r) before) λ u. ok (u.0, state_of z u.1)
         go (ok d) p = last d p _ refl
         go (refused n i) p = rw (read, ← t_is, p) refl
 
@@ -89,6 +89,21 @@ module _ (co : Coefficients) where
     pub hour_accepted : (d : Demand) (after : List Float) → ok (d, after) ≡ demand_solved co z t h (WithGains r) before
         → ok (record { demand = d; state = state_of z after; balance = step_balance co z t h r d after }) ≡ hour_step fixed co z r.version r.limits s bytes
     hour_accepted d after e = rw (hour_solved_lem fixed z r s bytes h (sym read) t t_is before, ← e) refl
+
+  -- of an hour after another
+  pub next_untested : (fixed : FixedRate) (z : Zone) (r : Rule) (s : State) (bytes : List ℕ) (n i : ℕ) → refused n i ≡ tested_hour_and_limits fixed z r.version r.limits s bytes
+      → refused n i ≡ next_hour fixed co z r.version r.limits s bytes
+  unfolding next_hour
+  next_untested fixed z r s bytes n i e = rw (← e) refl
+
+  module _ (fixed : FixedRate) (z : Zone) (r : Rule) (s : State) (bytes : List ℕ) (h : Conditions) (read : ok h ≡ tested_hour_and_limits fixed z r.version r.limits s bytes)
+      (t before : List Float) (t_is : t ≡ slots_of z s) where
+    pub next_refused : (n i : ℕ) → refused n i ≡ demand_solved co z t h (WithGains r) before → refused n i ≡ next_hour fixed co z r.version r.limits s bytes
+    next_refused n i e = rw (next_solved fixed z r s bytes h (sym read) t t_is before, ← e) refl
+
+    pub next_accepted : (d : Demand) (after : List Float) → ok (d, after) ≡ demand_solved co z t h (WithGains r) before
+        → ok (d, state_of z after) ≡ next_hour fixed co z r.version r.limits s bytes
+    next_accepted d after e = rw (next_solved fixed z r s bytes h (sym read) t t_is before, ← e) refl
 
   -- of one time step
   module _ (z : Zone) (s : State) (h : Conditions) (g : HeatCoolGains) (ach : Float) (t : List Float) (t_is : t ≡ slots_of z s) where

@@ -209,17 +209,20 @@ module _ (co : Coefficients) where
         ∙ ap (λ (c : List Float → Float). hour_with (prepare (hour_system co z t h)) z c h) (control_is co z (areas_of z) (get_or (numbers_held x) 0 nan) refl f.total)
 
     -- where the zone's are held, or nothing, before the hour, they do after it, and the hour is the one that the definitions have
-    module _ (x x' : Held) (x'_is : x' ≡ keep_factors co z d o dt x) (p : Hour) (p_is : p ≡ hour_held co z t h x') (k : Kept co z x) where
-      kept_own : Kept co z x' × (p ≡ own_hour)
-      kept_own =
-          let q = factors_kept co z d o dt (mul-fits binary64 h.delta_t_h (decimal 3600 0)) x k in
-          (rw x'_is q.0, p_is ∙ from_own x' (rw x'_is q.1))
+    module _ (x x' : Held) (x'_is : x' ≡ keep_factors co z d o dt x) (k : Kept co z x) where
+      factors_after : Kept co z (keep_factors co z d o dt x) × FactorsOf co z d o dt (factors_held (keep_factors co z d o dt x)) (numbers_held (keep_factors co z d o dt x))
+      factors_after = factors_kept co z d o dt (mul-fits binary64 h.delta_t_h (decimal 3600 0)) x k
 
-      pub kept_demand : (meeting : Meeting) (before : List Float) (r : Result (Demand × List Float)) → r ≡ demand_met_of p meeting before
-          → Kept co z x' × (r ≡ demand_solved co z t h meeting before)
-      kept_demand meeting before r r_is =
-          (kept_own.0, r_is ∙ ap (λ (y : Hour). demand_met_of y meeting before) kept_own.1 ∙ met_solved co z t h meeting before)
+      pub kept_after : Kept co z x'
+      kept_after = rw x'_is factors_after.0
 
-      pub kept_update : (g : HeatCoolGains) (ach : Float) (r : Result (List Float)) → r ≡ update_of p g ach
-          → r ≡ temperatures_with co z t h g.gains_heat_cool g.f_hc_c ach
-      kept_update g ach r r_is = r_is ∙ ap (λ (y : Hour). update_of y g ach) kept_own.1 ∙ update_solved co z t h g ach
+      module _ (p : Hour) (p_is : p ≡ hour_held co z t h x') where
+        own_after : p ≡ own_hour
+        own_after = p_is ∙ from_own x' (rw x'_is factors_after.1)
+
+        pub kept_demand : (meeting : Meeting) (before : List Float) (r : Result (Demand × List Float)) → r ≡ demand_met_of p meeting before → r ≡ demand_solved co z t h meeting before
+        kept_demand meeting before r r_is = r_is ∙ ap (λ (y : Hour). demand_met_of y meeting before) own_after ∙ met_solved co z t h meeting before
+
+        pub kept_update : (g : HeatCoolGains) (ach : Float) (r : Result (List Float)) → r ≡ update_of p g ach
+            → r ≡ temperatures_with co z t h g.gains_heat_cool g.f_hc_c ach
+        kept_update g ach r r_is = r_is ∙ ap (λ (y : Hour). update_of y g ach) own_after ∙ update_solved co z t h g ach

@@ -13,7 +13,7 @@ use Rattle.zone.specs.Check.ZoneTest.{zone_test}
 use Rattle.zone.specs.Calls.State.{slots_of}
 use Rattle.zone.specs.Hour.Demand.{gains_heat_cool, temperatures_with, space_heat_cool_demand}
 use Rattle.zone.specs.Calls.Hour.{hour_version, tested_hour_and_limits, tested_step, step, delivered_by, convective_share, hour_step}
-use Rattle.zone.specs.Inner.NextHour.{next_hour}
+use Rattle.zone.specs.Calls.NextHour.{next_hour}
 
 module _ (fixed : FixedRate) (c : Coefficients) (z : Zone) (version : ℕ) (l : Limits) (s : State) (bytes : List ℕ) (zone : zone_test z ≡ ok tt) (known : hour_version version ≡ true) where
   module _ {A : Type 0} (f : Demand → State → Result A) where

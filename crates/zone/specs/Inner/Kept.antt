@@ -1,8 +1,10 @@
 -- A factored matrix that is kept from hour to hour. It depends on the zone, the directions of heat flow, the open treatments and the timestep, and where
--- these are the same it is the next hour's. next_kept (proofs/Laws/NextKept.antt) says where an hour from what is held is the hour of the definitions.
+-- these are the same it is the next hour's. kept_demand (proofs/Laws/KeptHour.antt) says that an hour from what is held is then the hour of the definitions.
 use Rattle.std.specs.Prelude.{◌≡◌, Bool, true, false, cond, ◌&&◌, List, [], ◌∷◌, ℕ, suc, zero, eqb, get_or, replicate, Float}
+use Rattle.std.specs.Coded.{codes}
 use Rattle.std.specs.Float.{nan, binary64}
 use Rattle.std.specs.Float.Ieee.{of_bits, to_bits}
+use Rattle.std.proofs.Props.{props}
 use Rattle.solver.specs.F64.{◌/ᶠ◌, zero64}
 use Rattle.solver.specs.Repeat.{repeat}
 use Rattle.solver.specs.Sums.{sum2, terms}
@@ -191,3 +193,7 @@ pub record KeptIn (c : Coefficients) (z : Zone) (flags : List Bool) (numbers : L
 
 abbrev pub Kept : Coefficients → Zone → Held → Type 0
 Kept c z (held flags numbers key a column) = KeptIn c z flags numbers key a (factors_held (held flags numbers key a column))
+
+-- a ghost field says what has one proof at most
+pub Kept_prop : (c : Coefficients) (z : Zone) (x : Held) → IsProp (Kept c z x)
+Kept_prop c z (held flags numbers key a column) = hlevel (codes, props)

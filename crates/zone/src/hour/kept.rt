@@ -35,8 +35,7 @@ pub struct KeptMatrix {
 impl KeptMatrix {
     // No matrix.
     pub fn none() -> KeptMatrix
-        ensures held { held_in result ≡ none_held }
-        ensures count { result.factors.chains.n ≡ 0 }
+        ensures { held_in result ≡ none_held }
     {
         KeptMatrix {
             key: None,
@@ -63,9 +62,8 @@ impl KeptMatrix {
     }
 
     // What is held is let go of.
-    pub(crate) fn clear(&mut self)
-        ensures held { held_in self.new ≡ none_held }
-        ensures count { self.new.factors.chains.n ≡ 0 }
+    fn clear(&mut self)
+        ensures { held_in self.new ≡ none_held }
     {
         *self = KeptMatrix::none();
     }

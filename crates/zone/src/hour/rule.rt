@@ -17,8 +17,8 @@ use solver::close_in_demand;
 // From this entry version on delivered power below 0 has the fraction of cooling.
 const COOLING_FRACTION_VERSION: u64 = 2;
 
-// An entry version, with the greatest powers of the plant. Versions are numbers: they have an order, and a call may name any.
-// The calls have a version and its limits as two parameters; `hour_step` and `next_hour_kept` make a `Rule` of both at once.
+// An entry version, with the greatest powers of the plant. Versions are numbers: they stand in order, and a call may name any.
+// A call is given a version and its limits apart; `hour_step` and `next_hour` make a `Rule` of both at once.
 #[derive(Clone, Copy)]
 pub struct Rule {
     pub version: u64,

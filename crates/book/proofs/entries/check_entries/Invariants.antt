@@ -7,9 +7,11 @@ use Rattle.book.proofs.entries.check_entries.Given as goal
 -- what is left to check answers what all entries do
 abbrev pub invariant-loop-entry : goal.invariant-loop-entry
 invariant-loop-entry l =
+    let z = l.fn.calculation.zone.now in
     record {
-      zone : l.entry-iterator.layout.zone.now ≡ l.checker.zone.now;
+      of_same : (l.calculation.zone ≡ l.fn.calculation.zone) × (l.calculation.coefficients ≡ l.fn.calculation.coefficients);
+      zone : l.entry-iterator.layout.zone.now ≡ z;
       used : l.book.used + length l.entry-iterator.rest.now ≡ length l.bytes;
-      told : Book.check_entries year_interface l.fn.checker.zone.now 0 (carried l.fn.start no_entry_version) l.head_length (Book.whole_entries year_interface l.fn.checker.zone.now (drop l.head_length l.bytes))
-          ≡ Book.check_entries year_interface l.checker.zone.now l.book.count (given_of l.book).state l.book.used (Book.whole_entries year_interface l.checker.zone.now l.entry-iterator.rest.now);
+      told : Book.check_entries year_interface z 0 (carried l.fn.start no_entry_version) l.head_length (Book.whole_entries year_interface z (drop l.head_length l.bytes))
+          ≡ Book.check_entries year_interface z l.book.count (given_of l.book).state l.book.used (Book.whole_entries year_interface z l.entry-iterator.rest.now);
     }

@@ -6,5 +6,5 @@ pub returns : goal.returns
 returns c =
     let a = c.args in
     let h = a.self.now in
-    (kept_demand h.coefficients h.zone.now h.temp_prev.now h.hour.now _ _ c.keep_hour.ensures.held _ c.prepared.ensures (none_kept_in h.coefficients h.zone.now _ c.none-kept.ensures.held)
-    a.meeting a.after.now _ c.demand_met.ensures).1
+    kept_demand h.coefficients h.zone.now h.temp_prev.now h.hour.now _ _ c.keep_hour.ensures.held (none_kept_in h.coefficients h.zone.now _ c.none-kept.ensures)
+    _ c.prepared.ensures a.meeting a.after.now _ c.demand_met.ensures
