@@ -1,4 +1,5 @@
 -- States, limits, demands and heat balances as C has them.
+-- Specification, Answers in C; Heat balance; Limits of the plant.
 use Rattle.std.specs.Prelude.{None, Option, Some}
 use Rattle.std.specs.Prelude.{ℕ, List, [], ◌∷◌, ◌++◌, Float}
 use Rattle.zone.specs.Promise.{zero64, one64}
@@ -27,7 +28,7 @@ trigger_out (Some ach) = one64 ∷ ach ∷ []
 abbrev pub demand_out : Demand → List Float
 demand_out d = d.space_heat_demand ∷ d.space_cool_demand ∷ d.ach_cooling ∷ trigger_out d.ach_to_trigger_heating
 
--- `balance[28]`: 7 + 4 + 14 in the order of the structs, and behind the 4 the convective total's terms by direction
+-- `balance[28]`: 7 + (4 + 3) + 14 values in the order of the structs, the 3 the sums of the convective total's terms by direction
 abbrev pub air_node_out : HeatBalanceAirNode → List Float
 air_node_out b =
     b.solar_gains

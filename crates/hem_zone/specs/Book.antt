@@ -1,5 +1,6 @@
--- The calls on a book: those of the contracts (book specs/Model/Calls.antt) at the interface of the year. Each definition gives the returned number, then what stands
--- after the call in the buffer (a take-up has none), `temps`, `nodes`, `count`, `used` and `last_version`.
+-- The calls on a book: those of the contracts (book specs/Model/Calls.antt) at the interface of the year. Each definition gives the returned number, then what
+-- stands after the call in the buffer (a take-up has none), `temps`, `nodes`, `count`, `used` and `last_version`.
+-- Specification, Begin; Append; Take-up; Values of a book; Answers in C.
 use Rattle.std.specs.Prelude.{ℕ, List, Float}
 use Rattle.book.specs.Model.Calls as Book
 use Rattle.book.specs.Year.{hour_item, Carried, carried, year_interface}

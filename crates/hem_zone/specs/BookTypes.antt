@@ -1,4 +1,5 @@
 -- Lists of calls of hem_begin, hem_append and hem_take_up: the types of what these functions are given and leave, and what it stands for.
+-- Specification, Lists of calls; Answers in C.
 use Rattle.std.specs.Prelude.{ℕ, zero, suc, ◌%◌, ◌/◌}
 use Rattle.book.specs.Model.Calls as Book
 use Rattle.book.specs.Model.Session.{CodeTypes}

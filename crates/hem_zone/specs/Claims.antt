@@ -1,5 +1,6 @@
 -- What a caller learns from what a call returned: 0 exactly where it is accepted, else the refusal, of which nothing is cut off; one claim for each
 -- function.
+-- Specification, Answers in C; What a refusal is; Of every call.
 use Rattle.std.specs.Prelude.{ℕ, ◌+◌, ◌*◌, ◌%◌, ◌/◌, ◌≤◌, ◌<◌, ◌≡◌, ◌↔◌, List, Float}
 use Rattle.zone.specs.Promise.{Result, ok, refused}
 use Rattle.zone.specs.Record.BuildingElement.{standard_coefficients}

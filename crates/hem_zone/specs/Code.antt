@@ -1,4 +1,5 @@
 -- What a call returns, and what it leaves in what it was lent.
+-- Specification, Answers in C; What a refusal is.
 use Rattle.std.specs.Prelude.{ℕ, ◌+◌, ◌*◌, ◌%◌, ◌^◌}
 use Rattle.zone.specs.Promise.{Result, ok, refused}
 

@@ -1,4 +1,5 @@
 -- The converter (tools specs/Convert.antt). The definition gives the returned number, then what stands in `out`, `count` and `used` after the call.
+-- Specification, Conversion; Answers in C.
 use Rattle.std.specs.Prelude.{ℕ, List, length}
 use Rattle.tools.specs.Convert.{ConvertedBook, output, convert_in}
 use Rattle.hem_zone.specs.Code.{answered}

@@ -1,7 +1,8 @@
--- What is claimed of the engine as a whole: of the fifteen functions that C calls, and of the layers that they call. A call returns and leaves what its function's
--- definition says (specs/Zone.antt, specs/Book.antt and those beside them): that is the contract's, which the check proves, as it proves that the call ends, and `Ties`
--- (proofs/Ties.antt, since specs/ cannot name a function's contract) says it of each contract. So the rest is stated of the definitions. Each line is a type
--- that is proved elsewhere; the contract of `promises` (src/promised.rt) names the whole, `Engine`, which stands at the end.
+-- What is claimed of the engine as a whole: of the fifteen functions that C calls, and of the layers that they call. A call returns and leaves what its
+-- function's definition says (specs/Zone.antt, specs/Book.antt and those beside them): that is the contract's, which the check proves, as it proves that the
+-- call ends, and `Ties` (proofs/Ties.antt, since specs/ cannot name a function's contract) says it of each contract. So the rest is stated of the definitions.
+-- Each line is a type that is proved elsewhere; the contract of `promises` (src/promised.rt) names the whole, `Engine`, which stands at the end.
+-- Specification, What is promised.
 use Rattle.std.specs.Prelude.{◌≡◌, Bool, true, List, ◌++◌, take, ℕ, ◌+◌, ◌*◌, cond, length, Float}
 use Rattle.solver.specs.Claims.Worked.{Worked}
 use Rattle.solver.specs.Refusals as OfSolves
@@ -42,7 +43,7 @@ use Rattle.hem_zone.specs.BookTypes.{answer_of, reply_in, c_types}
 
 -- ---- every call
 
--- Number and index name one error of the layer's own
+-- in each layer number and index name one of its own errors
 pub record OneErrorEach : Type 0 where
   pub solver : OfSolves.OneError
   pub zone : OfZones.OneError
@@ -50,7 +51,7 @@ pub record OneErrorEach : Type 0 where
   pub questions : OfQuestions.OneError
   pub weather : OfWeather.OneError
 
--- A refusal carries its number, changes no lent byte, and hands the temperatures back unchanged.
+-- A refusal has its number, changes no lent byte, and hands back the temperatures that were given.
 pub record EveryCallTells : Type 0 where
   -- 0 is returned exactly where a call is accepted; else the number and index of one of this call's refusals, and then nothing is written.
   pub refusals : Claims

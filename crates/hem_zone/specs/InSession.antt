@@ -1,5 +1,6 @@
--- What a session has of one call of hem_append, whatever it was given: a call that a caller may make (book specs/Model/InSession.antt). Its zone is told by a head's bytes: those of the
--- book that is held, as they stand at the front of its used bytes, with any bytes behind them.
+-- What a session has of one call of hem_append, whatever it was given: a call that a caller may make (book specs/Model/InSession.antt). Its zone is told by a
+-- head's bytes: those of the book that is held, as they stand at the front of its used bytes, with any bytes behind them.
+-- Specification, Lists of calls; Append.
 use Rattle.std.specs.Prelude.{ℕ, ◌≡◌, List, ◌++◌, take}
 use Rattle.std.proofs.Math.Option.{some}
 use Rattle.zone.specs.Promise.{ok}

@@ -1,4 +1,5 @@
 -- The questions over a book (tools specs/Questions.antt). Each definition gives the returned number, then what stands in `hour` or `hours` after the call.
+-- Specification, Questions over a book; Answers in C.
 use Rattle.std.specs.Prelude.{ℕ, ◌-◌, ◌^◌, List, Option, unwrap_or, Float}
 use Rattle.tools.specs.Questions.{first_above_in, hours_within_in, nearest_hour_in}
 use Rattle.hem_zone.specs.Code.{answered}

@@ -1,5 +1,6 @@
 -- What is shown of the contract of each exported function (proofs/Ties.antt, which alone can name a contract): for any arguments it asks
 -- nothing of its caller, and what it ensures is that the returned number and the lent arrays are the definition's.
+-- Specification, Of every call.
 use Rattle.std.specs.Prelude.{ℕ, ◌≡◌}
 
 -- `asks` and `ensures` are the contract's own; `outcome` is the returned number beside what was left in the lent arrays

@@ -1,4 +1,5 @@
 -- The weather of a line (weather specs/Weather.antt). The definition gives the returned number, then what stands in `weather` after the call.
+-- Specification, Weather of a line; Answers in C.
 use Rattle.std.specs.Prelude.{ℕ, List, [], ◌∷◌, Float}
 use Rattle.weather.specs.declared.weather.Weather.{Weather}
 use Rattle.weather.specs.Weather.{weather_of}

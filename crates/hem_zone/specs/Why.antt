@@ -1,5 +1,6 @@
--- Why this rate, why this load (zone specs/Calls/Why.antt), of an hour on the zone of a head. The definition gives the returned number, then what stands in `reason`
--- and `load` after the call.
+-- Why this rate, why this load (zone specs/Calls/Why.antt), of an hour on the zone of a head. The definition gives the returned number, then what stands in
+-- `reason` and `load` after the call.
+-- Specification, Why this rate, why this load; Answers in C.
 use Rattle.std.specs.Prelude.{◌≡◌, ℕ, List, [], ◌∷◌, map, Float}
 use Rattle.zone.specs.Record.BuildingElement.{standard_coefficients}
 use Rattle.zone.specs.declared.calls.state.Reason.{Reason}

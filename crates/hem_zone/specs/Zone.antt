@@ -1,5 +1,6 @@
--- The calls on a zone: head, start-up, operative temperature, demand, update, hour step. The head is read first, 1 to 5. Each definition gives the returned number,
--- then what stands after the call in the arrays that it was lent to write, in the order of its parameters.
+-- The calls on a zone: head, start-up, operative temperature, demand, update, hour step. The head is read first, 1 to 5. Each definition gives the returned
+-- number, then what stands after the call in the arrays that it was lent to write, in the order of its parameters.
+-- Specification, Order of tests; Answers in C.
 use Rattle.std.specs.Prelude.{ℕ, List, Float}
 use Rattle.zone.specs.Promise.{Result, bind}
 use Rattle.zone.specs.declared.record.zone_record.Zone.{Zone}

@@ -1,4 +1,5 @@
 -- What a call answers, in the words of the definitions: a refusal by its number.
+-- Specification, Table of refusals; Refusals of a solve.
 use Rattle.std.specs.Prelude.{ℕ, Ok, Err}
 use Rattle.std.specs.Prelude as Rust
 use Rattle.solver.specs.declared.error.SolveError.{SolveError}

@@ -1,4 +1,5 @@
 -- `fast_solver`: each element's chain is eliminated, the inner surfaces and the air are solved for, and the chains back-substituted.
+-- Specification, Elimination of the chains; Dense solve; Back substitution; Refusals of a solve; A zone as a record.
 use Rattle.std.specs.Prelude.{ℕ, ◌+◌, ◌*◌, List, Bool, cond, ◌&&◌, get_or, set, replicate, ltb, Float}
 use Rattle.std.specs.Float.{nan}
 use Rattle.solver.specs.declared.system.Matrix.{Matrix}
@@ -57,7 +58,7 @@ module _ (a : Matrix) where
   unfoldable pub temperatures_valid : List Float → Bool
   temperatures_valid t = nodes_within (at_most24 a.n) a.two_nodes t
 
-  -- 12; else 13; else the temperatures in their slots
+  -- 12 for a divisor; else 13 for a temperature; else the temperatures in their slots
   unfoldable pub solve : List Float → Result (List Float)
   solve b =
       bind (require all_divisors_valid divisor) λ _.

@@ -1,4 +1,5 @@
 -- The dense solve: elimination with partial pivoting of a matrix of w unknowns, apart from any right side, and the substitution of a right side.
+-- Specification, Dense solve.
 use Rattle.std.specs.Prelude.{ℕ, ◌+◌, ◌-◌, ◌*◌, List, Bool, cond, get_or, set, drop, ltb, eqb, Float}
 use Rattle.std.specs.Float.{nan}
 use Rattle.solver.specs.F64.{◌-ᶠ◌, ◌*ᶠ◌, ◌/ᶠ◌, one64}
@@ -46,14 +47,14 @@ apply_interchanges w interchanges b = repeat 0 w (apply_interchange interchanges
 abbrev pub subtract_multiple : List Float → ℕ → Float → ℕ → List Float → List Float
 subtract_multiple m k x i b = set b i (get_or b i nan -ᶠ entry i k m *ᶠ x)
 
--- forward, column by column: from the right sides below
+-- forward, column by column: the share of unknown k is subtracted from the right sides below it
 unfoldable pub forward_step : ℕ → List Float → ℕ → List Float → List Float
 forward_step w m k b = repeat (k + 1) w (subtract_multiple m k (get_or b k nan)) b
 
 unfoldable pub forward_substitution : ℕ → List Float → List Float → List Float
 forward_substitution w m b = repeat 0 w (forward_step w m) b
 
--- backward, column by column: divided by the diagonal, then from the right sides above
+-- backward, column by column: right side k is divided by the diagonal, and its share subtracted from those above it
 unfoldable pub back_step : List Float → ℕ → List Float → List Float
 back_step m k b =
     let x = get_or b k nan /ᶠ entry k k m in

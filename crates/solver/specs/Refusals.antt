@@ -1,4 +1,5 @@
 -- Which refusals a result can be, by number and index; and those of the solver.
+-- Specification, What a refusal is; Refusals of a solve.
 use Rattle.std.specs.Prelude.{ℕ, ◌≡◌}
 use Rattle.solver.specs.Result.{Result, ok, refused}
 use Rattle.solver.specs.Numbers.{divisor, temperature}

@@ -22,7 +22,7 @@ row i m = terms 0 25 λ j. entry i j m
 unfoldable pub set_row : ℕ → List Float → List Float → List Float
 set_row i r m = repeat 0 25 (λ j. set_entry i j (get_or r j nan)) m
 
--- row i where its magnitude in column k is strictly greater than that of the row found so far, which a nan never is; else that row
+-- row i where its magnitude in column k is strictly greater than that of the row found so far, which is never so with a NaN; else that row
 unfoldable pub larger_in_column : ℕ → List Float → ℕ → ℕ → ℕ
 larger_in_column k part i found = cond (lt (abs (entry found k part)) (abs (entry i k part))) i found
 
@@ -30,11 +30,11 @@ larger_in_column k part i found = cond (lt (abs (entry found k part)) (abs (entr
 abbrev pub pivot_row : ℕ → ℕ → List Float → ℕ
 pivot_row k n part = repeat 1 n (larger_in_column k part) 0
 
--- entry j of row i gains (- the pivot row's entry) × factor
+-- to entry j of row i is added (−the pivot row's entry) × factor
 abbrev pub eliminate_entry : List Float → ℕ → Float → ℕ → List Float → List Float
 eliminate_entry pivots i factor j m = set_entry i j (entry i j m +ᶠ neg (get_or pivots j nan) *ᶠ factor) m
 
--- row i, its factor known: that stands in column k from now on, and each later entry gains
+-- row i, once its factor is known: the factor stands in column k from now on, and each later entry is changed
 abbrev pub eliminate_row_by : ℕ → ℕ → List Float → ℕ → Float → List Float → List Float
 eliminate_row_by w k pivots i factor m = repeat (k + 1) w (eliminate_entry pivots i factor) (set_entry i k factor m)
 

@@ -1,4 +1,4 @@
--- Sums of floats (Specification, Compensated sum and Plain sum).
+-- Sums of floats (Specification, Compensated sum; Plain sum).
 use Rattle.std.specs.Prelude.{ℕ, zero, suc, ◌-◌, List, [], ◌∷◌, Float}
 use Rattle.solver.specs.F64.{◌+ᶠ◌, ◌-ᶠ◌, zero64}
 use Rattle.solver.specs.declared.sums.Sum2.{Sum2}
@@ -7,7 +7,7 @@ use Rattle.solver.specs.declared.sums.Sum2.{Sum2}
 abbrev pub sum2_zero : Sum2
 sum2_zero = record { s = zero64; c = zero64 }
 
--- per term t, u = s + t, z = u - s, c gains (s - (u - z)) + (t - z), and s becomes u;
+-- per term t, u = s + t, z = u - s, c becomes c + ((s - (u - z)) + (t - z)), and s becomes u;
 abbrev pub sum2_add : Sum2 → Float → Sum2
 sum2_add a t =
     let u = a.s +ᶠ t in

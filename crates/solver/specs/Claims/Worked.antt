@@ -1,4 +1,5 @@
 -- Worked examples of `solve`. Temperatures are stated by their bit patterns, which were computed apart from the definitions.
+-- Specification, Elimination of the chains; Dense solve; Back substitution; Refusals of a solve.
 use Rattle.std.specs.Prelude.{◌≡◌, true, false, List, [], ◌∷◌, map, ℕ, get_or, set, replicate, Float}
 use Rattle.std.specs.Float.{nan, binary64}
 use Rattle.std.specs.Float.Ieee.{neg, to_bits}

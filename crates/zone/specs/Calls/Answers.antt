@@ -1,4 +1,5 @@
 -- What the calls answer, and the state that they hand back: the new one, or where they refuse the one that was given.
+-- Specification, What a refusal is; Of every call.
 use Rattle.std.specs.Prelude.{Ok, Err}
 use Rattle.std.specs.Prelude as Rust
 use Rattle.solver.specs.Result.{Result, ok, refused}

@@ -41,7 +41,7 @@ step c z s h gains fraction ach =
     bind (calc_temperatures c z (slots_of z s) h dt gains fraction ach) λ t.
     ok (state_of z t, heat_balance c z (slots_of z s) h dt gains fraction ach t)
 
--- `update_temperatures`: its own gains, fraction and rate are tested in 9, after the conditions, index 0; then the step
+-- `update_temperatures`: behind the conditions its own gains, fraction and rate are tested (9, index 0); then the step
 unfoldable pub update_temperatures : Coefficients → Zone → State → List ℕ → (gains fraction ach : Float) → Result (State × HeatBalance)
 update_temperatures c z s bytes gains fraction ach =
     bind (tested Retired z s bytes) λ h.
@@ -66,7 +66,7 @@ newest_version = 3
 abbrev pub hour_version : (version : ℕ) → Bool
 hour_version version = leb first_version version && leb version newest_version
 
--- Entry version 3 adds two floats after the conditions: an hour of an earlier version has no limits, and those of the call are not looked at
+-- from version 3 on an hour has limits; an hour of an earlier version has none, and those of the call are not looked at
 abbrev pub limits_version : ℕ
 limits_version = 3
 
@@ -80,34 +80,34 @@ power_limits_range l = power_limit_range l.heating && power_limit_range l.coolin
 abbrev pub limits_valid : (version : ℕ) → Limits → Bool
 limits_valid version l = cond (has_limits version) (power_limits_range l) true
 
--- 19, a limit out of range, after 9
+-- 6 to 9, then 19 for a limit out of range
 unfoldable pub tested_hour_and_limits : FixedRate → Zone → (version : ℕ) → Limits → State → List ℕ → Result Conditions
 tested_hour_and_limits fixed z version l s bytes =
     bind (tested_hour fixed z s bytes) λ h.
     bind (require (limits_valid version l) limit_value) λ _.
     ok h
 
--- An hour step alone names one too; an unknown one is 18, index 0, before 6: after the zone's 4, 5
+-- the tests of an hour step: the zone's 4, 5; then 18, index 0, for a version that no hour has; then 6 to 9 and 19
 unfoldable pub tested_step : FixedRate → Zone → (version : ℕ) → Limits → State → List ℕ → Result Conditions
 tested_step fixed z version l s bytes =
     bind (zone_test z) λ _.
     bind (require (hour_version version) false_entry) λ _.
     tested_hour_and_limits fixed z version l s bytes
 
--- delivered W, with no limit
+-- what the demand delivers in W, with no limit
 unfoldable pub delivered : Conditions → Demand → Float
 delivered h d = (d.space_heat_demand +ᶠ d.space_cool_demand) *ᶠ decimal 1000 0 /ᶠ h.delta_t_h
 
--- Delivered power strictly beyond them becomes the limit, for cooling its negation
+-- a delivered power strictly beyond a limit becomes the limit, one of cooling with a minus
 unfoldable pub limited : Limits → (w : Float) → Float
 limited l w = cond (lt l.heating w) l.heating (cond (lt w (neg l.cooling)) (neg l.cooling) w)
 
--- delivered W, by the rule of a version
+-- what is delivered in W, by the rule of a version
 unfoldable pub delivered_by : (version : ℕ) → Limits → Conditions → Demand → Float
 delivered_by version l h d = cond (has_limits version) (limited l (delivered h d)) (delivered h d)
 
--- From entry version 2 on, delivered power below 0 uses the cooling fraction, any other the heating fraction. Version 1 entries keep their own rule;
--- Shares follow version 2: w is what is delivered, after the limits
+-- Version 1 has the heating fraction for all power. From version 2 on, delivered power below 0 has the cooling fraction, any other the heating fraction; in
+-- version 3 that is the power w after the limits.
 abbrev pub cooling_fraction_version : ℕ
 cooling_fraction_version = 2
 
@@ -124,7 +124,7 @@ pub record HourResult : Type 0 where
   pub state : State
   pub balance : HeatBalance
 
--- demand is reported uncut. A call's hour step has the fixed rate retired; an entry is judged by what the hour step would write without this refusal
+-- The demand is reported uncut. A call's hour step refuses the fixed rate; an entry is judged by what the hour step would give without this refusal
 unfoldable pub hour_step : FixedRate → Coefficients → Zone → (version : ℕ) → Limits → State → List ℕ → Result HourResult
 hour_step fixed c z version l s bytes =
     bind (tested_step fixed z version l s bytes) λ h.

@@ -1,4 +1,5 @@
 -- Start-up, `init_node_temps`: passes under constant conditions until two temperature vectors are close.
+-- Specification, Start-up conditions; Passes.
 use Rattle.std.specs.Prelude.{ℕ, zero, suc, Bool, true, cond, ◌&&◌, List, [], ◌∷◌, map, replicate, Float}
 use Rattle.solver.specs.F64.{◌+ᶠ◌, ◌/ᶠ◌, decimal, zero64}
 use Rattle.solver.specs.Result.{Result, ok, refused, bind}
@@ -21,8 +22,8 @@ use Rattle.zone.specs.Calls.Hour.{delivered}
 abbrev pub first_hour : Element → ElementHour
 first_hour e = e.first_hour
 
--- length 8,760 h; external and supply the first external temperature; no gains; fractions 0.4; both setpoints the first set temperature;
--- the first ventilation setpoint; fixed rate 0; the head's first-hour parts
+-- length 8,760 h; external and supply temperature are the first external one; no gains; fractions 0.4; heating and cooling setpoint are the first
+-- set temperature, the ventilation setpoint is the first one; fixed rate 0; the head's first-hour parts
 unfoldable pub start_up_conditions : Zone → Conditions
 start_up_conditions z =
     record {
@@ -56,7 +57,7 @@ all_close (a ∷ as') (b ∷ bs) = Closeness.isclose a b && all_close as' bs
 unfoldable pub close : Zone → (before after : List Float) → Bool
 close z t t' = all_close (state_of z t').temps (state_of z t).temps
 
--- before the first pass
+-- the state before the first pass
 abbrev pub start_state : Zone → State
 start_state z = record { nodes = node_count z; temps = replicate 121 (temp_start z) }
 

@@ -1,4 +1,5 @@
 -- The state before an hour: refusal 6, its node temperatures in the solver's slots, and the operative temperature.
+-- Specification, Order of tests; Node order; Operative temperature.
 use Rattle.std.specs.Prelude.{Bool, ◌&&◌, List, take, eqb, Float}
 use Rattle.solver.specs.Result.{Result, ok, bind, require}
 use Rattle.solver.specs.Closeness.{within_state_bound}

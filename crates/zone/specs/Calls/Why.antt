@@ -1,5 +1,5 @@
--- Why this rate, why this load: from the node temperatures before an hour and its conditions, a tool names the earliest of these that holds
--- for that demand. The temperatures, the rate found and the closeness are the demand's own (Hour/Demand.antt).
+-- Why this rate, why this load: from the node temperatures before an hour and its conditions, the earliest of six reasons that holds
+-- of the hour's demand. The temperatures, the rate found and the closeness are the demand's own (Hour/Demand.antt).
 -- Specification, Why this rate, why this load; Fixed rate.
 use Rattle.std.specs.Prelude.{ℕ, cond, not, ◌&&◌, List, Float}
 use Rattle.std.specs.Float.Ieee.{lt, eq}
@@ -27,9 +27,9 @@ use Rattle.zone.specs.Calls.Hour.{tested}
 unfoldable pub load_of : Demand → Load
 load_of d = cond (lt zero64 d.space_heat_demand) Heating (cond (lt d.space_cool_demand zero64) CoolingLoad Neither)
 
--- c: the standards' numbers; z: the zone; t: the node temperatures before the hour; h: the hour's conditions
+-- c: the standard coefficients; z: the zone; t: the node temperatures before the hour; h: the hour's conditions
 module _ (c : Coefficients) (z : Zone) (t : List Float) (h : Conditions) where
-  -- the list, in its order: no choice of rates (code 0, or both equal); free temperature not above the ventilation setpoint; free air not above the
+  -- the reasons in their order: no choice of rates (code 0, or both equal); free temperature not above the ventilation setpoint; free air not above the
   -- supply; windows open would not lower the free temperature; with the rate found it is still above the cooling setpoint and not close to it by the windows
   -- test; windows enough. Free is at the target rate; the rate found is the one that reaches the ventilation setpoint
   unfoldable pub reason_for : AirChangesPerHourArgument → Result Reason

@@ -8,7 +8,7 @@ use Rattle.solver.specs.F64.{decimal}
 abbrev pub from_to : (low high : Float) → Float → Bool
 from_to low high x = le low x && le x high
 
--- above low, to high
+-- above low, up to high, which is included
 abbrev pub above_to : (low high : Float) → Float → Bool
 above_to low high x = lt low x && le x high
 
@@ -20,7 +20,7 @@ area_range = above_to (decimal 0 0) (decimal 100000 0)
 unfoldable pub pitch_range : Float → Bool
 pitch_range = from_to (decimal 0 0) (decimal 180 0)
 
--- h_ce, h_re, h_ri, bridges 0 to 1e6
+-- h_ce, h_re, h_ri, thermal bridges 0 to 1e6
 unfoldable pub coefficient_range : Float → Bool
 coefficient_range = from_to (decimal 0 0) (decimal 1000000 0)
 
@@ -28,7 +28,7 @@ coefficient_range = from_to (decimal 0 0) (decimal 1000000 0)
 unfoldable pub h_pli_range : Float → Bool
 h_pli_range = above_to (decimal 0 0) (decimal 1000000 0)
 
--- k 0 to 1e7
+-- k_pli 0 to 1e7
 unfoldable pub k_pli_range : Float → Bool
 k_pli_range = from_to (decimal 0 0) (decimal 10000000 0)
 
@@ -36,7 +36,7 @@ k_pli_range = from_to (decimal 0 0) (decimal 10000000 0)
 unfoldable pub fraction_range : Float → Bool
 fraction_range = from_to (decimal 0 0) (decimal 1 0)
 
--- sky ±10,000
+-- `therm_rad_to_sky` −10,000 to 10,000
 unfoldable pub sky_range : Float → Bool
 sky_range = from_to (neg (decimal 10000 0)) (decimal 10000 0)
 
@@ -48,7 +48,7 @@ delta_r_range = from_to (decimal 0 0) (decimal 1000 0)
 unfoldable pub irradiance_range : Float → Bool
 irradiance_range = from_to (decimal 0 0) (decimal 2000 0)
 
--- gains ±1e7
+-- gains, each by itself, −1e7 to 1e7
 unfoldable pub gains_range : Float → Bool
 gains_range = from_to (neg (decimal 10000000 0)) (decimal 10000000 0)
 
@@ -60,15 +60,15 @@ power_limit_range = from_to (decimal 0 0) (decimal 10000000 0)
 unfoldable pub rate_range : Float → Bool
 rate_range = from_to (decimal 0 0) (decimal 1000 0)
 
--- temperatures ±100
+-- external, supply and first external temperature, `temp_ext`: −100 to 100
 unfoldable pub temperature_range : Float → Bool
 temperature_range = from_to (neg (decimal 100 0)) (decimal 100 0)
 
--- heating and first set temperature −273.15 to 100
+-- heating setpoint and first set temperature −273.15 to 100
 unfoldable pub heating_setpoint_range : Float → Bool
 heating_setpoint_range = from_to (neg (decimal 27315 2)) (decimal 100 0)
 
--- other setpoints −273.15 to 1.4 × 10^32
+-- cooling, ventilation and first ventilation setpoint −273.15 to 1.4e32
 unfoldable pub setpoint_range : Float → Bool
 setpoint_range = from_to (neg (decimal 27315 2)) (decimal 140000000000000000000000000000000 0)
 
@@ -76,7 +76,7 @@ setpoint_range = from_to (neg (decimal 27315 2)) (decimal 1400000000000000000000
 unfoldable pub hour_length_range : Float → Bool
 hour_length_range = from_to (decimal 1 3) (decimal 8760 0)
 
--- limit 1 to 10,000
+-- start-up limit 1 to 10,000
 abbrev pub limit_range : ℕ → Bool
 limit_range n = leb 1 n && leb n 10000
 

@@ -60,14 +60,14 @@ values_test z =
     bind (require (front_in_range z) zone_value) λ _.
     all_required element_in_range zone_value (take z.count z.building_elements) 1
 
--- element count n (1 to 24)
+-- an element count of 1 to 24
 abbrev pub count_valid : ℕ → Bool
 count_valid n = leb 1 n && leb n 24
 
 abbrev pub element_treatments_valid : Element → Bool
 element_treatments_valid e = treatments_valid e.kind e.treatments
 
--- count and treatments: 4
+-- the count (index 0), then the treatments of each element (its index): 4
 unfoldable pub counts_test : Zone → Result (Unit {0})
 counts_test z =
     bind (require (count_valid z.count) structure) λ _.

@@ -21,8 +21,8 @@ use Rattle.zone.specs.Physics.System.{zone_two_nodes}
 use Rattle.zone.specs.Physics.NodeLayout.{first_node}
 use Rattle.zone.specs.Calls.Hour.{update_temperatures, HourResult, hour_step}
 
--- direction and h_ci at an inner surface: 2.5 for (internal) pitch 60 to 120 inclusive. Otherwise upwards 5.0, downwards 0.7: a ceiling (below 60) is
--- upwards unless the air is colder than the surface; a floor (above 120) is upwards only if it is.
+-- direction and h_ci at an inner surface: horizontal, 2.5, for a pitch of 60 to 120, both included; otherwise upwards, 5.0, or downwards, 0.7. A ceiling
+-- (below 60) is upwards unless the air is colder than the surface; a floor (above 120) is upwards only if it is.
 pub data Flows (pitch air surface : Float) : HeatFlowDirection → (h_ci : Float) → Type 0 where
   wall : le (decimal 60 0) pitch ≡ true → le pitch (decimal 120 0) ≡ true → Flows pitch air surface Horizontal (decimal 25 1)
   ceiling_upwards : lt pitch (decimal 60 0) ≡ true → lt air surface ≡ false → Flows pitch air surface Upwards (decimal 50 1)
@@ -53,7 +53,7 @@ pub data Parted (z : Zone) (before after : State) : (n e : ℕ) (total horizonta
   downwards : {n e : ℕ} {x : Float} {t h u d : List Float}
       → Term z before after e Downwards x → Parted z before after n (suc e) t h u d → Parted z before after (suc n) e (x ∷ t) h u (x ∷ d)
 
--- three sums of its convective total's terms, signs kept, horizontal, upwards and downwards, each added in element order. The old total remains
+-- the convective total and the three sums by direction, horizontal, upwards and downwards: the terms, with their signs, each sum in element order
 pub record ByDirection (z : Zone) (before after : State) (b : HeatBalanceInternalBoundary) : Type 0 where
   pub terms : List Float
   pub horizontal : List Float
@@ -65,7 +65,7 @@ pub record ByDirection (z : Zone) (before after : State) (b : HeatBalanceInterna
   pub upwards_is : b.fabric_int_air_convective_upwards ≡ sum_from0 upwards
   pub downwards_is : b.fabric_int_air_convective_downwards ≡ sum_from0 downwards
 
--- The coefficient function is to yield the direction with the number: of every pitch that is a number
+-- the coefficient comes with its direction, of every pitch that is no NaN
 abbrev pub YieldsDirection : Type 0
 YieldsDirection = (pitch air surface : Float) → is_nan pitch ≡ false
     → Flows pitch air surface (surface_convection standard_coefficients pitch air surface).direction (surface_convection standard_coefficients pitch air surface).h_ci

@@ -17,7 +17,7 @@ pub record Signs (d : Demand) : Type 0 where
   pub cooling : le d.space_cool_demand zero64 ≡ true
   pub one : (d.space_heat_demand ≡ zero64) ⊎ (d.space_cool_demand ≡ zero64)
 
--- heating ≥ 0, cooling ≤ 0: of every accepted demand, and of that in every accepted hour step
+-- heating is at least 0 and cooling at most 0, and one of them is 0: of every accepted demand, and of that in every accepted hour step
 abbrev pub DemandCallSigns : Coefficients → Zone → Type 0
 DemandCallSigns c z = (fixed : FixedRate) (s : State) (bytes : List ℕ) (d : Demand) → demand fixed c z s bytes ≡ ok d → Signs d
 

@@ -1,5 +1,6 @@
 -- What is claimed of each zone: of the values of `init_node_temps`, `operative`, `demand`, `why`, `update_temperatures` and `hour_step`, which are the
 -- equations of BS EN ISO 52016-1, and of their refusals. Each line is a type that is proved elsewhere.
+-- Specification, Of every call; Of every value.
 use Rattle.std.specs.Prelude.{List, ℕ, ◌≤◌}
 use Rattle.zone.specs.declared.format.conditions.Conditions.{Conditions}
 use Rattle.zone.specs.declared.format.conditions.FixedRate.{FixedRate}
@@ -37,7 +38,7 @@ pub record EachZone (z : Zone) : Type 0 where
   pub demand_signs : DemandCallSigns standard_coefficients z
   pub hour_signs : HourCallSigns standard_coefficients z
   -- the reason that is named for an hour's rate is the earliest of the six that holds and tells which rate the demand chose, the load beside it is the
-  -- demand's; an hour is refused exactly where its demand is, and alike, by a demand that still takes code 0,
+  -- demand's; an hour is refused exactly where a demand that still takes code 0 refuses it, and alike,
   pub why_answers : WhyAnswers standard_coefficients z
   pub why_refuses : WhyRefuses standard_coefficients z
   -- 15 means that no pass up to the limit settled, and an answer is the temperatures before the first pass that did,
@@ -48,7 +49,7 @@ pub record EachZone (z : Zone) : Type 0 where
   -- version 1's hour has the heating fraction for all power, version 2's the cooling fraction for power below 0, version 3's a limit on what is delivered or 19,
   -- any other version is 18,
   pub versions : (fixed : FixedRate) (s : State) (bytes : List ℕ) → Hours.VersionClaims fixed standard_coefficients z s bytes
-  -- the fixed rate code 0 is refused under 8; what an hour step gives is what an entry is judged by; and an hour with the fixed rate that is
+  -- a call refuses the fixed rate, code 0, with 8; what an hour step gives is what an entry is judged by; and an hour with the fixed rate that is
   -- judged true is, with code 1 and the rate twice, the same hour for a call
   pub retired : (bytes : List ℕ) → RetiredClaims z bytes
   pub hour_still : HourStill standard_coefficients z

@@ -1,4 +1,5 @@
 -- The bytes of a zone's head and of an hour's conditions: what is accepted is claimed to be just these, so no two heads hold the same zone.
+-- Specification, Head; Conditions.
 use Rattle.std.specs.Prelude.{ℕ, ◌-◌, List, [], ◌∷◌, ◌++◌, take}
 use Rattle.zone.specs.Format.Bytes.{bytes_of}
 use Rattle.zone.specs.Format.ElementLayout.{h_count}

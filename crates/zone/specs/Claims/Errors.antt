@@ -1,4 +1,5 @@
 -- Number and index name one refusal.
+-- Specification, What a refusal is.
 use Rattle.std.specs.Prelude.{◌≡◌}
 use Rattle.zone.specs.declared.record.refusal.Refusal.{Refusal}
 use Rattle.zone.specs.Answers.{number_of, index_of}

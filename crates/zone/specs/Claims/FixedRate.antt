@@ -23,14 +23,14 @@ pub record FixedHour (z : Zone) (s : State) (bs : List ℕ) : Type 0 where
   pub fixed : is_fixed bs ≡ true
 
 module _ (c : Coefficients) (z : Zone) (s : State) (bs : List ℕ) where
-  -- every call of an hour with it is refused under 8, in its place: whatever else the hour says, whatever an update or an hour step is given beside it
+  -- demand, update and, by any version that hours have, hour step refuse such an hour with 8, whatever else it says and whatever is given beside it
   pub record CallsRefuse : Type 0 where
     pub demands : demand Retired c z s bs ≡ refused conditions_code 0
     pub updates : (gains fraction ach : Float) → update_temperatures c z s bs gains fraction ach ≡ refused conditions_code 0
     pub hour_steps : (version : ℕ) (l : Limits) → 1 ≤ version → version ≤ 3 → hour_step Retired c z version l s bs ≡ refused conditions_code 0
 
-  -- Any other hour is the same to a call and where it is judged, refusals included. So that the reasons refuse what the demand refuses is said
-  -- of the call's demand for all of these.
+  -- Any other hour is the same to a call and where it is judged, refusals included. So the reasons refuse each of these just as the call's
+  -- demand refuses it.
   pub record OtherHours : Type 0 where
     pub tests : tested Retired z s bs ≡ tested StillTaken z s bs
     pub demands : demand Retired c z s bs ≡ demand StillTaken c z s bs
@@ -38,9 +38,9 @@ module _ (c : Coefficients) (z : Zone) (s : State) (bs : List ℕ) where
     pub why_refuses : (number index : ℕ) → (why c z s bs ≡ refused number index) ↔ (demand Retired c z s bs ≡ refused number index)
 
 pub record RetiredClaims (z : Zone) (bs : List ℕ) : Type 0 where
-  -- refused under 8, in its place: of the size that a zone's conditions have, whatever its values are
+  -- it is refused with 8 where it has the size that a zone's conditions have, whatever its values are
   pub in_its_place : z.count ≤ 24 → length bs ≡ conditions_length z.count → is_fixed bs ≡ true → conditions_of Retired z bs ≡ refused conditions_code 0
-  -- any other hour is taken or refused as before
+  -- any other hour is taken or refused alike
   pub others : is_fixed bs ≡ false → conditions_of Retired z bs ≡ conditions_of StillTaken z bs
   -- and what is taken by a call is taken where it is judged
   pub still : (h : Conditions) → conditions_of Retired z bs ≡ ok h → conditions_of StillTaken z bs ≡ ok h
@@ -53,8 +53,8 @@ abbrev pub HourStill : Coefficients → Zone → Type 0
 HourStill c z = (version : ℕ) (l : Limits) (s : State) (bytes : List ℕ) (r : HourResult)
     → hour_step Retired c z version l s bytes ≡ ok r → hour_step StillTaken c z version l s bytes ≡ ok r
 
--- every demand, temperature and chosen rate must be the same bits as before: with its rate twice an hour that is judged true is the same hour, and a call
--- takes it. (Of any other hour nothing is rewritten.)
+-- An hour with the fixed rate that is judged true is, with code 1 and its rate twice, the same hour to the bit, and a call takes it: demand, state and heat
+-- balance. (No other hour is rewritten.)
 abbrev pub SameHour : Coefficients → Zone → Type 0
 SameHour c z = (version : ℕ) (l : Limits) (s : State) (bytes : List ℕ) (r : HourResult) → is_fixed bytes ≡ true
     → hour_step StillTaken c z version l s bytes ≡ ok r → hour_step Retired c z version l s (rate_twice bytes) ≡ ok r

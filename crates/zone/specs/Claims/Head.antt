@@ -17,7 +17,7 @@ use Rattle.zone.specs.declared.record.zone_record.Zone.{Zone}
 use Rattle.zone.specs.declared.format.conditions.Conditions.{Conditions}
 use Rattle.zone.specs.declared.format.conditions.FixedRate.{FixedRate}
 
--- an index for 4, 5, 9 (element from 1, 0 if none): of a refused head 0, or that of an element which its count byte counts, once basis and count are right
+-- the index of a refused head: 0; or, with 4 or 5 and once basis and count are right, an element's, from 1 to its count
 pub data OfHead (bs : List ℕ) : (number index : ℕ) → Type 0 where
   no_element : {number : ℕ} → OfHead bs number 0
   element : {number index : ℕ} → structure ≤ number → basis_in bs ≤ 1 → count_in bs ≤ 24 → 1 ≤ index → index ≤ count_in bs → OfHead bs number index
@@ -25,7 +25,7 @@ pub data OfHead (bs : List ℕ) : (number index : ℕ) → Type 0 where
 -- an accepted head
 pub record AcceptedHead (bs : List ℕ) (h : ReadHead Zone) : Type 0 where
   pub within : h.length ≤ length bs
-  -- Length 53 + 171 per five-node element, 123 + 8t per Transparent.
+  -- 4 bytes of length field, 53 up to the elements, 171 of each with five nodes, 123 + 8t of a Transparent with t treatments
   pub size : h.length ≡ head_length h.zone
   pub tested : zone_test h.zone ≡ ok tt
   -- it is read from its own bytes, whatever follows them
@@ -38,9 +38,9 @@ pub record AcceptedHead (bs : List ℕ) (h : ReadHead Zone) : Type 0 where
 
 pub record HeadClaims : Type 0 where
   pub accepted : (bs : List ℕ) (h : ReadHead Zone) → head_of bs ≡ ok h → AcceptedHead bs h
-  -- Bytes after the length are not the head's: accepted or refused, with number and index
+  -- bytes behind the length are not the head's: without them it is accepted or refused alike, with number and index
   pub alike : (a b : List ℕ) (n : ℕ) → n ≡ length_size + length_field a → n ≤ length a → n ≤ length b → take n a ≡ take n b → head_of a ≡ head_of b
-  -- A zone given as a record is tested first, as its head would be: once its structure is right, a head is judged as its zone is
+  -- once its structure is right, a head is judged as its zone is, given as a record
   pub as_record : (bs : List ℕ) (n : ℕ) → structure_of bs ≡ ok n
       → head_of bs ≡ bind (zone_test (zone_at bs)) λ _. ok (record { zone = zone_at bs; length = n })
   -- each zone that passes has a head that is read as it: none is turned away

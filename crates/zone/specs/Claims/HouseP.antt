@@ -69,7 +69,7 @@ hour heat cool = hour_by 1 heat cool
 abbrev pub hour_of_p : List ℕ
 hour_of_p = hour (decimal 20 0) (decimal 24 0)
 
--- the same as it was written before, with the fixed rate 0
+-- the same hour with code 0, the fixed rate, 0
 abbrev pub old_hour_of_p : List ℕ
 old_hour_of_p = hour_by 0 (decimal 20 0) (decimal 24 0)
 
@@ -207,7 +207,7 @@ pub record HousePClaims : Type 0 where
   -- a delivered 0 is beyond no limit, nor beyond a limit of 0
   pub hour_3 : hour_step Retired standard_coefficients house_p 3 (plant zero64 zero64) twenty hour_of_p ≡ ok (record { demand = no_demand; state = twenty; balance = balance })
   pub hour_heated : hour_step Retired standard_coefficients house_p 3 (plant (decimal 144 0) zero64) twenty (hour (decimal 21 0) (decimal 24 0)) ≡ ok heated
-  -- a call refuses the old hour, under 8; where it is written already it is judged as before; and with its rate twice it is the hour
+  -- a call refuses the hour with the fixed rate, with 8; where it is written already it is judged by its hour step; with its rate twice it is the hour
   pub old_refused : demand Retired standard_coefficients house_p twenty old_hour_of_p ≡ refused conditions_code 0
   pub old_hour : (l : Limits) → hour_step StillTaken standard_coefficients house_p 1 l twenty old_hour_of_p ≡ ok (record { demand = no_demand; state = twenty; balance = balance })
   pub old_twice : rate_twice old_hour_of_p ≡ hour_of_p
@@ -272,19 +272,19 @@ table =
     ∷ demand_is (decimal 144 3) zero64 (asked house_p (decimal 21 0) (decimal 24 0))
     ∷ demand_is zero64 (neg (decimal 144 3)) (asked house_p (decimal 15 0) (decimal 19 0))
     ∷ refused_with 10 (asked house_p (decimal 22 0) (decimal 21 0))
-    -- of the 144 W that are asked for a plant of 72 W gives half, and the temperatures go half the way; the demand is uncut
+    -- of the 144 W that are asked for, a plant of 72 W gives half, and the temperatures go half the way; the demand is uncut
     ∷ ends_at (decimal 144 3) zero64 (decimal 2015625 5) (decimal 203125 4) (decimal 205 1) (limited_hour (plant (decimal 72 0) zero64) (decimal 21 0) (decimal 24 0))
     ∷ ends_at zero64 (neg (decimal 144 3)) (decimal 1984375 5) (decimal 196875 4) (decimal 195 1) (limited_hour (plant zero64 (decimal 72 0)) (decimal 15 0) (decimal 19 0))
     -- 144 W is not strictly beyond 144 W
     ∷ ends_at (decimal 144 3) zero64 (decimal 203125 4) (decimal 20625 3) (decimal 21 0) (limited_hour (plant (decimal 144 0) zero64) (decimal 21 0) (decimal 24 0))
-    -- the ends of the limits' range: 0 of either sign and 1e7; behind it the next number, the greatest below 0, and a NaN
+    -- the ends of the limits' range: 0 of either sign and 1e7; beyond them the next number, the greatest below 0, and a NaN
     ∷ (power_limits_range (plant zero64 (neg zero64)) && power_limits_range (plant (decimal 10000000 0) (decimal 10000000 0)))
     ∷ refused_with 19 (limited_hour (plant (of_bits binary64 4711630319722168321) zero64) (decimal 22 0) (decimal 21 0))
     ∷ refused_with 19 (limited_hour (plant zero64 (of_bits binary64 9223372036854775809)) (decimal 22 0) (decimal 21 0))
     ∷ refused_with 19 (limited_hour (plant nan zero64) (decimal 22 0) (decimal 21 0))
     ∷ refused_with 12 (asked singular (decimal 20 0) (decimal 24 0))
     ∷ refused_with 12 (updated singular)
-    -- 14 comes before the setpoint equality: a setpoint of 20.00000000005 is close to the free 20, and the load changes it by 2.3e-13
+    -- 14 is tested before the closeness of setpoint and free temperature: 20.00000000005 is close to the free 20, and the load changes that by 2.3e-13
     ∷ refused_with 14 (asked tiny (decimal 2000000000005 11) (decimal 24 0))
     -- two reciprocals, also with no treatment; and of two treatments the one that is closed
     ∷ same (h_pli_transparent (decimal 49 0) (replicate 4 zero64) 0 0) (of_bits binary64 0x4048_8000_0000_0001)

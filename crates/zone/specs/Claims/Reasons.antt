@@ -107,7 +107,7 @@ module _ (c : Coefficients) (z : Zone) (t : List Float) (h : Conditions) where
   pub data DemandReason : (number index : ℕ) → Type 0 where
     -- the cooling setpoint is below the heating setpoint
     by_cooling_below_heating : lt h.temp_setpnt_cool h.temp_setpnt_heat ≡ true → DemandReason cooling_below_heating 0
-    -- the ventilation setpoint is
+    -- the ventilation setpoint is below the heating setpoint
     by_ventilation_below_heating : lt h.temp_setpnt_cool h.temp_setpnt_heat ≡ false
         → lt h.temp_setpnt_cool_vent h.temp_setpnt_heat ≡ true → DemandReason ventilation_below_heating 0
     -- 12, 13

@@ -18,19 +18,19 @@ pub data OperativeRefusal : (number index : ℕ) → Type 0 where
   operative_zone : {number index : ℕ} → ZoneRefusal number index → OperativeRefusal number index
   operative_state_invalid : OperativeRefusal state_invalid 0
 
--- Demand and hour step
+-- the demand's
 pub data DemandRefusal : (number index : ℕ) → Type 0 where
   -- the zone's 4, 5
   demand_zone : {number index : ℕ} → ZoneRefusal number index → DemandRefusal number index
-  -- state of wrong node count or with a value not finite or beyond ±1e6
+  -- a state of a wrong node count, or with a temperature not within ±1e6
   demand_state_invalid : DemandRefusal state_invalid 0
   -- 7, 8, 9
   demand_conditions : {number index : ℕ} → ConditionsRefusal number index → DemandRefusal number index
   -- cooling below heating setpoint
   demand_cooling_below_heating : DemandRefusal cooling_below_heating 0
-  -- ventilation below heating
+  -- ventilation below heating setpoint
   demand_ventilation_below_heating : DemandRefusal ventilation_below_heating 0
-  -- then per solve: 12, 13
+  -- of each of its solves 12, 13
   demand_solve : {number index : ℕ} → SolveRefusal number index → DemandRefusal number index
   -- last, loaded and free temperature differ by something close to 0
   demand_no_effect : DemandRefusal no_effect 0
@@ -40,12 +40,12 @@ pub data KnownHourRefusal : (number index : ℕ) → Type 0 where
   hour_demand : {number index : ℕ} → DemandRefusal number index → KnownHourRefusal number index
   hour_limit_value : KnownHourRefusal limit_value 0
 
--- the hour step has 18 besides: an unknown one is 18, index 0
+-- an hour step's: these, and 18, index 0, of a version that no hour has
 pub data HourRefusal : (number index : ℕ) → Type 0 where
   hour_known : {number index : ℕ} → KnownHourRefusal number index → HourRefusal number index
   hour_false_entry : HourRefusal false_entry 0
 
--- Update: 6 to 9, its own gains, fraction and rate tested in 9 after the conditions, index 0, then 12, 13.
+-- an update's: the zone's 4, 5; 6 to 9; behind the conditions' 9 that of its own gains, fraction and rate, index 0; then 12, 13
 pub data UpdateRefusal : (number index : ℕ) → Type 0 where
   update_zone : {number index : ℕ} → ZoneRefusal number index → UpdateRefusal number index
   update_state_invalid : UpdateRefusal state_invalid 0
@@ -53,7 +53,7 @@ pub data UpdateRefusal : (number index : ℕ) → Type 0 where
   update_conditions_value : UpdateRefusal conditions_value 0
   update_solve : {number index : ℕ} → SolveRefusal number index → UpdateRefusal number index
 
--- Start-up: 11, 12, 13, 14 from its solves; 15 when the limit passes without settling. Not 10: its two setpoints are one.
+-- start-up's: the zone's 4, 5; 11 to 14 of its passes; 15 where none of the passes that the limit allows settled. Not 10: its two setpoints are one
 pub data StartUpRefusal : (number index : ℕ) → Type 0 where
   start_up_zone : {number index : ℕ} → ZoneRefusal number index → StartUpRefusal number index
   start_up_ventilation_below_heating : StartUpRefusal ventilation_below_heating 0
@@ -61,7 +61,7 @@ pub data StartUpRefusal : (number index : ℕ) → Type 0 where
   start_up_no_effect : StartUpRefusal no_effect 0
   start_up_not_settled : StartUpRefusal not_settled 0
 
--- an index for 4, 5, 9 (element from 1, 0 if none): an element of this zone
+-- an index is that of an element of this zone, from 1 to its count, or 0
 abbrev pub OfZone : Zone → (number index : ℕ) → Type 0
 OfZone z number index = index ≤ z.count
 

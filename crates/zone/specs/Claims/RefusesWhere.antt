@@ -1,4 +1,5 @@
 -- What a result is refused with, both ways.
+-- Specification, Of every value.
 use Rattle.std.specs.Prelude.{ℕ, ◌≡◌}
 use Rattle.solver.specs.Result.{Result, refused}
 use Rattle.solver.specs.Refusals.{RefusesOnly}

@@ -1,5 +1,6 @@
 -- What is written is read back: each zone that passes its test has a head that is read as it, and each hour in range has conditions that are read as it. So a
 -- reader turns away no zone and no hour that the tests let pass.
+-- Specification, Head; Conditions; A zone as a record.
 use Rattle.std.specs.Prelude.{ℕ, ◌+◌, ◌-◌, ◌<◌, ◌≡◌, Bool, true, false, List, [], ◌∷◌, ◌++◌, map, length, take, replicate, All, T, Float}
 use Rattle.std.specs.Float.{binary64}
 use Rattle.std.specs.Float.Ieee.{fits}

@@ -1,4 +1,4 @@
--- node temperatures are a state by value, handed back by each call: a state that is handed back passes the next call's 6.
+-- Node temperatures are a state, which each call takes by value and hands back: a state that is handed back passes the next call's 4 to 6.
 -- Specification, What a refusal is; Of every call.
 use Rattle.std.specs.Prelude.{ℕ, ◌≡◌, List, Float}
 use Rattle.solver.specs.Result.{Result, ok, refused}
@@ -25,7 +25,7 @@ module _ (c : Coefficients) (z : Zone) where
   abbrev pub StartUpStateTested : Type 0
   StartUpStateTested = (s : State) → init_node_temps c z ≡ ok s → zone_and_state_test z s ≡ ok tt
 
--- hands back unchanged the temperatures: a demand changes no state, a refused update or hour step neither
+-- a demand hands back the state that it was given, and so does a refused update or hour step
 pub record StateKept : Type 0 where
   pub demands : (s : State) (x : Result Demand) → (demand_reply s x).1 ≡ s
   pub updates : (s : State) (x : Result (State × HeatBalance)) (n i : ℕ) → (update_reply s x).0 ≡ refused n i → (update_reply s x).1 ≡ s

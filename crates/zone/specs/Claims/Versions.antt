@@ -18,11 +18,11 @@ use Rattle.zone.specs.Hour.Demand.{gains_heat_cool, share_or_zero, space_heat_co
 use Rattle.zone.specs.Calls.State.{slots_of}
 use Rattle.zone.specs.Calls.Hour.{power_limits_range, tested, step, demand, delivered, HourResult, hour_step}
 
--- version 1: delivered × the heating fraction
+-- version 1 has the heating fraction for all power
 abbrev pub heating_fraction : Conditions → (w : Float) → Float
 heating_fraction h w = h.frac_convective_heat
 
--- from version 2 on delivered power below 0 uses the cooling fraction, any other the heating fraction
+-- from version 2 on delivered power below 0 has the cooling fraction, any other the heating fraction
 abbrev pub fraction_by_sign : Conditions → (w : Float) → Float
 fraction_by_sign h w = cond (lt w zero64) h.frac_convective_cool h.frac_convective_heat
 
@@ -30,7 +30,7 @@ fraction_by_sign h w = cond (lt w zero64) h.frac_convective_cool h.frac_convecti
 abbrev pub unlimited : (w : Float) → Float
 unlimited w = w
 
--- Delivered power strictly beyond them becomes the limit, for cooling its negation
+-- a delivered power strictly beyond a limit becomes the limit, one of cooling with a minus
 abbrev pub at_most : Limits → (w : Float) → Float
 at_most l w = cond (lt l.heating w) l.heating (cond (lt w (neg l.cooling)) (neg l.cooling) w)
 
@@ -55,13 +55,13 @@ module _ (fixed : FixedRate) (c : Coefficients) (z : Zone) (s : State) (bytes : 
   pub record VersionClaims : Type 0 where
     -- version 1's hour has the heating fraction for all power, whatever limits are handed in
     pub version_1 : (l : Limits) → hour_step fixed c z 1 l s bytes ≡ hour_step_with unlimited heating_fraction
-    -- From entry version 2 on, delivered power below 0 uses the cooling fraction
+    -- version 2's hour has the cooling fraction for delivered power below 0, whatever limits are handed in
     pub version_2 : (l : Limits) → hour_step fixed c z 2 l s bytes ≡ hour_step_with unlimited fraction_by_sign
-    -- version 3 has limits, and the shares of version 2, of the power after the limits
+    -- version 3 has limits, and the fractions of version 2, by the power after the limits
     pub version_3 : (l : Limits) → power_limits_range l ≡ true → hour_step fixed c z 3 l s bytes ≡ hour_step_with (at_most l) fraction_by_sign
-    -- 19, a limit out of range, after 9
+    -- a limit out of range is 19, behind 9
     pub out_of_range : (l : Limits) → power_limits_range l ≡ false → hour_step fixed c z 3 l s bytes ≡ bind (tested fixed z s bytes) (λ _. refused limit_value 0)
-    -- an unknown one is 18, index 0, before 6: after the zone's 4, 5, whatever limits, state and conditions
+    -- a version that no hour has is 18, index 0, behind the zone's 4, 5 and before 6, whatever limits, state and conditions
     pub unknown : (version : ℕ) (l : Limits) → version ≢ 1 → version ≢ 2 → version ≢ 3 → hour_step fixed c z version l s bytes ≡ bind (zone_test z) (λ _. refused false_entry 0)
     -- Where an hour has no delivered power below 0, versions 1 and 2 are one, refusals included.
     pub not_cooled : (l : Limits) → ((h : Conditions) (d : Demand) → tested fixed z s bytes ≡ ok h → demand fixed c z s bytes ≡ ok d → lt (delivered h d) zero64 ≡ false)
@@ -70,5 +70,5 @@ module _ (fixed : FixedRate) (c : Coefficients) (z : Zone) (s : State) (bytes : 
     pub within_limits : (l : Limits) → power_limits_range l ≡ true
         → ((h : Conditions) (d : Demand) → tested fixed z s bytes ≡ ok h → demand fixed c z s bytes ≡ ok d → Within l (delivered h d))
         → hour_step fixed c z 3 l s bytes ≡ hour_step fixed c z 2 l s bytes
-    -- demand is reported uncut: the demand of an hour knows neither its version nor its limits.
+    -- The demand is reported uncut: that of an hour knows neither its version nor its limits.
     pub same_demand : (version : ℕ) (l : Limits) (r : HourResult) → hour_step fixed c z version l s bytes ≡ ok r → demand fixed c z s bytes ≡ ok r.demand

@@ -95,7 +95,7 @@ module _ (c : Coefficients) (z : Zone) where
   abbrev pub WhyAnswers : Type 0
   WhyAnswers = (s : State) (bytes : List ℕ) (reason : Reason) (load : Load) → why c z s bytes ≡ ok (reason, load) → WhyTold s bytes reason load
 
-  -- An hour that the demand refuses gets that refusal, and no other hour is refused. The demand is the one that still takes code 0, as before; for any
+  -- An hour that the demand refuses gets that refusal, and no other hour is refused. The demand is the one that still takes code 0; for any
   -- other hour it is the call's (OtherHours of FixedRate.antt)
   abbrev pub WhyRefuses : Type 0
   WhyRefuses = (s : State) (bytes : List ℕ) (number index : ℕ) → (why c z s bytes ≡ refused number index) ↔ (demand StillTaken c z s bytes ≡ refused number index)

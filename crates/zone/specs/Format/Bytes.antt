@@ -1,4 +1,5 @@
 -- Numbers and floats as bytes, the highest byte first.
+-- Specification, Bytes; Zeros and NaN.
 use Rattle.std.specs.Prelude.{ℕ, suc, zero, ◌+◌, ◌*◌, ◌/◌, ◌%◌, ◌<◌, List, [], ◌∷◌, ◌++◌, take, drop, get_or, Float}
 use Rattle.std.specs.Float.{binary64}
 use Rattle.std.specs.Float.Ieee.{of_bits}
@@ -23,7 +24,7 @@ num_at bs at count = big_endian (take count (drop at bs))
 abbrev pub float_size : ℕ
 float_size = 8
 
--- the float whose 64-bit pattern is the eight bytes from at on; each NaN's pattern is `nan`
+-- the float whose 64-bit pattern is the eight bytes from at on; each pattern of a NaN gives `nan`
 abbrev pub float_at : List ℕ → (at : ℕ) → Float
 float_at bs at = of_bits binary64 (num_at bs at float_size)
 

@@ -16,7 +16,7 @@ use Rattle.zone.specs.declared.format.conditions.Conditions.{Conditions}
 use Rattle.zone.specs.declared.format.conditions.FixedRate.{FixedRate}
 use Rattle.zone.specs.declared.format.conditions.FixedRate.TheVariants.{Retired, StillTaken}
 
--- the rates in the 17 bytes from at on: code 0 fixed, 1 target and open
+-- the rates in the 17 bytes from at on: code 0 fixed, 1 target and open (any other would be read as 1, but is refused first)
 abbrev pub ach_args_at : List ℕ → (at : ℕ) → AirChangesPerHourArgument
 ach_args_at bs at = cond (eqb (get_or bs at 0) 0) (Cooling (float_at bs (at + 1))) (TargetAndWindowsOpen (float_at bs (at + 1)) (float_at bs (at + 9)))
 
@@ -46,17 +46,17 @@ conditions_at bs n =
       elements = element_hours_at bs first_element_hour n ++ replicate (24 - n) no_element_hour;
     }
 
--- code 0: entries with it that are already written are still taken up, and reasons are told of it; every other call refuses it under 8, in this place. Where it
--- is taken its second float has all zero bits
+-- code 0, the fixed rate: entries that are written with it are still taken up, and its reasons are told; every other call refuses it here, with 8. Where it
+-- is taken, its second float has 8 zero bytes
 abbrev pub fixed_rate_valid : FixedRate → List ℕ → Bool
 fixed_rate_valid Retired bs = false
 fixed_rate_valid StillTaken bs = eqb (num_at bs second_rate float_size) 0
 
--- code 0, where it is good, or code 1
+-- code 1, or code 0 where it is taken
 abbrev pub rate_code_valid : FixedRate → List ℕ → Bool
 rate_code_valid fixed bs = cond (eqb (get_or bs rate_code 0) 0) (fixed_rate_valid fixed bs) (eqb (get_or bs rate_code 0) 1)
 
--- no open bit past the treatments, for the elements whose parts begin at p
+-- no open bit past the treatments, of the elements whose parts begin at p
 unfoldable pub open_bits_valid : List ℕ → (treatments : List ℕ) → (p : ℕ) → Bool
 open_bits_valid bs [] p = true
 open_bits_valid bs (t ∷ ts) p = open_within t (get_or bs (p + open_byte) 0) && open_bits_valid bs ts (p + element_hour_size)

@@ -1,4 +1,5 @@
 -- The values that stand in a head's bytes.
+-- Specification, Head; A zone as a record.
 use Rattle.std.specs.Prelude.{ℕ, suc, zero, ◌+◌, ◌*◌, ◌-◌, cond, List, [], ◌∷◌, ◌++◌, get_or, replicate, eqb, Float}
 use Rattle.solver.specs.F64.{zero64}
 use Rattle.zone.specs.Format.Bytes.{num_at, float_at, float_size}
@@ -12,7 +13,7 @@ use Rattle.zone.specs.declared.record.zone_record.Zone.{Zone}
 use Rattle.zone.specs.declared.record.zone_record.ZoneTemperatureControlBasis.{ZoneTemperatureControlBasis}
 use Rattle.zone.specs.declared.record.zone_record.ZoneTemperatureControlBasis.TheVariants.{Air, Operative}
 
--- so many floats in a row
+-- `count` floats one behind the other, from at on
 unfoldable pub floats_at : List ℕ → (at count : ℕ) → List Float
 floats_at bs at zero = []
 floats_at bs at (suc n) = float_at bs at ∷ floats_at bs (at + float_size) n
@@ -27,7 +28,7 @@ element_hour_at bs at =
     let f : ℕ → Float = λ i. float_at bs (at + float_size * i) in
     record { temp_ext = float_at bs at; i_sol_dir = f 1; i_sol_dif = f 2; f_sh_dir = f 3; f_sh_dif = f 4; treatments_open = get_or bs (at + open_byte) 0 }
 
--- the hour's part of no element: what no bytes are read as
+-- the hour's part in a place past the count: what no bytes are read as, all zeros
 unfoldable pub no_element_hour : ElementHour
 no_element_hour = element_hour_at [] 0
 
@@ -59,11 +60,11 @@ unfoldable pub elements_at : List ℕ → (p count : ℕ) → List Element
 elements_at bs p zero = []
 elements_at bs p (suc n) = element_at bs p ∷ elements_at bs (p + size_at bs p) n
 
--- what stands in a place of no element: what no bytes are read as
+-- the element in a place past the count: what no bytes are read as, an Opaque of zeros with no treatment
 unfoldable pub no_element : Element
 no_element = element_at [] 0
 
--- 0 air, 1 operative
+-- 0 air, 1 operative (as any other, which is refused with 4)
 abbrev pub basis_of : ℕ → ZoneTemperatureControlBasis
 basis_of b = cond (eqb b 0) Air Operative
 

@@ -8,7 +8,7 @@ use Rattle.zone.specs.declared.record.building_element.Element.{Element}
 use Rattle.zone.specs.declared.record.building_element.Kind.{Kind}
 use Rattle.zone.specs.declared.record.building_element.Kind.TheVariants.{Opaque, AdjacentConditionedSpace, AdjacentUnconditionedSpaceSimple, Ground, Transparent, PartyWall}
 
--- kinds 0 to 5 in the original's enum order
+-- kinds 0 to 5, in the order of the original's enum; a number above 5, which is refused with 4, as 5
 unfoldable pub kind_of : ℕ → Kind
 kind_of k =
     cond (eqb k 0) Opaque
@@ -25,11 +25,11 @@ max_treatments k = cond (is_two_nodes k) 4 0
 abbrev pub treatments_valid : Kind → (treatments : ℕ) → Bool
 treatments_valid k t = leb t (max_treatments k)
 
--- 171 per five-node element, 123 + 8t per Transparent
+-- an element's bytes in a head: 171 of one with five nodes, 123 + 8t of a Transparent with t treatments
 abbrev pub element_size : Kind → (treatments : ℕ) → ℕ
 element_size k t = cond (is_two_nodes k) (transparent_size + float_size * t) five_nodes_size
 
--- of elements one after the other
+-- the bytes of elements, one behind the other
 unfoldable pub sizes : List Element → ℕ
 sizes [] = 0
 sizes (e ∷ es) = element_size e.kind e.treatments + sizes es

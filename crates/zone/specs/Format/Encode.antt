@@ -1,5 +1,5 @@
 -- Floats and kinds as they stand in bytes.
--- Specification, Kinds and nodes.
+-- Specification, Bytes; Kinds and nodes.
 use Rattle.std.specs.Prelude.{ℕ, List, [], ◌∷◌, ◌++◌, Float}
 use Rattle.std.specs.Float.{binary64}
 use Rattle.std.specs.Float.Ieee.{to_bits}
@@ -15,7 +15,7 @@ unfoldable pub row_bytes : List Float → List ℕ
 row_bytes [] = []
 row_bytes (x ∷ xs) = float_bytes x ++ row_bytes xs
 
--- kind 0 to 5 in the original's enum order
+-- a kind's number, 0 to 5, in the order of the original's enum
 abbrev pub kind_number : Kind → ℕ
 kind_number Opaque = 0
 kind_number AdjacentConditionedSpace = 1

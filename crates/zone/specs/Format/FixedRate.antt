@@ -8,7 +8,7 @@ use Rattle.zone.specs.Format.Layout.{rate_code, first_rate, first_element_hour}
 abbrev pub is_fixed : List ℕ → Bool
 is_fixed bs = eqb (get_or bs rate_code 0) 0
 
--- code 0 becoming code 1 with the rate twice
+-- the bytes of the rate; and the hour's bytes with code 1 and the rate twice
 abbrev pub rate_bytes : List ℕ → List ℕ
 rate_bytes bs = take float_size (drop first_rate bs)
 

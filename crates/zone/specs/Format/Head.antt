@@ -9,7 +9,7 @@ use Rattle.zone.specs.Format.Decode.{zone_at}
 use Rattle.zone.specs.Check.ZoneTest.{count_valid, values_test}
 use Rattle.zone.specs.declared.record.zone_record.Zone.{Zone}
 
--- where the elements end: from place p so many are left, of which the first has index i + 1. The head ends at `end`
+-- where the elements end, of which `left` are left from place p on, the first of these with index i + 1; the head ends at `end`
 unfoldable pub elements_end : List ℕ → (end left i p : ℕ) → Result ℕ
 elements_end bs end zero i p = ok p
 elements_end bs end (suc left) i p =
@@ -31,7 +31,7 @@ structure_of bs =
     bind (require (eqb p end) head_length) λ _.
     ok end
 
--- what is read of a head: its zone and its length
+-- what is read of a head: its zone, and how many bytes it has, the 4 of its length field included
 pub record ReadHead (Z : Type 0) : Type 0 where
   pub zone : Z
   pub length : ℕ

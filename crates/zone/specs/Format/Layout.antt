@@ -3,7 +3,7 @@
 use Rattle.std.specs.Prelude.{ℕ, ◌+◌, ◌*◌, ◌-◌, List, get_or}
 use Rattle.zone.specs.Format.Bytes.{num_at, float_size}
 
--- Each record: 4-byte length of what follows, then version byte: of a head 1
+-- a head, as an entry, begins with 4 bytes, the length of what follows, and a version byte, which is 1 in a head
 abbrev pub length_size : ℕ
 length_size = 4
 
@@ -13,7 +13,7 @@ version_of_head = 1
 abbrev pub version_at : ℕ
 version_at = length_size
 
--- Head: basis, element count n, 2-byte start-up limit, six floats; then the elements
+-- behind them a head has basis, element count, 2 bytes of start-up limit, six floats, and the elements
 abbrev pub basis_at : ℕ
 basis_at = version_at + 1
 
@@ -44,7 +44,7 @@ basis_in bs = get_or bs basis_at 0
 abbrev pub count_in : List ℕ → ℕ
 count_in bs = get_or bs count_at 0
 
--- of an element: kind, treatment count, seven floats; then k_pli, h_pli, `delta_r` and the first hour's element part
+-- an element has kind, treatment count, seven floats, then k_pli, h_pli, `delta_r` and the first hour's element part
 abbrev pub element_floats : ℕ
 element_floats = 2
 

@@ -12,6 +12,6 @@ power_limits_size = float_size * 2
 abbrev pub limits_bytes : Limits → List ℕ
 limits_bytes l = row_bytes (l.heating ∷ l.cooling ∷ [])
 
--- the limits in the first bytes; 0 twice where there are too few: of an hour without limits, which nobody looks at
+-- the limits in the first bytes; where there are too few, as of an hour without limits, +0.0 twice, which nothing uses
 unfoldable pub limits_in : List ℕ → Limits
 limits_in bytes = cond (leb power_limits_size (length bytes)) (record { heating = float_at bytes 0; cooling = float_at bytes float_size }) (record { heating = zero64; cooling = zero64 })

@@ -1,4 +1,5 @@
 -- `space_heat_cool_demand`: BS EN ISO 52016-1, 6.5.5.2, steps 1 to 4. Each operation rounds once, in the order written.
+-- Specification, Control temperature; Setpoints; Gains that are there already; Free temperature; Windows; Load; Interpolation; What a demand answers.
 use Rattle.std.specs.Prelude.{None, Option, Some}
 use Rattle.std.specs.Prelude.{cond, not, ◌&&◌, List, Float}
 use Rattle.std.specs.Float.Ieee.{lt, ne, neg}
@@ -29,14 +30,14 @@ temperature_by Operative z t = temp_operative z t
 unfoldable pub control_temperature : Zone → List Float → Float
 control_temperature z t = temperature_by z.temp_setpnt_basis z t
 
--- the rate without windows
+-- the rate without windows: the target, or the fixed rate
 abbrev pub ach_target : AirChangesPerHourArgument → Float
 ach_target (Cooling ach) = ach
 ach_target (TargetAndWindowsOpen target windows) = target
 
 -- ---- the hour's numbers
 
--- the timestep in seconds
+-- the length of the step in seconds
 abbrev pub delta_t : Conditions → Float
 delta_t h = h.delta_t_h *ᶠ decimal 3600 0
 
@@ -67,7 +68,7 @@ wanted useful_area h temp_free =
     (Some (record { setpoint = h.temp_setpnt_heat; load = decimal 10 0 *ᶠ useful_area; fraction = h.frac_convective_heat }))
     None)
 
--- gains with the load, and their convective fraction
+-- the gains with the load, and their convective fraction
 abbrev pub gains_upper : Conditions → (load : Float) → Float
 gains_upper h load = gains_heat_cool h +ᶠ load
 
@@ -90,7 +91,7 @@ demand_record kwh v =
       ach_to_trigger_heating = v.ach_to_trigger_heating;
     }
 
--- ---- the whole. c: the standards' numbers; z: the zone; t: the node temperatures before the hour; h: the hour's conditions
+-- ---- the whole. c: the standard coefficients; z: the zone; t: the node temperatures before the hour; h: the hour's conditions
 module _ (c : Coefficients) (z : Zone) (t : List Float) (h : Conditions) where
   -- node temperatures after the hour, by heating or cooling gains, their convective fraction and the air change rate
   abbrev pub temperatures_with : (gains fraction ach : Float) → Result (List Float)

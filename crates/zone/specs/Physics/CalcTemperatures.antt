@@ -1,4 +1,5 @@
 -- `calc_temperatures`: the temperatures after a time step, in their slots, or 12 or 13.
+-- Specification, What a step is given; Refusals of a solve.
 use Rattle.std.specs.Prelude.{List, Float}
 use Rattle.solver.specs.Result.{Result}
 use Rattle.solver.specs.FastSolver.{solve}

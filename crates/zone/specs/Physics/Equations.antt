@@ -1,4 +1,5 @@
 -- BS EN ISO 52016-1, 6.5.6: (41) outer surface, (40) inside node, (39) inner surface, of one element. Each operation rounds once, in this order.
+-- Specification, Outer surface, equation (41); Inside node, equation (40); Inner surface, equation (39); Window treatments and h_pli.
 use Rattle.std.specs.Prelude.{ℕ, cond, List, [], ◌∷◌, get_or, Float}
 use Rattle.std.specs.Float.{nan}
 use Rattle.std.specs.Float.Ieee.{neg}
@@ -74,7 +75,7 @@ module _ (e : Element) (delta_t : Float) where
       +ᶠ e.solar_absorption_coeff *ᶠ solar_irradiance h
       -ᶠ e.therm_rad_to_sky
 
-  -- of (40); and of (39), to which System's `right_sides_at` adds the gains
+  -- the right side of (40); and that of (39) without the gains, which `right_sides_at` (System.antt) adds
   abbrev pub capacity_term : (k t : Float) → Float
   capacity_term k t = k /ᶠ delta_t *ᶠ t
 

@@ -1,6 +1,6 @@
--- The heat balance of a time step, in W: 7, 4 and 14 values in the original's order, behind the 4 the convective total by direction, from the temperatures
+-- The heat balance of a time step, in W: 7, 4 and 14 values in the original's order, and behind the 4 the convective total by direction; from the temperatures
 -- before (`temp_prev`) and after the step (`vector_x`), in their slots.
--- Specification, Heat balance; Direction of heat flow and h_ci.
+-- Specification, Heat balance; Direction of heat flow and h_ci; Plain sum.
 use Rattle.std.specs.Prelude.{ℕ, zero, suc, Bool, cond, ◌||◌, List, [], ◌∷◌, eqb, Float}
 use Rattle.std.specs.Float.Ieee.{neg}
 use Rattle.solver.specs.F64.{◌+ᶠ◌, ◌-ᶠ◌, ◌*ᶠ◌, ◌/ᶠ◌, one64}
@@ -54,12 +54,12 @@ terms_where counts term (suc n) e =
     let rest = terms_where counts term n (suc e) in
     cond (counts e) (term e ∷ rest) rest
 
--- at the internal boundary: h_ci is that of the temperatures before the step
+-- heat from the air to inner surface e: h_ci is that of the temperatures before the step, the heat has those after it
 abbrev pub convective_loss_at : Coefficients → List Element → (temp_prev vector_x : List Float) → ℕ → Float
 convective_loss_at c es temp_prev vector_x e =
     area_of es e *ᶠ (h_ci_at c es temp_prev e *ᶠ (air vector_x -ᶠ inner_surface vector_x e))
 
--- three sums of the convective total's terms, signs kept, horizontal, upwards and downwards, each added in element order: the
+-- the convective total, and its terms, with their signs, summed by direction, horizontal, upwards and downwards; each sum in element order. The
 -- direction, as h_ci, is that of the temperatures before the step
 abbrev pub internal_boundary :
     Coefficients → Zone → (temp_prev vector_x : List Float) → Conditions → (gains_heat_cool f_hc_c : Float) → HeatBalanceInternalBoundary
@@ -100,7 +100,7 @@ abbrev pub is_kind : (kind k : Kind) → Bool
 is_kind kind k = eqb (kind_number k) (kind_number kind)
 
 module _ (z : Zone) (hour : Conditions) (vector_x : List Float) where
-  -- one of these, of element e
+  -- one of these heats, of element e
   abbrev pub heat_at : (Element → ElementHour → Float → Float) → ℕ → Float
   heat_at heat e = heat (element z.building_elements e) (element_hour hour.elements e) (outer_surface (zone_two_nodes z) vector_x e)
 
@@ -108,7 +108,7 @@ module _ (z : Zone) (hour : Conditions) (vector_x : List Float) where
   abbrev pub terms_of_kind : (counts : Kind → Bool) → (n e : ℕ) → List Float
   terms_of_kind counts n e = terms_where (λ e. counts (element z.building_elements e).kind) (heat_at fabric_ext) n e
 
--- nine sums from 0; a party wall counts with the unconditioned spaces
+-- nine plain sums, four over all elements and five by kind; a party wall counts with the unconditioned spaces
 abbrev pub external_boundary : Zone → Conditions → (vector_x : List Float) → HeatBalanceAirNode → (gains_heat_cool : Float) → HeatBalanceExternalBoundary
 external_boundary z hour vector_x a gains_heat_cool =
     let n = at_most24 z.count in

@@ -7,7 +7,7 @@ use Rattle.solver.specs.Repeat.{repeat}
 use Rattle.solver.specs.Chain.{outer_slot}
 use Rattle.solver.specs.FastSolver.{at_most24}
 
--- the nodes of element e: the slots from its outer to its inner surface
+-- how many nodes element e has: the slots from its outer to its inner surface
 abbrev pub nodes_at : List Bool → ℕ → ℕ
 nodes_at two_nodes e = 5 * e + 5 - outer_slot two_nodes e
 
@@ -16,11 +16,11 @@ unfoldable pub first_node : List Bool → ℕ → ℕ
 first_node two_nodes zero = 0
 first_node two_nodes (suc e) = first_node two_nodes e + nodes_at two_nodes e
 
--- number j of them
+-- entry from + j of a goes to place to + j of b
 abbrev pub move : (from to : ℕ) → List Float → ℕ → List Float → List Float
 move from to a j b = set b (to + j) (get_or a (from + j) nan)
 
--- k numbers of a, from place `from` on, go to b, from place `to` on
+-- k entries of a, from place `from` on, go to b, from place `to` on
 unfoldable pub copy_nodes : (k from to : ℕ) → List Float → List Float → List Float
 copy_nodes k from to a b = repeat 0 k (move from to a) b
 

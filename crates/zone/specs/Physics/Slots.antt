@@ -1,4 +1,5 @@
 -- What stands in slots (solver specs/Chain.antt): the air, surfaces, an element's five; and the zone's elements by their numbers.
+-- Specification, Which coefficients are kept.
 use Rattle.std.specs.Prelude.{ℕ, ◌+◌, ◌*◌, Bool, List, [], ◌∷◌, get_or, set, Float}
 use Rattle.std.specs.Float.{nan}
 use Rattle.solver.specs.Repeat.{repeat}
@@ -21,19 +22,19 @@ abbrev pub element_slots : List Float → ℕ → List Float
 element_slots t e =
     get_or t (5 * e) nan ∷ get_or t (5 * e + 1) nan ∷ get_or t (5 * e + 2) nan ∷ get_or t (5 * e + 3) nan ∷ get_or t (5 * e + 4) nan ∷ []
 
--- number j of five put there
+-- entry j of r goes to place j of the five slots of element e
 abbrev pub set_slot : ℕ → List Float → ℕ → List Float → List Float
 set_slot e r j d = set d (5 * e + j) (get_or r j nan)
 
--- all five
+-- all five entries
 unfoldable pub set_slots : ℕ → List Float → List Float → List Float
 set_slots e r d = repeat 0 5 (set_slot e r) d
 
--- and of each of the first n elements
+-- those of each of the first n elements
 unfoldable pub in_slots : ℕ → (ℕ → List Float) → List Float → List Float
 in_slots n r d = repeat 0 n (λ e. set_slots e (r e)) d
 
--- of the zone's elements and of the hour's
+-- element e of the zone, and its part of the hour
 abbrev pub element : List Element → ℕ → Element
 element es e = get_or es e no_element
 

@@ -1,5 +1,6 @@
 -- The system of one time step, BS EN ISO 52016-1, (38) to (41), from coefficients, zone, the temperatures before the step (in their slots), the hour's
 -- conditions and the step's length in seconds. Each operation rounds once, in this order.
+-- Specification, Constants and capacity; Inner surface, equation (39); Zone, equation (38); Which coefficients are kept; Direction of heat flow and h_ci.
 use Rattle.std.specs.Prelude.{ℕ, Bool, false, List, get_or, set, replicate, Float}
 use Rattle.std.specs.Float.{nan}
 use Rattle.std.specs.Float.Ieee.{neg}
@@ -18,7 +19,7 @@ use Rattle.zone.specs.Record.BuildingElement.{is_two_nodes, heat_flow_direction,
 use Rattle.zone.specs.Physics.Slots.{air, inner_surface, element_slots, element, element_hour, with_terms, in_slots}
 use Rattle.zone.specs.Physics.Equations.{Rows, rows_of, right_sides_of}
 
--- of element e
+-- the area of element e, and whether it has two nodes
 abbrev pub area_of : List Element → ℕ → Float
 area_of es e = (element es e).area
 

@@ -1,4 +1,5 @@
 -- The operative temperature, BS EN ISO 52016-1, 6.5.5.3, from temperatures in their slots.
+-- Specification, Operative temperature.
 use Rattle.std.specs.Prelude.{List, Float}
 use Rattle.solver.specs.F64.{◌+ᶠ◌, ◌*ᶠ◌, ◌/ᶠ◌, decimal}
 use Rattle.solver.specs.Sums.{sum2, terms}

@@ -1,10 +1,11 @@
 -- Ventilation: its heat transfer coefficient, and the air change rate that reaches a temperature, in the original's written order.
+-- Specification, Ventilation coefficient; Rate that reaches a temperature.
 use Rattle.std.specs.Prelude.{cond, ◌||◌, Float}
 use Rattle.std.specs.Float.Ieee.{lt, le, ne}
 use Rattle.solver.specs.F64.{◌+ᶠ◌, ◌-ᶠ◌, ◌*ᶠ◌, ◌/ᶠ◌, one64, decimal}
 use Rattle.zone.specs.declared.record.material_properties.MaterialProperties.{MaterialProperties}
 
--- kg / litre and J / (kg.K)
+-- of air the density in kg / litre and the heat capacity in J / (kg.K)
 unfoldable pub air_properties : MaterialProperties
 air_properties = record { density = decimal 1204 6; specific_heat_capacity = decimal 1006 0 }
 
@@ -28,8 +29,8 @@ raised_to ach ach_min = cond (lt ach ach_min) ach_min ach
 unfoldable pub capped_at : (ach ach_max : Float) → Float
 capped_at ach ach_max = cond (lt ach_max ach) ach_max ach
 
--- Min: solved at the rate ach_min; Max: solved at ach_max; temp_ach: the temperature that is controlled, temp_int_air: the air's. An early answer is
--- neither raised nor capped
+-- What ends in _min is of the calculation at the rate ach_min, in _max of that at ach_max; temp_ach is the control temperature, temp_int_air the air's. An
+-- early answer is neither raised nor capped
 unfoldable pub ach_req_to_reach_temperature : (temp_target ach_min ach_max temp_ach_min temp_ach_max temp_int_air_min temp_int_air_max supply : Float) → Float
 ach_req_to_reach_temperature temp_target ach_min ach_max temp_ach_min temp_ach_max temp_int_air_min temp_int_air_max supply =
     let frac_interp = (temp_target -ᶠ temp_ach_min) /ᶠ (temp_ach_max -ᶠ temp_ach_min) in

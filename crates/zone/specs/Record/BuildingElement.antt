@@ -65,7 +65,7 @@ unfoldable pub add_closed : (bits : ℕ) (r : Float) → List Float → Float
 add_closed bits r [] = r
 add_closed bits r (d ∷ ds) = add_closed (bits / 2) (cond (eqb (bits % 2) 0) (r +ᶠ d) r) ds
 
--- h_pli of a Transparent: 1 / (1 / h + the closed treatments' `delta_r`), also with none
+-- h_pli of a Transparent: 1 / (1 / h + the closed treatments' `delta_r`), by both reciprocals also where none is closed
 unfoldable pub h_pli_transparent : Float → List Float → (treatments bits : ℕ) → Float
 h_pli_transparent h delta_r treatments bits = one64 /ᶠ add_closed bits (one64 /ᶠ h) (take treatments delta_r)
 
