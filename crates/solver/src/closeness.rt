@@ -2,7 +2,7 @@
 ghost use Rattle.std.specs.Prelude.{◌≡◌};
 ghost use Rattle.solver.specs.Closeness.{abs, max, relative_eq, close_in_demand, isclose, close_in_windows_test, valid_divisor, within_state_bound};
 
-// |x|; of either zero it is +0.0. The body is the library's; the function stays by a rule of the project, that what is exported keeps its promise.
+// |x|; of either zero it is +0.0. The body is the library's; the function stays, since what is exported keeps its promise.
 #[tactic(auto, using(crate::proofs::Laws::Signs::without_sign))]
 pub fn abs(x: f64) -> f64
     ensures { result ≡ abs x }
@@ -65,7 +65,7 @@ pub fn valid_divisor(x: f64) -> bool
     (x != 0.0) & x.is_finite()
 }
 
-// Not beyond a million either way, which neither an infinity nor a nan is.
+// Not beyond a million either way, which neither an infinity nor a NaN is.
 pub fn within_state_bound(x: f64) -> bool
     ensures { result ≡ within_state_bound x }
 {

@@ -45,7 +45,7 @@ fn temp_start(z: &Zone) -> f64
     (z.temp_ext_air_init + z.temp_setpnt_init) / 2.0
 }
 
-// Before the first pass.
+// The temperatures before the first pass, in slots.
 #[tactic(auto, unfolding(crate::specs::Calls::State::slots_of))]
 pub fn start_slots(z: &Zone) -> [f64; 121]
     ensures { result ≡ slots_of z.now (start_state z.now) }

@@ -1,5 +1,4 @@
-// The state that is carried from hour to hour, and what the calls answer. Calls that change it take it by value and hand back the new one
-// (Specification, Forms that are kept).
+// The state that is carried from hour to hour, and what the calls answer. Calls that change it take it by value and hand back the new one.
 // Specification, Forms that are kept; Why this rate, why this load.
 ghost use Rattle.std.specs.Prelude.{◌≡◌};
 ghost use Rattle.zone.specs.Answers.{answered};
@@ -28,7 +27,7 @@ pub struct Demand {
     pub ach_to_trigger_heating: Option<f64>,
 }
 
-// Why an hour has its air change rate: the earliest that holds, by its number.
+// Why an hour has its air change rate: the earliest reason that holds, by its number.
 #[derive(Clone, Copy, Debug, PartialEq, Eq)]
 pub enum Reason {
     NoChoice = 1,

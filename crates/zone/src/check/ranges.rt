@@ -1,5 +1,5 @@
-// The ranges, each once (Specification, Ranges). The library's were tried: a constant's value may hold no call yet, which `0.0..=180.0` and `RangeInclusive::new` are,
-// and with pairs of `Bound` an hour step at 24 elements took 2,241 instructions more, 2.2 %: above the bar of docs/PERFORMANCE.md.
+// The ranges, each once (Specification, Ranges). The library's were tried: a constant's value may hold no call yet, which `0.0..=180.0` and
+// `RangeInclusive::new` are, and with pairs of `Bound` an hour step at 24 elements took 2,241 instructions more, 2.2 %: above the bar of docs/PERFORMANCE.md.
 ghost use Rattle.std.specs.Prelude.{◌≡◌};
 ghost use Rattle.zone.specs.Check.Ranges.{limit_range, open_within};
 ghost use Rattle.zone.specs.Inner.Check.{within};

@@ -1,6 +1,7 @@
-// Numbers and floats in bytes, the highest byte first. Read at a place, as the definitions (`float_at s at`) and the tables of Specification, Bytes, which count from the
-// start of a head, have it: a part `&s[at..]` is `take (length s - at) (drop at s)` in a proof, and each call would need the law that this is `drop at s`.
-// The programs' `big_endian` has readers of these names that take what lies past the end as 0; these ask for bytes that are there (docs/DECISIONS.md).
+// Numbers and floats in bytes, the highest byte first (Specification, Bytes). They are read at a place, as in the definitions (`float_at s at`) and in the
+// specification's tables, which count from the start of a head: a part `&s[at..]` is `take (length s - at) (drop at s)` in a proof, and each call would need
+// the law that this is `drop at s`. The programs' `big_endian` has readers of these names that take what lies past the end as 0; these ask for bytes that are
+// there (docs/DECISIONS.md).
 ghost use Rattle.std.specs.Prelude.{◌≡◌, ◌+◌, ◌≤◌, ◌<◌, length, take, drop};
 ghost use Rattle.zone.specs.Format.Bytes.{num_at, float_at, float_size};
 

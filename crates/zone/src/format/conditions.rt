@@ -1,15 +1,16 @@
 // The record of an hour's conditions.
 use crate::record::building_element::ElementHour;
 
-// A fixed air change rate, or a target with the rate of open windows. The enum, a field of the conditions, is a form that is kept (Specification, Forms that are kept).
+// A fixed air change rate, or a target with the rate of open windows. The enum, a field of the conditions, is one of the forms of Specification, Forms that
+// are kept.
 #[derive(Clone, Copy)]
 pub enum AirChangesPerHourArgument {
     Cooling(f64),
     TargetAndWindowsOpen(f64, f64),
 }
 
-// Whether an hour may have the fixed rate, code 0. A call's may not, under 8; one that is written already is judged as it stands, and the reason for its
-// rate is still told.
+// Whether an hour may have the fixed rate, code 0. A call's may not, and is refused with 8; one that is written already is judged as it stands, and the
+// reason for its rate is still told.
 #[derive(Clone, Copy)]
 pub enum FixedRate {
     Retired,

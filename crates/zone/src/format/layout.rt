@@ -3,7 +3,7 @@
 
 pub const FLOAT_SIZE: usize = 8;
 
-// Each record: 4-byte length of what follows, then version byte: of a head 1.
+// A head, as an entry, begins with 4 bytes, the length of what follows, and a version byte, which is 1 in a head.
 pub const LENGTH_SIZE: usize = 4;
 
 pub const VERSION_OF_HEAD: u8 = 1;
@@ -31,7 +31,7 @@ pub const TEMP_SETPNT_COOL_VENT_INIT_AT: usize = TEMP_SETPNT_INIT_AT + FLOAT_SIZ
 
 pub const FIRST_ELEMENT: usize = TEMP_SETPNT_COOL_VENT_INIT_AT + FLOAT_SIZE;
 
-// What a head's length field may hold: one Transparent with no treatments, 24 five-node elements.
+// The least and the greatest length of a head: that of one Transparent with no treatments, and that of 24 five-node elements.
 pub const SHORTEST_LENGTH: usize = FIRST_ELEMENT - LENGTH_SIZE + TRANSPARENT_SIZE;
 
 pub const LONGEST_LENGTH: usize = FIRST_ELEMENT - LENGTH_SIZE + 24 * FIVE_NODES_SIZE;

@@ -25,14 +25,14 @@ pub struct Rule {
     pub limits: Limits,
 }
 
-// Delivered W, with no limit.
+// What a demand delivers in W, with no limit.
 pub fn delivered_of(h: &Conditions, d: Demand) -> f64
     ensures { result ≡ delivered h.now d }
 {
     (d.space_heat_demand + d.space_cool_demand) * WATTS_PER_KILOWATT / h.delta_t_h
 }
 
-// A power strictly beyond a limit becomes the limit, for cooling its negation.
+// A power strictly beyond a limit becomes the limit, one of cooling with a minus.
 #[tactic(auto, unfolding(crate::specs::Calls::Hour::limited))]
 fn limited(limits: Limits, w: f64) -> f64
     ensures { result ≡ limited limits w }
@@ -57,7 +57,7 @@ impl Rule {
         }
     }
 
-    // Delivered W.
+    // What a demand delivers in W, by this rule.
     #[tactic(auto, unfolding(crate::specs::Calls::Hour::delivered_by))]
     fn delivered(self, h: &Conditions, d: Demand) -> f64
         ensures { result ≡ delivered_by self.version self.limits h.now d }

@@ -30,7 +30,7 @@ pub struct HeatBalanceAirNode {
     pub fabric_heat_loss: f64,
 }
 
-// The Rust's four, then the convective total's terms by direction of heat flow.
+// The original's four, then the sums of the convective total's terms by direction of heat flow.
 #[derive(Clone, Copy)]
 pub struct HeatBalanceInternalBoundary {
     pub fabric_int_air_convective: f64,

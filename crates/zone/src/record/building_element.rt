@@ -11,7 +11,7 @@ ghost use Rattle.zone.specs.Record.BuildingElement.{
   number_of_nodes,
 };
 
-// The Rust's BuildingElement, in the order of its variants.
+// The original's BuildingElement, in the order of its variants.
 #[derive(Clone, Copy)]
 pub enum Kind {
     Opaque,
