@@ -82,8 +82,8 @@ pub record HouseP : Type 0 where
   pub hour_size : length hour_of_p ≡ 154
   pub rows : all_hold table ≡ true
 
--- What an accepted call writes is the value of `init_node_temps`, `operative`, `demand`, `why`, `update_temperatures`, `hour_step` (`writes` in Claims.antt), which are
--- the equations of BS EN ISO 52016-1, each operation rounded once. What else is claimed of them:
+-- What an accepted call writes is the value of `init_node_temps`, `operative`, `demand`, `why`, `update_temperatures`, `hour_step` (`writes` in Claims.antt),
+-- which are the equations of BS EN ISO 52016-1, each operation rounded once. What else is claimed of them:
 pub record ValuesAreTheEquations : Type 0 where
   -- systems that were solved apart from the definitions
   pub worked : Worked

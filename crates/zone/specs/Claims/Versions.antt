@@ -40,8 +40,8 @@ pub record Within (l : Limits) (w : Float) : Type 0 where
   pub cooling : lt w (neg l.cooling) ≡ false
 
 module _ (fixed : FixedRate) (c : Coefficients) (z : Zone) (s : State) (bytes : List ℕ) where
-  -- the hour step by a convective fraction, which knows no version: share = (convective + delivered × the fraction) / g, or 0 where g is close to 0. The demand is
-  -- reported as it is asked for, whatever becomes of the power.
+  -- the hour step by what becomes of the delivered power and by a convective fraction, which knows no version: share = (convective + power × the fraction) / g,
+  -- or 0 where g is close to 0. The demand is reported as it is asked for, whatever becomes of the power.
   unfoldable pub hour_step_with : (power : (w : Float) → Float) (fraction : Conditions → (w : Float) → Float) → Result HourResult
   hour_step_with power fraction =
       bind (tested fixed z s bytes) λ h.
