@@ -1,6 +1,6 @@
 // Big-endian numbers and floats in slices of bytes. A byte past the end is read as 0, or as none by `part`, and is not written. Place and slice are two
-// parameters, as the tables of Specification, Bytes, count places from the start of a head or an entry: a caller of functions of `&s[at..]` would first have to test each
-// place against the length, since these books are cut anywhere. All NaNs have one pattern, as in `std::num::f64_to_bits_with_nan` and
+// parameters, as the tables of Specification, Bytes, count places from the start of a head or an entry: a caller of functions of `&s[at..]` would first have
+// to test each place against the length, since these books are cut anywhere. All NaNs have one pattern, as in `std::num::f64_to_bits_with_nan` and
 // `f64_from_bits_with_nan`.
 #![tactic(auto)]
 

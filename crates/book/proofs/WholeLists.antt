@@ -33,10 +33,10 @@ module _ (T : CodeTypes year_interface) (C : CodeLaws year_interface T) where
 
 -- ---- and at those of `begin`, `append` and `take_up`
 
--- One claim about the whole list, not one for each call. For every list of calls that starts with no book, of begins, appends,
--- cuts and take-ups with whatever arguments, and for whatever `begin`, `append` and `take_up` returned and left in the lent buffers, of which
--- a session holds what their contracts ensure and nothing else: each answer (acceptance or number and index, temperatures, last version, count, used length), each
--- buffer, byte for byte, and the book held after each call are those of the plain book, which is fed the calls' arguments only.
+-- One claim about the whole list, not one for each call. For every list of calls that starts with no book, of begins, appends, cuts and take-ups with
+-- whatever arguments, and for whatever `begin`, `append` and `take_up` returned and left in the lent buffers, of which a session holds what their contracts
+-- ensure and nothing else: each answer (acceptance or number and index, temperatures, last version, count, used length), each buffer, byte for byte, and the
+-- book held after each call are those of the plain book, which is fed the calls' arguments only.
 pub whole_lists : WholeLists year_interface rust_types
 whole_lists = whole_lists_at rust_types rust_laws
 
@@ -60,9 +60,9 @@ handed_on r = by r.answer
 
 -- ---- what follows for books
 
--- Two books are equal byte for byte exactly when heads and hours, their versions among them, are; a cut is a take-up of the bytes before it, is never refused and keeps the first
--- hours; hours that a cut took are held again once accepted anew; which bytes are taken up, and which number and index there is otherwise; bytes behind
--- the used ones stay.
+-- Two books are equal byte for byte exactly when heads and hours, their versions among them, are; a cut is a take-up of the bytes before it, is never refused
+-- and keeps the first hours; hours that a cut took are held again once accepted anew; which bytes are taken up, and which number and index there is
+-- otherwise; bytes behind the used ones stay.
 pub year_claims : Claims year_interface
 year_claims =
     record {

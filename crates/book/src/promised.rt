@@ -1,4 +1,5 @@
-// What is proved of year books, as the contract of one function: a theorem that a contract names cannot go, nor go unproved. It does nothing, and no program calls it.
+// What is proved of year books, as the contract of one function: a theorem that a contract names cannot go, nor go unproved. It does nothing, and no program
+// calls it.
 ghost use Rattle.std.specs.Prelude.{ℕ, List};
 ghost use Rattle.zone.specs.declared.record.zone_record.Zone.{Zone};
 ghost use Rattle.zone.specs.declared.format.limits.Limits.{Limits};

@@ -1,5 +1,5 @@
-// Calls of a session, as the contracts of three functions: whatever `begin`, `append` and `take_up` are given they may be called, and what they return and leave in the lent buffer is what a
-// session has of their calls, of which the claim about whole lists of calls speaks. No program calls these functions.
+// Calls of a session, as the contracts of three functions: whatever `begin`, `append` and `take_up` are given they may be called, and what they return and
+// leave in the lent buffer is what a session has of their calls, of which the claim about whole lists of calls speaks. No program calls these functions.
 ghost use Rattle.book.specs.Model.InSession.{BeginInSession, AppendInSession, TakeUpInSession, CutInSession};
 ghost use Rattle.book.specs.Year.{hour_item, year_interface};
 ghost use Rattle.book.specs.Answers.{rust_types};

@@ -7,10 +7,10 @@ use Rattle.book.proofs.WholeLists.{whole_lists_at, session_exactly_at, session_f
 use Rattle.hem_zone.specs.BookTypes.{c_types}
 use Rattle.hem_zone.proofs.BookTypes.{c_laws}
 
--- For every list of calls that starts with no book, of begins, appends, cuts and take-ups with whatever arguments, and for whatever `hem_begin`,
--- `hem_append` and `hem_take_up` returned and left in what they were lent, of which a session holds what their contracts ensure and nothing else
--- (src/session.rt): what each returned number stands for, each `temps`, `nodes`, `count`, `used` and `last_version`, each buffer, byte for byte, and the book held after
--- each call are those of the plain book, which is fed the calls' arguments only.
+-- For every list of calls that starts with no book, of begins, appends, cuts and take-ups with whatever arguments, and for whatever `hem_begin`, `hem_append`
+-- and `hem_take_up` returned and left in what they were lent, of which a session holds what their contracts ensure and nothing else (src/session.rt): what
+-- each returned number stands for, each `temps`, `nodes`, `count`, `used` and `last_version`, each buffer, byte for byte, and the book held after each call
+-- are those of the plain book, which is fed the calls' arguments only.
 pub whole_lists : WholeLists year_interface c_types
 whole_lists = whole_lists_at c_types c_laws
 

@@ -1,5 +1,6 @@
-// Calls of a session, as the contracts of three functions: whatever `hem_begin`, `hem_append` and `hem_take_up` are given they may be called, and what they return and leave in what they were
-// lent is what a session has of their calls, of which the claim about whole lists of calls speaks. No program calls these functions.
+// Calls of a session, as the contracts of three functions: whatever `hem_begin`, `hem_append` and `hem_take_up` are given they may be called, and what they
+// return and leave in what they were lent is what a session has of their calls, of which the claim about whole lists of calls speaks. No program calls these
+// functions.
 ghost use Rattle.book.specs.Model.InSession.{BeginInSession, TakeUpInSession, CutInSession};
 ghost use Rattle.book.specs.Year.{hour_item, year_interface};
 ghost use Rattle.hem_zone.specs.Arrays.{limits_of};

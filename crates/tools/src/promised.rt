@@ -1,4 +1,5 @@
-// What is proved of the questions and the converter, as the contract of one function: a theorem that a contract names cannot go, nor go unproved. It does nothing, and no program calls it.
+// What is proved of the questions and the converter, as the contract of one function: a theorem that a contract names cannot go, nor go unproved. It does
+// nothing, and no program calls it.
 ghost use Rattle.tools.specs.Claims.{QuestionClaims};
 ghost use Rattle.tools.specs.ConvertClaims.{ConvertClaims};
 ghost use Rattle.tools.specs.Refusals.{QuestionRefusals, ConvertRefusals, OneError};

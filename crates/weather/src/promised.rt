@@ -1,4 +1,5 @@
-// What is proved of the weather of a line, as the contract of one function: a theorem that a contract names cannot go, nor go unproved. It does nothing, and no program calls it.
+// What is proved of the weather of a line, as the contract of one function: a theorem that a contract names cannot go, nor go unproved. It does nothing, and
+// no program calls it.
 ghost use Rattle.weather.specs.Claims.{WeatherClaims};
 ghost use Rattle.weather.specs.Refusals.{WeatherRefusals, OneError};
 

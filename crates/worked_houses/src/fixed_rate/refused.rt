@@ -1,5 +1,5 @@
-// Every call but those that judge or explain what is written refuses it under 8, in its place: House P's hours with code 0, in each version, with other bytes in place of the zeros behind
-// the rate, and beside every other refusal.
+// Every call but those that judge or explain what is written refuses it under 8, in its place: House P's hours with code 0, in each version, with other bytes
+// in place of the zeros behind the rate, and beside every other refusal.
 use crate::bytes::{CONDITIONS, Hour};
 use crate::convection::room::{CONDITIONS as SIX_SURFACES, Room};
 use crate::convection::rooms;

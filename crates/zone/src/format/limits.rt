@@ -16,7 +16,7 @@ pub struct Limits {
 const LIMITS_SIZE: usize = 2 * FLOAT_SIZE;
 
 // The limits in the first bytes; 0 twice where there are too few, as of an hour without limits, where nothing uses them. No Option: the contract, which is
-// exported, gives two numbers for any bytes, and `next_hour_kept`, for which the book reads them, takes `Limits` with every version.
+// exported, gives two numbers for any bytes, and `next_hour`, for which the book reads them, takes `Limits` with every version.
 #[tactic(auto, unfolding(crate::specs::Format::Limits::limits_in))]
 pub fn read_limits(bytes: &[u8]) -> Limits
     ensures { result ≡ limits_in bytes.now }
