@@ -1,4 +1,5 @@
--- What a session has of one call of a function: whatever the function was given, its reply and the buffer that it left make a call that a caller may make (`Made`).
+-- What a session has of one call of a function: whatever the function was given, its reply and the buffer that it left make a call that a caller may make
+-- (`Made`).
 use Rattle.std.specs.Prelude.{◌≡◌, List, ◌++◌, ℕ, ◌≤◌, take}
 use Rattle.std.proofs.Math.Option.{some}
 use Rattle.zone.specs.Promise.{ok}
