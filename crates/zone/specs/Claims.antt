@@ -15,5 +15,6 @@ pub mod Refusals
 pub mod Errors
 pub mod Reasons
 pub mod NodeOrder
+pub mod HousePBalances
 pub mod HouseP
 pub mod EachZone

@@ -29,7 +29,8 @@ use Rattle.zone.specs.Calls.Hour.{tested_hour, tested, tested_hour_and_limits, t
 use lib.Ieee.{add, sub, mul, div, lt, le, eq, ne, of_bits, to_bits, neg}
 use Rattle.zone.specs.Format.Head.{head_of, structure_of, elements_end}
 use Rattle.zone.specs.Calls.StartUp.{start_up_conditions, all_close, close, pass, settle, init_node_temps}
-use Rattle.zone.specs.Claims.HouseP.{HousePClaims, house_p, head_of_p, hour_of_p, balance_at_rest, all_hold, table}
+use Rattle.zone.specs.Claims.HousePBalances.{balance_at_rest}
+use Rattle.zone.specs.Claims.HouseP.{HousePClaims, house_p, head_of_p, hour_of_p, all_hold, table}
 
 -- what the definitions compute by: to unfold one of these is to unfold what its line names
 unfoldable records1 : Unit {0}
@@ -111,7 +112,6 @@ house_p_lem =
       old_hour = λ l. refl;
       old_twice = refl;
       hour_3 = refl;
-      hour_heated = refl;
     }
 
 pub claim : all_hold table ≡ true

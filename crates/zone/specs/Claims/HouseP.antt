@@ -21,6 +21,7 @@ use Rattle.zone.specs.declared.record.zone_record.Zone.{Zone}
 use Rattle.zone.specs.declared.format.conditions.FixedRate.TheVariants.{Retired, StillTaken}
 use Rattle.zone.specs.declared.format.limits.Limits.{Limits}
 use Rattle.zone.specs.declared.physics.balance.HeatBalance.{HeatBalance}
+use Rattle.zone.specs.Claims.HousePBalances.{balance_at_rest, balance_heated, values}
 use Rattle.zone.specs.declared.calls.state.State.{State}
 use Rattle.zone.specs.declared.calls.state.Demand.{Demand}
 
@@ -79,122 +80,9 @@ twenty = record { nodes = 3; temps = decimal 20 0 ∷ decimal 20 0 ∷ decimal 2
 abbrev pub no_demand : Demand
 no_demand = record { space_heat_demand = zero64; space_cool_demand = zero64; ach_cooling = zero64; ach_to_trigger_heating = None }
 
--- ---- heat balances, worked out from Specification, Heat balance
-
-abbrev minus_zero : Float
-minus_zero = neg zero64
-
--- Everything stays at 20 and there are no gains: each temperature difference is +0.0, and so is each product without a minus. A sum begins with +0.0, which
--- a −0.0, as the sky's 1 × −0.0, leaves as it is.
-abbrev pub balance_at_rest : HeatBalance
-balance_at_rest =
-    record {
-      air_node =
-          record {
-            solar_gains = zero64;
-            internal_gains = zero64;
-            heating_or_cooling_system_gains = zero64;
-            -- -(360000 / 3600) × (20 − 20)
-            energy_to_change_internal_temperature = minus_zero;
-            -- -(43.0625 × (20 − 20)), and at rate 0 -(0 × (20 − 20))
-            thermal_bridges = minus_zero;
-            infiltration_ventilation = minus_zero;
-            -- -((((0.0 + 0.0) + 0.0) + −0.0) − (0.0 + 0.0))
-            fabric_heat_loss = minus_zero;
-          };
-      internal_boundary =
-          record {
-            fabric_int_air_convective = zero64;
-            fabric_int_sol = zero64;
-            fabric_int_int_gains = zero64;
-            fabric_int_heat_cool = zero64;
-            fabric_int_air_convective_horizontal = zero64;
-            fabric_int_air_convective_upwards = zero64;
-            fabric_int_air_convective_downwards = zero64;
-          };
-      external_boundary =
-          record {
-            solar_gains = zero64;
-            internal_gains = zero64;
-            heating_or_cooling_system_gains = zero64;
-            thermal_bridges = minus_zero;
-            infiltration_ventilation = minus_zero;
-            fabric_ext_air_convective = zero64;
-            fabric_ext_air_radiative = zero64;
-            fabric_ext_sol = zero64;
-            fabric_ext_sky = zero64;
-            opaque_fabric_ext = zero64;
-            transparent_fabric_ext = zero64;
-            ground_fabric_ext = zero64;
-            ztc_fabric_ext = zero64;
-            ztu_fabric_ext = zero64;
-          };
-    }
-
--- The hour that heats with 144 W, all of it convective, ends at 20.3125, 20.625 and 21.
-abbrev pub balance_heated : HeatBalance
-balance_heated =
-    record {
-      air_node =
-          record {
-            solar_gains = zero64;
-            internal_gains = zero64;
-            -- 1 × 144
-            heating_or_cooling_system_gains = decimal 144 0;
-            -- -(360000 / 3600) × (21 − 20)
-            energy_to_change_internal_temperature = neg (decimal 100 0);
-            -- -(43.0625 × (21 − 20)), and at rate 0 -(0 × (21 − 20))
-            thermal_bridges = neg (decimal 430625 4);
-            infiltration_ventilation = minus_zero;
-            -- -((((0 + 0) + 144) − 100) − (43.0625 + 0))
-            fabric_heat_loss = neg (decimal 9375 4);
-          };
-      internal_boundary =
-          record {
-            -- 1 × (2.5 × (21 − 20.625)), and 2.5 is horizontal
-            fabric_int_air_convective = decimal 9375 4;
-            fabric_int_sol = zero64;
-            fabric_int_int_gains = zero64;
-            -- (1 − 1) × 144
-            fabric_int_heat_cool = zero64;
-            fabric_int_air_convective_horizontal = decimal 9375 4;
-            fabric_int_air_convective_upwards = zero64;
-            fabric_int_air_convective_downwards = zero64;
-          };
-      external_boundary =
-          record {
-            solar_gains = zero64;
-            internal_gains = zero64;
-            heating_or_cooling_system_gains = decimal 144 0;
-            thermal_bridges = neg (decimal 430625 4);
-            infiltration_ventilation = minus_zero;
-            -- 1 × 1 × (20 − 20.3125)
-            fabric_ext_air_convective = neg (decimal 3125 4);
-            -- 0.0 + 1 × 0 × (20 − 20.3125): the product is −0.0
-            fabric_ext_air_radiative = zero64;
-            fabric_ext_sol = zero64;
-            fabric_ext_sky = zero64;
-            opaque_fabric_ext = zero64;
-            -- 0.0 + (1 × (1 × (20 − 20.3125)) + −0.0 + 0.0 + −0.0)
-            transparent_fabric_ext = neg (decimal 3125 4);
-            ground_fabric_ext = zero64;
-            ztc_fabric_ext = zero64;
-            ztu_fabric_ext = zero64;
-          };
-    }
-
 -- the limits of a plant
 abbrev plant : (heating cooling : Float) → Limits
 plant heating cooling = record { heating = heating; cooling = cooling }
-
--- the hour with setpoints 21 and 24, of a plant that gives the 144 W that are asked
-abbrev heated : HourResult
-heated =
-    record {
-      demand = record { space_heat_demand = decimal 144 3; space_cool_demand = zero64; ach_cooling = zero64; ach_to_trigger_heating = None };
-      state = record { nodes = 3; temps = decimal 203125 4 ∷ decimal 20625 3 ∷ decimal 21 0 ∷ replicate 118 zero64 };
-      balance = balance_heated;
-    }
 
 -- its head is 180 bytes; start-up finds 20, 20, 20; an hour with setpoints 20 and 24 wants nothing and leaves them, in each version
 pub record HousePClaims : Type 0 where
@@ -206,7 +94,6 @@ pub record HousePClaims : Type 0 where
   pub hour_2 : (l : Limits) → hour_step Retired standard_coefficients house_p 2 l twenty hour_of_p ≡ ok (record { demand = no_demand; state = twenty; balance = balance })
   -- a delivered 0 is beyond no limit, nor beyond a limit of 0
   pub hour_3 : hour_step Retired standard_coefficients house_p 3 (plant zero64 zero64) twenty hour_of_p ≡ ok (record { demand = no_demand; state = twenty; balance = balance })
-  pub hour_heated : hour_step Retired standard_coefficients house_p 3 (plant (decimal 144 0) zero64) twenty (hour (decimal 21 0) (decimal 24 0)) ≡ ok heated
   -- a call refuses the hour with the fixed rate, with 8; where it is written already it is judged by its hour step; with its rate twice it is the hour
   pub old_refused : demand Retired standard_coefficients house_p twenty old_hour_of_p ≡ refused conditions_code 0
   pub old_hour : (l : Limits) → hour_step StillTaken standard_coefficients house_p 1 l twenty old_hour_of_p ≡ ok (record { demand = no_demand; state = twenty; balance = balance })
@@ -228,6 +115,16 @@ refused_with n (refused k i) = eqb k n && eqb i 0
 
 abbrev is_twenty : State → ℕ → Bool
 is_twenty s i = same (get_or s.temps i nan) (decimal 20 0)
+
+abbrev all_same : List Float → List Float → Bool
+all_same [] [] = true
+all_same [] (y ∷ ys) = false
+all_same (x ∷ xs) [] = false
+all_same (x ∷ xs) (y ∷ ys) = same x y && all_same xs ys
+
+abbrev has_balance : HeatBalance → Result HourResult → Bool
+has_balance b (ok r) = all_same (values r.balance) (values b)
+has_balance b (refused _ _) = false
 
 -- an hour step of version 3: the demand, and the three temperatures after it
 abbrev limited_hour : Limits → (heat cool : Float) → Result HourResult
@@ -275,8 +172,9 @@ table =
     -- of the 144 W that are asked for, a plant of 72 W gives half, and the temperatures go half the way; the demand is uncut
     ∷ ends_at (decimal 144 3) zero64 (decimal 2015625 5) (decimal 203125 4) (decimal 205 1) (limited_hour (plant (decimal 72 0) zero64) (decimal 21 0) (decimal 24 0))
     ∷ ends_at zero64 (neg (decimal 144 3)) (decimal 1984375 5) (decimal 196875 4) (decimal 195 1) (limited_hour (plant zero64 (decimal 72 0)) (decimal 15 0) (decimal 19 0))
-    -- 144 W is not strictly beyond 144 W
+    -- 144 W is not strictly beyond 144 W; and the heat balance of this hour
     ∷ ends_at (decimal 144 3) zero64 (decimal 203125 4) (decimal 20625 3) (decimal 21 0) (limited_hour (plant (decimal 144 0) zero64) (decimal 21 0) (decimal 24 0))
+    ∷ has_balance balance_heated (limited_hour (plant (decimal 144 0) zero64) (decimal 21 0) (decimal 24 0))
     -- the ends of the limits' range: 0 of either sign and 1e7; beyond them the next number, the greatest below 0, and a NaN
     ∷ (power_limits_range (plant zero64 (neg zero64)) && power_limits_range (plant (decimal 10000000 0) (decimal 10000000 0)))
     ∷ refused_with 19 (limited_hour (plant (of_bits binary64 4711630319722168321) zero64) (decimal 22 0) (decimal 21 0))
