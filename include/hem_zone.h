@@ -248,8 +248,8 @@ enum hem_out {
     HEM_OUT_HEATING = 0,     /* kWh, at least 0 */
     HEM_OUT_COOLING = 1,     /* kWh, at most 0 */
     HEM_OUT_RATE = 2,        /* the chosen rate, air changes per hour */
-    HEM_OUT_TRIGGER = 3,     /* 1.0 where there is a rate that would bring the zone to its heating setpoint, else 0.0 */
-    HEM_OUT_TRIGGER_RATE = 4 /* that rate, per hour; 0.0 where there is none */
+    HEM_OUT_TRIGGER = 3,     /* 1.0 where target and windows open differ, else 0.0 */
+    HEM_OUT_TRIGGER_RATE = 4 /* the rate found for the heating setpoint, per hour; 0.0 where they are equal */
 };
 
 /* All in W; heat that enters is positive. */

@@ -16,6 +16,7 @@ use Rattle.zone.specs.Format.ElementLayout.{element_size}
 use Rattle.zone.specs.Format.Head.{ReadHead, head_of}
 use Rattle.zone.specs.Claims.EachZone.{EachZone}
 use Rattle.zone.specs.Claims.Errors as OfZones
+use Rattle.zone.specs.Claims.Why.{WhyNumbers}
 use Rattle.zone.specs.Claims.FirstFault.{FirstFaults}
 use Rattle.zone.specs.Claims.NodeOrder.{NodeOrder}
 use Rattle.zone.specs.Claims.HouseP.{HousePClaims, hour_of_p, all_hold, table}
@@ -37,7 +38,6 @@ use Rattle.weather.specs.Claims.{WeatherClaims}
 use Rattle.weather.specs.Refusals as OfWeather
 use Rattle.hem_zone.specs.Arrays.{limits_of}
 use Rattle.hem_zone.specs.Claims.{Claims, ToldApart}
-use Rattle.hem_zone.specs.Why.{WhyNumbers}
 use Rattle.hem_zone.specs.Book.{CBookState, book_state_of, hem_begin_outcome, hem_append_outcome, hem_take_up_outcome}
 use Rattle.hem_zone.specs.BookTypes.{answer_of, reply_in, c_types}
 

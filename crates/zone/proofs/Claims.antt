@@ -20,6 +20,7 @@ pub mod Versions
 pub mod Convection
 pub mod Refusals
 pub mod Reasons
+pub mod NextHour
 pub mod NodeOrder
 pub mod HouseP
 pub mod Index

@@ -14,6 +14,7 @@ pub mod Convection
 pub mod Refusals
 pub mod Errors
 pub mod Reasons
+pub mod NextHourClaims
 pub mod NodeOrder
 pub mod HousePBalances
 pub mod HouseP

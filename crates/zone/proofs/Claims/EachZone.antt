@@ -10,6 +10,7 @@ use Rattle.zone.proofs.Claims.State.{update_state_tested, hour_state_tested, sta
 use Rattle.zone.proofs.Claims.Reasons.{operative_reasons, demand_reasons, hour_reasons, update_reasons, start_up_reasons}
 use Rattle.zone.proofs.Claims.HeadClaims.{head_claims, zone_claims, conditions_claims}
 use Rattle.zone.proofs.Claims.HourRead.{hour_read}
+use Rattle.zone.proofs.Claims.NextHour.{next_hour_is}
 use Rattle.zone.proofs.Claims.Index.{indices_of_zone}
 use Rattle.zone.proofs.Claims.Refusals.{call_refusals, state_kept}
 use Rattle.zone.proofs.Claims.Versions as Hours
@@ -30,6 +31,7 @@ each_zone z =
       update_reasons = update_reasons standard_coefficients z;
       start_up_reasons = start_up_reasons standard_coefficients z;
       indices = indices_of_zone standard_coefficients z;
+      next_hour = next_hour_is standard_coefficients z;
       demand_signs = demand_call_signs standard_coefficients z;
       hour_signs = hour_call_signs standard_coefficients z;
       why_answers = why_answers standard_coefficients z;

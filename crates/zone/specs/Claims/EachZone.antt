@@ -17,6 +17,7 @@ use Rattle.zone.specs.Claims.Versions as Hours
 use Rattle.zone.specs.Claims.Convection.{YieldsDirection, UpdateByDirection, HourByDirection}
 use Rattle.zone.specs.Claims.StateClaims.{StateKept, UpdateStateTested, HourStateTested, StartUpStateTested}
 use Rattle.zone.specs.Claims.Reasons.{OperativeReasons, DemandReasons, HourReasons, UpdateReasons, StartUpReasons}
+use Rattle.zone.specs.Claims.NextHourClaims.{NextHourIs}
 use Rattle.zone.specs.Claims.FixedRate.{RetiredClaims, HourStill, SameHour}
 
 pub record EachZone (z : Zone) : Type 0 where
@@ -34,6 +35,8 @@ pub record EachZone (z : Zone) : Type 0 where
   pub update_reasons : UpdateReasons standard_coefficients z
   pub start_up_reasons : StartUpReasons standard_coefficients z
   pub indices : IndicesOfZone standard_coefficients z
+  -- an hour after another is the hour step without its heat balance,
+  pub next_hour : NextHourIs standard_coefficients z
   -- heating ≥ 0 and cooling ≤ 0,
   pub demand_signs : DemandCallSigns standard_coefficients z
   pub hour_signs : HourCallSigns standard_coefficients z

@@ -25,7 +25,8 @@ module _ (c : Coefficients) (z : Zone) where
   abbrev pub StartUpStateTested : Type 0
   StartUpStateTested = (s : State) → init_node_temps c z ≡ ok s → zone_and_state_test z s ≡ ok tt
 
--- a demand hands back the state that it was given, and so does a refused update or hour step
+-- a demand hands back the state that it was given, and so does a refused update or hour step. It is said of the words by which the calls' contracts tell their
+-- answers, and so of any answer
 pub record StateKept : Type 0 where
   pub demands : (s : State) (x : Result Demand) → (demand_reply s x).1 ≡ s
   pub updates : (s : State) (x : Result (State × HeatBalance)) (n i : ℕ) → (update_reply s x).0 ≡ refused n i → (update_reply s x).1 ≡ s

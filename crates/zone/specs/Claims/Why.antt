@@ -1,6 +1,6 @@
 -- Why this rate, why this load: what an answer tells of the hour and of its demand, and where it is refused.
 -- Specification, Why this rate, why this load; Fixed rate.
-use Rattle.std.specs.Prelude.{ℕ, ◌≡◌, true, false, ◌↔◌, List, [], ◌∷◌, Float}
+use Rattle.std.specs.Prelude.{ℕ, ◌≡◌, true, false, ◌↔◌, List, [], ◌∷◌, map, Float}
 use Rattle.std.specs.Float.Ieee.{lt, eq}
 use Rattle.solver.specs.F64.{zero64}
 use Rattle.solver.specs.Result.{ok, refused}
@@ -15,15 +15,22 @@ use Rattle.zone.specs.declared.calls.state.Demand.{Demand}
 use Rattle.zone.specs.declared.calls.state.Reason.{Reason}
 use Rattle.zone.specs.declared.calls.state.Reason.TheVariants.{NoChoice, NotAboveVentilationSetpoint, NotAboveSupply, WindowsDoNotCool, StillAboveCoolingSetpoint, WindowsEnough}
 use Rattle.zone.specs.declared.calls.state.Load.{Load}
+use Rattle.zone.specs.declared.calls.state.Load.TheVariants.{Neither, Heating, Cooling as CoolingLoad}
 use Rattle.zone.specs.Physics.Slots.{air}
 use Rattle.zone.specs.Hour.Demand.{control_temperature, ach_target, free_temperatures, ach_to_reach}
 use Rattle.zone.specs.Calls.State.{slots_of}
 use Rattle.zone.specs.Calls.Hour.{tested, demand}
 use Rattle.zone.specs.Calls.Why.{why}
+use Rattle.zone.specs.Calls.Numbers.{reason_number, load_number}
 
 -- the list of reasons
 abbrev pub reasons : List Reason
 reasons = NoChoice ∷ NotAboveVentilationSetpoint ∷ NotAboveSupply ∷ WindowsDoNotCool ∷ StillAboveCoolingSetpoint ∷ WindowsEnough ∷ []
+
+-- a reason's number is its place in their list, from 1 on; of the loads neither has 0, heating 1 and cooling 2
+pub record WhyNumbers : Type 0 where
+  pub of_reasons : map reason_number reasons ≡ 1 ∷ 2 ∷ 3 ∷ 4 ∷ 5 ∷ 6 ∷ []
+  pub of_loads : map load_number (Neither ∷ Heating ∷ CoolingLoad ∷ []) ≡ 0 ∷ 1 ∷ 2 ∷ []
 
 -- the earliest of these that holds: those before it in the list do not
 pub data Earliest (Holds : Reason → Type 0) : List Reason → Reason → Type 0 where
