@@ -58,3 +58,4 @@ pub mod OtherRates
 pub mod Chosen
 pub mod Refusals
 pub mod Whenever
+pub mod Interpolation
