@@ -17,6 +17,11 @@ def one_line(text):
     return ' '.join(text.split())
 
 
+def without_line_comment(line):
+    """A line of code without its comment."""
+    return re.sub(r'(^|\s)//.*', '', line).rstrip()
+
+
 def without_comment(line):
     return re.sub(r'(^|\s)--.*', '', line).rstrip()
 
