@@ -30,6 +30,26 @@ class Contract:
         return [self.head, *(f"  {' '.join(part for part in (word, name) if part)} {{ {proposition} }}" for word, name, proposition in self.clauses)]
 
 
+def uses(path):
+    """What the names in a file's contracts stand for: each with its module and its name there."""
+    found = {}
+    for module, listed, alone in re.findall(r'^ghost use ([\w.]+?)\.(?:\{([^}]*)\}|(\w+));', path.read_text(), re.M):
+        for name in (listed or alone).split(','):
+            parts = name.strip().split(' as ')
+            found[parts[-1]] = (module, parts[0])
+    return found
+
+
+def conclusion(text):
+    """What stands behind the last arrow that is in no brackets."""
+    depth, begin = 0, 0
+    for place, c in enumerate(text):
+        depth += (c in '({[') - (c in ')}]')
+        if c == '→' and depth == 0:
+            begin = place + 1
+    return text[begin:].strip()
+
+
 def of_file(path):
     text = '\n'.join(antt.without_line_comment(line) for line in path.read_text().split('\n'))
     for begun in BEGIN.finditer(text):
