@@ -114,6 +114,15 @@ class Inputs:
     def version(self, least=1):
         return self.of(1, 2, 3, 0, 4, 9, 257, 2 ** 63) if self.chance(0.1) else max(least, self.of(1, 2, 3))
 
+    def made_up(self, value, *others):
+        """A value of a book as a caller may hand it in: mostly the book's own."""
+        return self.of(*others, self.random.randrange(2 ** 64), value + 1, max(0, value - 1)) if self.chance(0.25) else value
+
+    def values_of(self, count, used, last_version, room):
+        """Made-up count, used length and last version of a book in so many bytes; a full book has 8784 hours."""
+        return (self.made_up(count, 0, 8783, 8784, 8784, 8785, 2 ** 64 - 1), self.made_up(used, 0, room, room + 1, 2 ** 64 - 1, self.random.randrange(room + 1)),
+                self.made_up(last_version, 0, 1, 2, 3, 4, 2 ** 64 - 1))
+
     def power_limits(self):
         greatest = self.of(0.0, 100.0, self.between(0, 5e3), 1e7, -1.0, float('nan')) if self.chance(0.2) else self.between(0, 3e3)
         return greatest, self.of(0.0, -0.0, 500.0, 1e7, self.between(0, 3e3))

@@ -4,83 +4,23 @@
 Random calls of the fifteen C functions, laid beside the engine of this folder: each returned number, and every byte and float of what was lent, also where a
 call refuses and is to leave all as it was. The seed is printed; with it, and as many calls, a run is made again."""
 import argparse
-import collections
 import os
 import sys
 
 sys.dont_write_bytecode = True
 import books
 import hours
-from floats import Refused
+from compared import Calls, append_call, held_left, lent_values, out, state
+from constructed_calls import constructed_calls
+from floats import BOOK_FULL, Refused
 from inputs import Inputs
 from library import MOST_NODES, NONE, Bytes, Floats, Library, Number, float_list
 from records import read_head
 from weather import weather
 
-MOST_TOLD = 5
-# from so many calls on each function has accepted and refused some
+# from so many calls on each function has accepted and refused some, and each number and reason has come
 ENOUGH = 5000
-
-
-# Specification, Answers in C
-def state(temps):
-    """A state as a call writes it."""
-    return float_list(temps + [0.0] * (MOST_NODES - len(temps)))
-
-
-def out(d):
-    return float_list([d.heating, d.cooling, d.ach] + ([0.0, 0.0] if d.trigger is None else [1.0, d.trigger]))
-
-
-def held_left(held):
-    return [state(held.temps), len(held.temps), held.count, held.used, held.last_version]
-
-
-class Calls:
-    def __init__(self, library, seed, wanted):
-        self.library, self.seed, self.wanted = library, seed, wanted
-        self.made = self.different = 0
-        self.answers = collections.defaultdict(collections.Counter)
-
-    def done(self):
-        return self.made >= self.wanted
-
-    def compare(self, name, arguments, lent, answer):
-        """Makes a call; `lent` are those of its arguments that it may write, and `answer` gives what is to be left there. Whether it was accepted alike."""
-        before = [argument.left() for argument in lent]
-        given = [argument.left() if hasattr(argument, 'left') else argument for argument in arguments]
-        returned = self.library.call(name, *arguments)
-        left = [argument.left() for argument in lent]
-        try:
-            number, wanted = 0, answer()
-        except Refused as refused:
-            number, wanted = (refused.number + 256 * refused.index) % 2 ** 32, before
-        self.made += 1
-        self.answers[name][returned % 256] += 1
-        if (returned, left) != (number, wanted):
-            self.different += 1
-            if self.different <= MOST_TOLD:
-                self.tell(name, given, (returned, left), (number, wanted))
-            return False
-        return number == 0
-
-    def tell(self, name, given, told, wanted):
-        print(f'call {self.made}, {name}: the engine returned {told[0] % 256} with index {told[0] // 256}, the page says {wanted[0] % 256} with index '
-              f'{wanted[0] // 256}; to be made again with --seed {self.seed} --calls {self.made}')
-        for i, (a, b) in enumerate(zip(told[1], wanted[1])):
-            if a != b:
-                print(f'  lent {i}: the engine left {shown(a, b)}, the page says {shown(b, a)}')
-        print(f'  given: {" ".join(shown(argument) for argument in given)}')
-
-
-def shown(value, beside=None):
-    """A value in short; of a list that differs from another the first place that does."""
-    if isinstance(value, list):
-        if beside is not None:
-            place = next(i for i, (a, b) in enumerate(zip(value, beside)) if a != b)
-            return f'at {place} {shown(value[place])}'
-        return '[' + ' '.join(shown(x) for x in value) + ']'
-    return value.hex() if isinstance(value, bytes) and value != b'nan' else str(value)
+FUNCTIONS, LAST_NUMBER = 15, 24
 
 
 # ---- calls on a zone
@@ -134,12 +74,6 @@ def zone_calls(calls, inputs, head, elements):
 
 # ---- calls on a book
 
-def lent_values(held):
-    temps = [7.0] if held is None else held.temps
-    numbers = [7] * 4 if held is None else [len(held.temps), held.count, held.used, held.last_version]
-    return [Floats(temps, MOST_NODES), *(Number(n) for n in numbers)]
-
-
 def begun(calls, inputs, head, elements):
     """The bytes of a book that calls have made, if its head is accepted; or one whose hours have the fixed rate."""
     try:
@@ -167,7 +101,20 @@ def begun(calls, inputs, head, elements):
             return [bytes(page), *held_left(held)]
 
         calls.compare('hem_append', [Bytes(head), buffer, *values, Bytes(conditions), version, *limits], [buffer, *values], appends)
+    for _ in range(inputs.of(0, 1, 2)):
+        made_up_append(calls, inputs, head, elements, bytes(page), held)
     return fixed_hours(inputs, zone, head[:end], elements) if inputs.chance(0.4) else bytes(page[:held.used])
+
+
+def made_up_append(calls, inputs, head, elements, page, held):
+    """An append to whatever a caller may hand in: another house's head, another state, count, used length and last version."""
+    temps = held.temps
+    if inputs.chance(0.3):
+        head, elements = inputs.head()
+        head = inputs.changed(head)
+        temps = inputs.temperatures(elements) if inputs.chance(0.8) else temps
+    given = books.Held(temps, *inputs.values_of(held.count, held.used, held.last_version, len(page)))
+    append_call(calls, head, page, given, inputs.changed(inputs.conditions(elements), 0.08), inputs.version(held.last_version), inputs.power_limits())
 
 
 def fixed_hours(inputs, zone, head, elements):
@@ -238,6 +185,24 @@ def turn(calls, inputs):
     weather_call(calls, inputs)
 
 
+def counted(answers):
+    return ', '.join(f'{number} {count}' for number, count in sorted(answers.items()))
+
+
+def missed(calls):
+    """What no call gave: of each function an acceptance and a refusal, each refusal's number, of an append also that of a full book, each reason and each load."""
+    given = set().union(*calls.answers.values())
+    yield from (f'{name} accepted' for name, answers in calls.answers.items() if not answers[0])
+    yield from (f'{name} refused' for name, answers in calls.answers.items() if len(answers) < 2)
+    if len(calls.answers) != FUNCTIONS:
+        yield f'all {FUNCTIONS} functions'
+    yield from (f'number {number}' for number in range(LAST_NUMBER + 1) if number not in given)
+    if not calls.answers['hem_append'][BOOK_FULL]:
+        yield f'number {BOOK_FULL} of hem_append'
+    yield from (f'reason {reason}' for reason in range(hours.NO_CHOICE, hours.WINDOWS_ENOUGH + 1) if not calls.reasons[reason])
+    yield from (f'load {load}' for load in range(hours.NEITHER, hours.COOLING + 1) if not calls.loads[load])
+
+
 def main():
     words = argparse.ArgumentParser(usage=__doc__)
     words.add_argument('library')
@@ -248,11 +213,13 @@ def main():
     print(f'random calls: --seed {asked.seed} --calls {asked.calls}', flush=True)
     while not calls.done():
         turn(calls, inputs)
+    constructed_calls(calls)
     for name, answers in sorted(calls.answers.items()):
-        print(f'{name}: {" ".join(f"{number} {count}," for number, count in sorted(answers.items())).rstrip(",")}')
-    one_sided = [name for name, answers in calls.answers.items() if not answers[0] or len(answers) < 2]
-    if asked.calls >= ENOUGH and (one_sided or len(calls.answers) != 15):
-        sys.exit(f'random_calls.py: of some functions no call was accepted, or none refused: {" ".join(one_sided)}')
+        print(f'{name}: {counted(answers)}')
+    print(f'reasons: {counted(calls.reasons)}; loads: {counted(calls.loads)}')
+    missing = list(missed(calls)) if asked.calls >= ENOUGH else []
+    if missing:
+        sys.exit(f'random_calls.py: no call gave {", ".join(missing)}')
     print(f'random calls: {calls.made}, of these {calls.different} different')
     sys.exit(calls.different > 0)
 
