@@ -23,7 +23,8 @@ def head(version=1, basis=0, length=None, limit=100, area=50.0, tb=5.0, h_ce=20.
 
 
 def conditions(hours=1.0, outside=5.0, gains=0.0, heating=20.0, cooling=25.0, ventilation=1.4e32, supply=5.0, code=1, rates=(0.5, 0.5)):
-    return struct.pack('>12d', hours, outside, gains, 0.0, 0.4, 0.4, heating, cooling, ventilation, supply, 0.0, 0.0) + bytes([code]) + struct.pack('>2d', *rates) + bytes(41)
+    floats = hours, outside, gains, 0.0, 0.4, 0.4, heating, cooling, ventilation, supply, 0.0, 0.0
+    return struct.pack('>12d', *floats) + bytes([code]) + struct.pack('>2d', *rates) + bytes(41)
 
 
 HEADS = {
