@@ -1,5 +1,4 @@
 -- What is claimed of the engine as a whole (specs/Engine.antt), from the theorems that prove it.
-use Rattle.std.proofs.Common.{refl}
 use Rattle.book.specs.Answers.{rust_types}
 use Rattle.hem_zone.specs.BookTypes.{c_types}
 use Rattle.solver.proofs.Worked.{worked}
@@ -14,6 +13,7 @@ use Rattle.book.proofs.WholeLists as Book
 use Rattle.book.proofs.Errors as BookErrors
 use Rattle.solver.proofs.Errors as SolverErrors
 use Rattle.zone.proofs.Claims.Errors as ZoneErrors
+use Rattle.zone.proofs.Claims.Why.{why_numbers}
 use Rattle.weather.proofs.Errors as WeatherErrors
 use Rattle.book.proofs.Rests.{rest_claims}
 use Rattle.book.proofs.PlantLimits.{plant_claims, limits_apart}
@@ -52,7 +52,7 @@ values =
       worked = worked;
       each_zone = each_zone;
       node_order = node_order;
-      why_numbers = record { of_reasons = refl; of_loads = refl };
+      why_numbers = why_numbers;
       sizes = record { shortest_head = shortest_length_lem; longest_head = longest_length_lem; element = element_size_lem; conditions = conditions_length_lem };
       house_p = record { claims = house_p_lem; hour_size = hour_of_p_length; rows = claim };
       weather = weather_claims;

@@ -17,7 +17,7 @@ use Rattle.zone.specs.Calls.State.{slots_of}
 use Rattle.zone.specs.Calls.Hour.{tested, demand}
 use Rattle.zone.specs.Calls.Why.{load_of, reason_for, why_of, why}
 use Rattle.zone.specs.Claims.Refusals.{DemandRefusal}
-use Rattle.zone.specs.Claims.Why.{reasons, Earliest, Windows, rate_found, Holds, RateTold, LoadTold, WhyAnswers, WhyRefuses}
+use Rattle.zone.specs.Claims.Why.{reasons, WhyNumbers, Earliest, Windows, rate_found, Holds, RateTold, LoadTold, WhyAnswers, WhyRefuses}
 use Rattle.zone.proofs.Laws.LoadTold.{load_told}
 use Rattle.zone.proofs.Laws.ReasonTold.{is_enough_lem, Named, named_of, found_alike}
 use Rattle.zone.proofs.Claims.Refusals.{demand_refusals}
@@ -89,3 +89,6 @@ module _ (c : Coefficients) (z : Zone) where
       go : (x : Result (Reason × Load)) → why c z s bytes ≡ x → RefusesOnly DemandRefusal x
       go (ok a) e = accepts a
       go (refused n i) e = refuses (of_demand n i (demand StillTaken c z s bytes) (demand_refusals c z StillTaken s bytes) ((why_refuses s bytes n i).0 e))
+
+pub why_numbers : WhyNumbers
+why_numbers = record { of_reasons = refl; of_loads = refl }
