@@ -64,7 +64,7 @@ extern "C" {
 #define HEM_LIMITS_ENTRY_VERSION 3
 #define HEM_LIMIT_MOST 1e7
 
-/* The stack, in bytes, that suffices for every call (40 KB were measured, by a take-up and
+/* The stack, in bytes, that suffices for every call (39 KB were measured, by a take-up and
    the calls that begin with one; bench/stack). */
 #define HEM_STACK 49152
 
