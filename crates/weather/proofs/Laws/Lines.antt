@@ -1,25 +1,24 @@
--- Laws of the lines of a file: from the pieces between its line feeds, and whether a piece is the last.
-use Rattle.std.proofs.Common.{ℕ, zero, suc, ◌+◌, ◌<◌, ◌≡◌, List, [], ◌∷◌, ◌++◌, length, drop, refl, sym, ap, ◌∙◌, subst, arith, length-append}
-use Rattle.std.specs.Prelude.{Option, Some, None, slice_get}
-use Rattle.std.specs.Option.{option_map}
-use Rattle.std.specs.Iterator.{Yields, SkipsThenYields}
-use Rattle.std.proofs.lemmas.Option.{none-some}
-use Rattle.std.proofs.lemmas.Iterator.{YieldsList}
-use Rattle.std.proofs.lemmas.Iterator.Consumers.{nth_from_yields_List, YieldsList-turn, YieldsList-end}
+-- Laws of the lines of a file: from the pieces between its line feeds, and from what stands behind so many of these.
+use Rattle.std.proofs.Common.{ℕ, zero, suc, ◌+◌, ◌-◌, ◌≤◌, ◌<◌, ◌≡◌, List, [], ◌∷◌, length, get_or, drop, refl, sym, ap, ◌∙◌, eqb, eq-eqb, ne_eqb, arith}
+use Rattle.std.specs.Prelude.{Some, None, slice_get}
+use Rattle.std.specs.List.{before_first, onto_first}
+use Rattle.std.proofs.lemmas.List.{drop_more}
+use Rattle.std.proofs.lemmas.List.Splits.{slice_split-cons_yes, slice_split-cons_no}
 use lib.Seq.{drop-nil}
 use Rattle.weather.specs.Numbers.{line_feed, header_lines}
 use Rattle.weather.specs.Split.{split}
 use Rattle.weather.specs.Lines.{without_return, ended, lines, line_of}
+use Rattle.weather.proofs.Laws.Split.{Pieces, split_some, split_once, split_never}
 
 -- ---- the lines, from the pieces
 
 -- an element is the first of what is left from it on
-pub at_drop : {A : Type 0} (l : List A) (n : ℕ) → slice_get l n ≡ slice_get (drop n l) 0
+at_drop : {A : Type 0} (l : List A) (n : ℕ) → slice_get l n ≡ slice_get (drop n l) 0
 at_drop {A} [] n = rw (drop-nil {A = A} n) refl
 at_drop (a ∷ l) zero = refl
 at_drop (a ∷ l) (suc n) = at_drop l n
 
-pub ended_drop : (n : ℕ) (ps : List (List ℕ)) → drop n (ended ps) ≡ ended (drop n ps)
+ended_drop : (n : ℕ) (ps : List (List ℕ)) → drop n (ended ps) ≡ ended (drop n ps)
 unfolding ended
 ended_drop zero ps = refl
 ended_drop (suc n) [] = refl
@@ -27,76 +26,63 @@ ended_drop (suc n) (p ∷ []) = rw (drop-nil {A = List ℕ} n) refl
 ended_drop (suc n) (p ∷ q ∷ ps) = ended_drop n (q ∷ ps)
 
 -- the line with n lines behind the headers before it
-pub line_from : (file : List ℕ) (n : ℕ) → line_of file (suc n) ≡ slice_get (ended (drop header_lines (split line_feed file))) n
+line_from : (file : List ℕ) (n : ℕ) → line_of file (suc n) ≡ slice_get (ended (drop header_lines (split line_feed file))) n
 unfolding line_of lines
 line_from file n = ap (λ (l : List (List ℕ)). slice_get l n) (ended_drop header_lines (split line_feed file))
 
-pub ended_none : (ps : List (List ℕ)) (n : ℕ) → slice_get ps n ≡ None → slice_get (ended ps) n ≡ None
-unfolding ended
-ended_none [] n e = refl
-ended_none (p ∷ []) n e = e
-ended_none (p ∷ q ∷ ps) zero e = absurd (none-some p (sym e))
-ended_none (p ∷ q ∷ ps) (suc n) e = ended_none (q ∷ ps) n e
+-- the line is the first of what is left from it on
+pub line_left : (file : List ℕ) (before : ℕ) → line_of file (suc before) ≡ slice_get (ended (drop before (drop header_lines (split line_feed file)))) 0
+line_left file before =
+    let pieces : List (List ℕ) = drop header_lines (split line_feed file) in
+    line_from file before ∙ at_drop (ended pieces) before ∙ ap (λ (l : List (List ℕ)). slice_get l 0) (ended_drop before pieces)
 
--- the last has no line feed
-pub ended_last : (ps : List (List ℕ)) (n : ℕ) → length ps ≡ n + 1 → slice_get (ended ps) n ≡ slice_get ps n
-unfolding ended
-ended_last [] n e = refl
-ended_last (p ∷ []) n e = refl
-ended_last (p ∷ q ∷ ps) zero e = absurd (omega (arith, e))
-ended_last (p ∷ q ∷ ps) (suc n) e = ended_last (q ∷ ps) n (omega (arith, e))
+-- ---- what stands behind lines of which so many are left to go over, and one byte further on
 
--- and each other has one
-pub ended_other : (ps : List (List ℕ)) (n : ℕ) (p : List ℕ) → n + 1 < length ps → slice_get ps n ≡ Some p → slice_get (ended ps) n ≡ Some (without_return p)
-unfolding ended
-ended_other [] n x l e = absurd (omega (arith, l))
-ended_other (p ∷ []) n x l e = absurd (omega (arith, l))
-ended_other (p ∷ q ∷ ps) zero x l e = let i : p ≡ x = cc in ap (λ (k : List ℕ). Some (without_return k)) i
-ended_other (p ∷ q ∷ ps) (suc n) x l e = ended_other (q ∷ ps) n x (omega (arith, l)) e
+-- a byte more at the start of the first piece, which is dropped
+drop_onto : (b left : ℕ) (pieces : List (List ℕ)) → Pieces pieces → 0 < left → drop left (onto_first b pieces) ≡ drop left pieces
+drop_onto b zero pieces s l = absurd (omega (arith, l))
+drop_onto b (suc n) pieces s l = rw s.are refl
 
--- ---- an item of an iterator, and whether one follows
+module _ (file : List ℕ) (place left : ℕ) (inside : place < length file) (more : 0 < left) where
+  pub behind_feed : get_or file place 0 ≡ line_feed → drop (left - 1) (split line_feed (drop (place + 1) file)) ≡ drop left (split line_feed (drop place file))
+  behind_feed h =
+      let later : List ℕ = drop (place + 1) file in
+      let one : left ≡ suc (left - 1) = omega (arith, more) in
+      rw (drop_more file place 0 inside, slice_split-cons_yes (λ b. eqb b line_feed) (get_or file place 0) later (eq-eqb _ _ h))
+      (sym (ap (λ (n : ℕ). drop n ([] ∷ split line_feed later)) one))
 
-module _ {S A : Type 0} (steps : S → Option A → S → Type 0) where
-  yields_more : (xs : List A) (s t u : S) (x : A) → Yields steps s xs t → steps t (Some x) u → Yields steps s (xs ++ x ∷ []) u
-  yields_more [] s t u x y e = (u, subst (λ (k : S). steps k (Some x) u) (sym y) e, refl)
-  yields_more (z ∷ xs) s t u x y e = (y.0, y.1, yields_more xs y.0 t u x y.2 e)
+  pub behind_other : (get_or file place 0 ≡ line_feed → ⊥) → drop left (split line_feed (drop (place + 1) file)) ≡ drop left (split line_feed (drop place file))
+  behind_other h =
+      let later : List ℕ = drop (place + 1) file in
+      rw (drop_more file place 0 inside, slice_split-cons_no (λ b. eqb b line_feed) (get_or file place 0) later (ne_eqb _ _ h))
+      (sym (drop_onto (get_or file place 0) left (split line_feed later) (split_some line_feed later) more))
 
-  module _ {B : Type 0} {v : A → B} {s : S} {all : List B} (road : YieldsList steps v s all) (n : ℕ) (x : A) (u : S) (ran : SkipsThenYields steps s n (Some x) u) where
-    pub item_is : slice_get all n ≡ Some (v x)
-    item_is = sym (nth_from_yields_List (Some x) u n ran road)
+-- ---- the line, from what stands behind the headers and from the line on
 
-    pub item_last : (r : Option A) (w : S) → r ≡ None → steps u r w → length all ≡ n + 1
-    item_last r w e k =
-        let y = yields_more ran.0 s ran.1.0 u x ran.1.1 ran.1.2 in
-        let m = (YieldsList-end road (ran.0 ++ x ∷ []) u y r w e k).1 in
-        omega (arith, m, ran.2, length-append ran.0 (x ∷ []))
+module _ (file : List ℕ) (line before : ℕ) (is : line ≡ suc before) where
+  line_at : (pieces : List (List ℕ)) → pieces ≡ drop before (drop header_lines (split line_feed file)) → line_of file line ≡ slice_get (ended pieces) 0
+  line_at pieces e = ap (line_of file) is ∙ line_left file before ∙ ap (λ (l : List (List ℕ)). slice_get (ended l) 0) (sym e)
 
-    pub item_other : (r : Option A) (w : S) (z : A) → r ≡ Some z → steps u r w → n + 1 < length all
-    item_other r w z e k =
-        let y = yields_more ran.0 s ran.1.0 u x ran.1.1 ran.1.2 in
-        let m = (YieldsList-turn road (ran.0 ++ x ∷ []) u y r w z e k).0 in
-        omega (arith, m, ran.2, length-append ran.0 (x ∷ []))
+  pub few_headers : drop header_lines (split line_feed file) ≡ [] → line_of file line ≡ None
+  unfolding ended
+  few_headers e = line_at [] (sym (ap (drop before) e ∙ drop-nil {A = List ℕ} before))
 
--- ---- what is found among the lines behind the headers
+  module _ (behind : List ℕ) (of_file : split line_feed behind ≡ drop header_lines (split line_feed file)) where
+    pub line_absent : drop before (split line_feed behind) ≡ [] → line_of file line ≡ None
+    unfolding ended
+    line_absent e = line_at [] (sym e ∙ ap (drop before) of_file)
 
-module _ (file : List ℕ) (line before : ℕ) (is : line ≡ suc before) {S A : Type 0} {steps : S → Option A → S → Type 0} {v : A → List ℕ} {s : S}
-    (road : YieldsList steps v s (drop header_lines (split line_feed file))) (found : Option A) (u : S) (ran : SkipsThenYields steps s before found u) where
-  line_at : line_of file line ≡ slice_get (ended (drop header_lines (split line_feed file))) before
-  line_at = ap (line_of file) is ∙ line_from file before
+    module _ (found : List ℕ) (of_lines : split line_feed found ≡ drop before (split line_feed behind)) where
+      from_found : line_of file line ≡ slice_get (ended (split line_feed found)) 0
+      from_found = line_at (split line_feed found) (of_lines ∙ ap (drop before) of_file)
 
-  pub line_absent : found ≡ None → line_of file line ≡ None
-  line_absent e =
-      let at : option_map v found ≡ slice_get (drop header_lines (split line_feed file)) before = nth_from_yields_List found u before ran road in
-      line_at ∙ ended_none (drop header_lines (split line_feed file)) before (sym at ∙ ap (option_map v) e)
+      module _ (first : List ℕ) (first_is : first ≡ before_first (λ b. eqb b line_feed) found) where
+        pub line_last : length found ≤ length first → line_of file line ≡ Some found
+        unfolding ended
+        line_last l = from_found ∙ rw (split_never line_feed found first first_is l) refl
 
-  module _ (x : A) (e : found ≡ Some x) (r : Option A) (w : S) (step : steps u r w) where
-    ran_to : SkipsThenYields steps s before (Some x) u
-    ran_to = subst (λ (o : Option A). SkipsThenYields steps s before o u) e ran
-
-    pub line_last : r ≡ None → line_of file line ≡ Some (v x)
-    line_last k =
-        line_at ∙ ended_last (drop header_lines (split line_feed file)) before (item_last steps road before x u ran_to r w k step) ∙ item_is steps road before x u ran_to
-
-    pub line_other : (z : A) → r ≡ Some z → line_of file line ≡ Some (without_return (v x))
-    line_other z k =
-        line_at ∙ ended_other (drop header_lines (split line_feed file)) before (v x) (item_other steps road before x u ran_to r w z k step) (item_is steps road before x u ran_to)
+        pub line_other : length first < length found → line_of file line ≡ Some (without_return first)
+        unfolding ended
+        line_other l =
+            let others = split_some line_feed (drop (length first + 1) found) in
+            from_found ∙ rw (split_once line_feed found first first_is l, others.are) refl

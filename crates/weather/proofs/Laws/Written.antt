@@ -8,7 +8,7 @@ use Rattle.weather.specs.Split.{split, without}
 use Rattle.weather.specs.Lines.{without_return, ended, line_of}
 use Rattle.weather.specs.Claims.{joined, separated, all_without}
 use Rattle.weather.proofs.Laws.Split.{split_first, split_last, split_some, without_next}
-use Rattle.weather.proofs.Laws.Lines.{at_drop, ended_drop, line_from}
+use Rattle.weather.proofs.Laws.Lines.{line_left}
 
 -- ---- lines
 
@@ -29,11 +29,7 @@ module _ (earlier : List (List ℕ)) (n : ℕ) (rest : List ℕ) (apart : all_wi
 
   -- the line with n lines behind the headers before it is the first of what is left
   first_left : line_of (joined earlier ++ rest) (suc n) ≡ slice_get (ended (drop (header_lines + n) (earlier ++ split line_feed rest))) 0
-  first_left =
-      line_from (joined earlier ++ rest) n
-      ∙ at_drop (ended (drop header_lines (split line_feed (joined earlier ++ rest)))) n
-      ∙ ap (λ (l : List (List ℕ)). slice_get l 0) (ended_drop n (drop header_lines (split line_feed (joined earlier ++ rest))))
-      ∙ ap (λ (l : List (List ℕ)). slice_get (ended l) 0) left
+  first_left = line_left (joined earlier ++ rest) n ∙ ap (λ (l : List (List ℕ)). slice_get (ended l) 0) left
 
   -- the line behind so many lines is the first of the rest
   pub line_behind : length earlier ≡ header_lines + n → line_of (joined earlier ++ rest) (suc n) ≡ slice_get (ended (split line_feed rest)) 0
