@@ -4,11 +4,15 @@ use crate::comparison::Comparison;
 use crate::failure::Failure;
 use crate::row::Row;
 use crate::same::same_book_state;
+use big_endian::byte_at;
 use book::{BookState, Reply};
 use zone::Zone;
 
-// The buffer that a call is lent is the end of a longer one.
-const ROOM: usize = 2048;
+// The buffer that a call on a book is lent is the end of a longer one: all of it, where a row gives more room.
+const ROOM: usize = 1024;
+
+// So is the converter's output.
+const OUTPUT_ROOM: usize = 2048;
 
 // Every byte of a buffer before a call.
 pub const FILLED: u8 = 85;
@@ -37,7 +41,16 @@ pub fn begin(row: &Row<'_>, seen: &mut Comparison<'_>) -> Result<(), Failure> {
     Ok(())
 }
 
-// With the entry that it writes.
+// Of the bytes as many, from a place on that may lie before the first of them. Where there is none a byte is 0.
+fn bytes_from(bytes: &[u8; ROOM], place: usize) -> [u8; ROOM] {
+    let mut taken = [0; ROOM];
+    for (i, byte) in taken.iter_mut().enumerate() {
+        *byte = byte_at(bytes, place.wrapping_add(i));
+    }
+    taken
+}
+
+// With the entry that it writes. What a row gives as more room than there is, the entry is looked for before its place.
 pub fn append(row: &Row<'_>, zone: &Zone, seen: &mut Comparison<'_>) -> Result<(), Failure> {
     let given = row.book_state();
     let mut buffer = [FILLED; ROOM];
@@ -52,14 +65,16 @@ pub fn append(row: &Row<'_>, zone: &Zone, seen: &mut Comparison<'_>) -> Result<(
     );
     let after = accepted(&given, &reply, &buffer)?;
     seen.book_state(&after);
-    seen.words(buffer[from..].get(given.used..after.used).unwrap_or(&[]));
+    let place = ROOM.wrapping_sub(row.room).wrapping_add(given.used);
+    let length = after.used.saturating_sub(given.used);
+    seen.words(bytes_from(&buffer, place).get(..length).unwrap_or(&[]));
     Ok(())
 }
 
 // A refused call leaves the output as it is, an accepted one the bytes behind the book.
 pub fn convert(row: &Row<'_>, seen: &mut Comparison<'_>) -> Result<(), Failure> {
-    let mut buffer = [FILLED; ROOM];
-    let from = ROOM.saturating_sub(row.room);
+    let mut buffer = [FILLED; OUTPUT_ROOM];
+    let from = OUTPUT_ROOM.saturating_sub(row.room);
     let answer = tools::convert(row.head, &mut buffer[from..]);
     match answer {
         Ok(converted) => {
@@ -67,6 +82,7 @@ pub fn convert(row: &Row<'_>, seen: &mut Comparison<'_>) -> Result<(), Failure> 
             if !is_filled(buffer.get(used..).unwrap_or(&[])) {
                 return Err(Failure::Changed);
             }
+            seen.compare_all();
             seen.value(converted.count as u64);
             seen.value(converted.used as u64);
             seen.words(buffer.get(from..used).unwrap_or(&[]));

@@ -1,5 +1,5 @@
 // A case: what the oracle was asked, and its answer. make_data.py has the layout in words.
-use crate::bad_record::BadRecord;
+use crate::comparison::Stored;
 use crate::hour::Hour;
 use crate::record::Record;
 use std::fmt;
@@ -20,18 +20,9 @@ pub enum Profile {
     Tight,
 }
 
+// The file numbers them from 0 in the order of `ALL`.
 impl Profile {
     pub const ALL: [Profile; 4] = [Profile::House, Profile::Mild, Profile::Edge, Profile::Tight];
-}
-
-// The file numbers them from 0 in the order of `ALL`.
-impl TryFrom<u8> for Profile {
-    type Error = BadRecord;
-
-    fn try_from(number: u8) -> Result<Self, BadRecord> {
-        let profile = Profile::ALL.get(usize::from(number)).copied();
-        profile.ok_or(BadRecord::Profile(number))
-    }
 }
 
 impl fmt::Display for Profile {
@@ -67,15 +58,13 @@ impl Operation {
     ];
 }
 
-// The file numbers them from 1 in the order of `ALL`.
-impl TryFrom<u8> for Operation {
-    type Error = BadRecord;
-
-    fn try_from(number: u8) -> Result<Self, BadRecord> {
+// The file numbers them from 1 in the order of `ALL`; what has another number is run as the last.
+impl From<u8> for Operation {
+    fn from(number: u8) -> Self {
         let operation = Operation::ALL
             .get(usize::from(number).wrapping_sub(1))
             .copied();
-        operation.ok_or(BadRecord::Operation(number))
+        operation.unwrap_or(Operation::HourStep3)
     }
 }
 
@@ -92,39 +81,50 @@ impl fmt::Display for Operation {
     }
 }
 
+// The line of the summary in which a case counts, from 1: profile by profile, operation by operation, by their numbers. There is
+// none of 0, which a profile has that is not listed, and none beyond the last.
+fn line_of(profile: u8, operation: u8) -> usize {
+    let profile = usize::from(profile);
+    if profile < Profile::ALL.len() {
+        profile * Operation::ALL.len() + usize::from(operation)
+    } else {
+        0
+    }
+}
+
 #[derive(Drop)]
 pub struct Case<'a> {
-    pub profile: Profile,
+    pub line: usize,
     pub operation: Operation,
     pub head: &'a [u8],
     pub hour: Hour<'a>,
     // The values, or the number of the refusal: the file holds no more of one, and any number may stand there. It is compared with
     // the engine's error's `number()`.
-    pub answer: Result<&'a [u8], u32>,
+    pub answer: Result<Stored<'a>, u32>,
 }
 
 impl<'a> Case<'a> {
-    pub fn read(bytes: &'a [u8]) -> Result<Self, BadRecord> {
+    pub fn read(bytes: &'a [u8]) -> Self {
         let mut record = Record::new(bytes);
-        let profile = Profile::try_from(record.take_u8()?)?;
-        let operation = Operation::try_from(record.take_u8()?)?;
-        let number = record.take_u8()?;
-        let head = record.take_counted()?;
-        let hour = Hour::read(&mut record)?;
-        let values = record.take_values()?;
+        let profile = record.take_u8();
+        let operation = record.take_u8();
+        let number = record.take_u8();
+        let head = record.take_counted();
+        let hour = Hour::read(&mut record);
+        let stored = Stored::read(record);
         // The data store acceptance as the number 0.
         let answer = if number == 0 {
-            Ok(values)
+            Ok(stored)
         } else {
             Err(u32::from(number))
         };
-        Ok(Case {
-            profile,
-            operation,
+        Case {
+            line: line_of(profile, operation),
+            operation: Operation::from(operation),
             head,
             hour,
             answer,
-        })
+        }
     }
 
     // The entry version of the hour, and its limits. An hour step names them; as an entry a demand's hour is version 2's, which

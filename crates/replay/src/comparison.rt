@@ -1,4 +1,5 @@
 // The values of an accepted call beside those that are stored, as 64-bit patterns.
+use crate::record::Record;
 use big_endian::{read_u32_be, read_u64_be};
 use book::BookState;
 use std::fmt;
@@ -20,6 +21,8 @@ pub enum Difference {
     Count,
     // Other values than those of the same call, or book, with the rate twice.
     Otherwise,
+    // Of a row the number that came, whatever differs: 0 where the call was accepted.
+    Came(u32),
 }
 
 // As one number, which the summary prints.
@@ -31,14 +34,49 @@ impl fmt::Display for Difference {
             Difference::Value(place) => write!(f, "{place}"),
             Difference::Count => write!(f, "999"),
             Difference::Otherwise => write!(f, "998"),
+            Difference::Came(number) => write!(f, "{number}"),
         }
     }
 }
 
+// The values of an accepted call as a record has them: how many, of eight bytes each, and its bytes from the first of them on.
+#[derive(Clone, Copy)]
+pub struct Stored<'a> {
+    pub count: usize,
+    pub bytes: &'a [u8],
+}
+
+impl<'a> Stored<'a> {
+    pub fn none() -> Self {
+        Stored {
+            count: 0,
+            bytes: &[],
+        }
+    }
+
+    // With what is left of a record.
+    pub fn read(mut record: Record<'a>) -> Self {
+        let count = usize::from(record.take_u16());
+        Stored {
+            count,
+            bytes: record.rest(),
+        }
+    }
+
+    // Counted from 0. Past the record's end every byte is 0.
+    pub fn value(self, place: usize) -> u64 {
+        read_u64_be(self.bytes, place.saturating_mul(8))
+    }
+}
+
+// So many values of a call are compared; of the converter's, which come behind a whole book, all are.
+const MOST_VALUES: usize = 160;
+
 // Takes the values that come, in their order.
 #[derive(Drop)]
 pub struct Comparison<'a> {
-    stored: &'a [u8],
+    stored: Stored<'a>,
+    most: usize,
     compared: usize,
     difference: Option<Difference>,
 }
@@ -49,25 +87,34 @@ fn same_value(a: u64, b: u64) -> bool {
 }
 
 impl<'a> Comparison<'a> {
-    // With values of eight bytes each.
-    pub fn new(stored: &'a [u8]) -> Self {
+    pub fn new(stored: Stored<'a>) -> Self {
         Comparison {
             stored,
+            most: MOST_VALUES,
             compared: 0,
             difference: None,
         }
     }
 
+    // However many values come.
+    pub fn compare_all(&mut self) {
+        self.most = usize::MAX;
+    }
+
     pub fn value(&mut self, came: u64) {
-        self.compared = self.compared.saturating_add(1);
-        match self.stored.split_at_checked(8) {
-            Some((value, rest)) => {
-                self.stored = rest;
-                if !same_value(came, read_u64_be(value, 0)) {
-                    self.differs(Difference::Value(self.compared));
-                }
+        if self.compared < self.most {
+            if self.compared < self.stored.count {
+                self.compare(self.compared, came);
+            } else {
+                self.differs(Difference::Count);
             }
-            None => self.differs(Difference::Count),
+            self.compared = self.compared.saturating_add(1);
+        }
+    }
+
+    fn compare(&mut self, place: usize, came: u64) {
+        if !same_value(came, self.stored.value(place)) {
+            self.differs(Difference::Value(place.saturating_add(1)));
         }
     }
 
@@ -75,13 +122,15 @@ impl<'a> Comparison<'a> {
         self.difference.get_or_insert(difference);
     }
 
-    // The first difference, once every value has come.
-    pub fn difference(self) -> Option<Difference> {
-        if self.stored.is_empty() {
-            self.difference
-        } else {
-            self.difference.or(Some(Difference::Count))
+    // The first difference, once every value has come. Where more are stored, each of them is compared with 0.
+    pub fn difference(mut self) -> Option<Difference> {
+        for place in self.compared..self.stored.count {
+            self.compare(place, 0);
         }
+        if self.compared < self.stored.count {
+            self.differs(Difference::Count);
+        }
+        self.difference
     }
 
     fn floats(&mut self, xs: &[f64]) {

@@ -1,26 +1,40 @@
 // Counts of what was run, by kind and by number, and of what differed.
 use crate::case::{Case, Operation};
-use crate::comparison::Difference;
+use crate::comparison::{Difference, Stored};
 use crate::row::Row;
-use big_endian::read_u64_be;
 use std::fmt;
 
 // Behind a demand's five values: its reason, counted from 1, and its load.
-const REASON: usize = 40;
+const REASON: usize = 5;
 
-const LOAD: usize = 48;
+const LOAD: usize = 6;
 
-// In book_torture too: to share one line, a crate with a line in crates.txt, a lib.rt and two imports, since `big_endian` counts nothing.
+// In house_books too, of which this program would need one line and no house.
 fn count(n: &mut u64) {
     *n = n.saturating_add(1);
 }
 
-// The cases of a profile and an operation.
+// Lines of the summary: four profiles with six operations each.
+const LINES: usize = 24;
+
+// The cases of a line.
 #[derive(Clone, Copy, Default)]
 pub struct Counts {
     cases: u64,
     accepted: u64,
     equal: u64,
+}
+
+impl Counts {
+    fn count(&mut self, accepted: bool, equal: bool) {
+        count(&mut self.cases);
+        if accepted {
+            count(&mut self.accepted);
+        }
+        if equal {
+            count(&mut self.equal);
+        }
+    }
 }
 
 impl fmt::Display for Counts {
@@ -105,32 +119,27 @@ impl fmt::Display for Numbers {
 pub struct CaseTally {
     pub differences: Differences,
     pub numbers: Numbers,
-    // By profile and by operation.
-    pub counts: [[Counts; 6]; 4],
+    // By the line of the summary.
+    pub counts: [Counts; LINES],
     // Of accepted demands, by reason and by load.
     pub reasons: [[u64; 3]; 6],
 }
 
 impl CaseTally {
     pub fn count(&mut self, case: &Case<'_>, difference: Option<Difference>) {
-        let counts = &mut self.counts[case.profile as usize][case.operation as usize];
-        count(&mut counts.cases);
-        if case.answer.is_ok() {
-            count(&mut counts.accepted);
-        }
-        if difference.is_none() {
-            count(&mut counts.equal);
+        if let Some(counts) = self.counts.get_mut(case.line.wrapping_sub(1)) {
+            counts.count(case.answer.is_ok(), difference.is_none());
         }
         self.numbers.count(case.answer.err().unwrap_or(0));
         self.differences.count(difference);
-        if let (Operation::Demand, Ok(values)) = (case.operation, case.answer) {
-            self.count_reason(values);
+        if let (Operation::Demand, Ok(stored)) = (case.operation, case.answer) {
+            self.count_reason(stored);
         }
     }
 
-    fn count_reason(&mut self, values: &[u8]) {
-        let reason = read_u64_be(values, REASON) as usize;
-        let load = read_u64_be(values, LOAD) as usize;
+    fn count_reason(&mut self, stored: Stored<'_>) {
+        let reason = stored.value(REASON) as usize;
+        let load = stored.value(LOAD) as usize;
         if let Some(loads) = self.reasons.get_mut(reason.wrapping_sub(1))
             && let Some(n) = loads.get_mut(load)
         {
@@ -148,7 +157,12 @@ pub struct RowTally {
 
 impl RowTally {
     pub fn count(&mut self, row: &Row<'_>, difference: Option<Difference>) {
-        count(&mut self.calls[row.call as usize]);
+        if let Some(n) = self
+            .calls
+            .get_mut(usize::from(row.call_number).wrapping_sub(1))
+        {
+            count(n);
+        }
         self.numbers
             .count(row.answer.err().map_or(0, |refusal| refusal.number));
         self.differences.count(difference);

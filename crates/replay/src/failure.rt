@@ -43,6 +43,17 @@ impl Failure {
         Failure::Refused(Refusal { number, index })
     }
 
+    // As a row stores it: without an index where it is none of the engine's.
+    pub fn refusal(self) -> Refusal {
+        match self {
+            Failure::Refused(refusal) => refusal,
+            Failure::RefusedOtherwise | Failure::Changed => Refusal {
+                number: self.number(),
+                index: 0,
+            },
+        }
+    }
+
     // The number by which the summary names it: beside the refusals' own numbers two that none of them has.
     pub fn number(self) -> u32 {
         match self {

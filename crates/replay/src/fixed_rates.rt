@@ -2,7 +2,7 @@
 // laid beside the same hour with the rate twice, whose answer is the oracle's.
 use crate::book_calls::{self, FILLED, is_filled};
 use crate::case::Case;
-use crate::comparison::{Comparison, Difference};
+use crate::comparison::{Comparison, Difference, Stored};
 use crate::counts::Differences;
 use crate::failure::Failure;
 use crate::hour::Hour;
@@ -50,7 +50,7 @@ fn other_than(wanted: Refusal, answer: Result<(), Failure>) -> Option<Difference
 
 // Of demand, update and the hour step of each version.
 fn calls(zone: &Zone, hour: &Hour<'_>) -> Option<Difference> {
-    let mut unseen = Comparison::new(&[]);
+    let mut unseen = Comparison::new(Stored::none());
     let answers = [
         zone_calls::demand(zone, hour).map(|_| ()),
         zone_calls::update(zone, hour, &mut unseen),

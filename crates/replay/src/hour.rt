@@ -1,5 +1,4 @@
 // The state before an hour, its conditions and the call's own floats, as a case and a row store them.
-use crate::bad_record::BadRecord;
 use crate::record::Record;
 use big_endian::read_f64s_be;
 use zone::{Limits, State};
@@ -15,16 +14,16 @@ pub struct Hour<'a> {
 
 impl<'a> Hour<'a> {
     // As many nodes as there are temperatures.
-    pub fn read(record: &mut Record<'a>) -> Result<Self, BadRecord> {
-        let temps = record.take_values()?;
-        let conditions = record.take_counted()?;
-        let own = [record.take_f64()?, record.take_f64()?, record.take_f64()?];
-        Ok(Hour {
-            nodes: temps.len() / 8,
+    pub fn read(record: &mut Record<'a>) -> Self {
+        let (nodes, temps) = record.take_values();
+        let conditions = record.take_counted();
+        let own = [record.take_f64(), record.take_f64(), record.take_f64()];
+        Hour {
+            nodes,
             temps,
             conditions,
             own,
-        })
+        }
     }
 
     // Not read by the engine, which is what is tested.

@@ -5,7 +5,6 @@
 // a book and its conversion, each with its number and index or its answer. How the data were made: make_data.py.
 #![tactic(auto)]
 
-mod bad_record;
 mod book_calls;
 mod case;
 mod cases;
@@ -24,23 +23,23 @@ mod row;
 mod same;
 mod zone_calls;
 
-use anyhow::Result;
-use std::fs;
+use std::fs::File;
+use std::io;
 use std::rt::Files;
 
-fn replay_cases(rt: &(impl Files + Alloc + Print)) -> Result<()> {
-    let bytes = fs::read(rt, "cases")?;
-    let (tally, fixed_rates) = cases::check_cases(&bytes)?;
-    Ok(report::print_cases(rt, &tally, &fixed_rates)?)
+fn replay_cases(rt: &(impl Files + Print)) -> io::Result<()> {
+    let mut file = File::open(rt, "cases")?;
+    let (tally, fixed_rates) = cases::check_cases(&mut file)?;
+    report::print_cases(rt, &tally, &fixed_rates)
 }
 
-fn replay_refusals(rt: &(impl Files + Alloc + Print)) -> Result<()> {
-    let bytes = fs::read(rt, "refusals")?;
-    let tally = refusals::check_rows(&bytes)?;
-    Ok(report::print_rows(rt, &tally)?)
+fn replay_refusals(rt: &(impl Files + Print)) -> io::Result<()> {
+    let mut file = File::open(rt, "refusals")?;
+    let tally = refusals::check_rows(&mut file)?;
+    report::print_rows(rt, &tally)
 }
 
-fn main(rt: HostRuntime) -> Result<()> {
+fn main(rt: HostRuntime) -> io::Result<()> {
     replay_cases(&rt)?;
     replay_refusals(&rt)
 }

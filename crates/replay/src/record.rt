@@ -1,5 +1,4 @@
-// A record, read from its front.
-use crate::bad_record::BadRecord;
+// A record, read from its front: past its end every byte is 0, and a part is empty where it is not all there.
 use big_endian::{byte_at, read_f64_be, read_u16_be, read_u32_be, read_u64_be};
 
 #[derive(Drop)]
@@ -12,42 +11,53 @@ impl<'a> Record<'a> {
         Record { rest: bytes }
     }
 
-    pub fn take(&mut self, count: usize) -> Result<&'a [u8], BadRecord> {
-        let (taken, rest) = self.rest.split_at_checked(count).ok_or(BadRecord::CutOff)?;
+    // What there is of the next `count` bytes.
+    fn take_present(&mut self, count: usize) -> &'a [u8] {
+        let (taken, rest) = self.rest.split_at(count.min(self.rest.len()));
         self.rest = rest;
-        Ok(taken)
+        taken
+    }
+
+    pub fn take(&mut self, count: usize) -> &'a [u8] {
+        let taken = self.take_present(count);
+        if taken.len() == count { taken } else { &[] }
     }
 
     // Five functions of a line each: one for all would be handed what it reads by.
-    pub fn take_u8(&mut self) -> Result<u8, BadRecord> {
-        Ok(byte_at(self.take(1)?, 0))
+    pub fn take_u8(&mut self) -> u8 {
+        byte_at(self.take_present(1), 0)
     }
 
-    pub fn take_u16(&mut self) -> Result<u16, BadRecord> {
-        Ok(read_u16_be(self.take(2)?, 0))
+    pub fn take_u16(&mut self) -> u16 {
+        read_u16_be(self.take_present(2), 0)
     }
 
-    pub fn take_u32(&mut self) -> Result<u32, BadRecord> {
-        Ok(read_u32_be(self.take(4)?, 0))
+    pub fn take_u32(&mut self) -> u32 {
+        read_u32_be(self.take_present(4), 0)
     }
 
-    pub fn take_u64(&mut self) -> Result<u64, BadRecord> {
-        Ok(read_u64_be(self.take(8)?, 0))
+    pub fn take_u64(&mut self) -> u64 {
+        read_u64_be(self.take_present(8), 0)
     }
 
-    pub fn take_f64(&mut self) -> Result<f64, BadRecord> {
-        Ok(read_f64_be(self.take(8)?, 0))
+    pub fn take_f64(&mut self) -> f64 {
+        read_f64_be(self.take_present(8), 0)
     }
 
     // Bytes behind their count in two bytes.
-    pub fn take_counted(&mut self) -> Result<&'a [u8], BadRecord> {
-        let count = self.take_u16()?;
+    pub fn take_counted(&mut self) -> &'a [u8] {
+        let count = self.take_u16();
         self.take(usize::from(count))
     }
 
-    // Floats or numbers of eight bytes behind their count.
-    pub fn take_values(&mut self) -> Result<&'a [u8], BadRecord> {
-        let count = self.take_u16()?;
-        self.take(8 * usize::from(count))
+    // Floats or numbers of eight bytes behind their count: the count, and what there is of them.
+    pub fn take_values(&mut self) -> (usize, &'a [u8]) {
+        let count = usize::from(self.take_u16());
+        (count, self.take_present(8 * count))
+    }
+
+    // What is left of the record.
+    pub fn rest(self) -> &'a [u8] {
+        self.rest
     }
 }

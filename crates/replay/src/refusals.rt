@@ -1,11 +1,12 @@
 // The rows made from the order of tests (Specification, Order of tests): each call's number and index, and what an accepted one gives.
-use crate::bad_record::BadRecord;
-use crate::comparison::{Comparison, Difference};
+use crate::comparison::{Comparison, Difference, Stored};
 use crate::counts::RowTally;
 use crate::failure::Failure;
-use crate::records::Records;
+use crate::records::{MOST_RECORDS, ROOM, next_record};
 use crate::row::{Call, Row};
 use crate::{book_calls, zone_calls};
+use std::io;
+use std::io::Read;
 
 fn run(row: &Row<'_>, seen: &mut Comparison<'_>) -> Result<(), Failure> {
     let hour = &row.hour;
@@ -46,23 +47,30 @@ fn run(row: &Row<'_>, seen: &mut Comparison<'_>) -> Result<(), Failure> {
     }
 }
 
-// That of cases.rt, but that a row's refusal has an index too: one for both would be passed how a failure and an answer are compared.
+// That of cases.rt, but that a row's refusal has an index too, and that only the number is told that came: one for both would be passed how a failure and an
+// answer are compared.
 fn difference(row: &Row<'_>) -> Option<Difference> {
-    let mut seen = Comparison::new(row.answer.unwrap_or(&[]));
+    let mut seen = Comparison::new(row.answer.unwrap_or(Stored::none()));
     match (run(row, &mut seen), row.answer) {
-        (Ok(()), Ok(_)) => seen.difference(),
-        (Ok(()), Err(_)) => Some(Difference::Accepted),
-        (Err(Failure::Refused(came)), Err(refusal)) if came == refusal => None,
-        (Err(failure), _) => Some(Difference::Number(failure.number())),
+        (Ok(()), Ok(_)) => seen.difference().map(|_| Difference::Came(0)),
+        (Ok(()), Err(_)) => Some(Difference::Came(0)),
+        (Err(failure), Err(refusal)) if failure.refusal() == refusal => None,
+        (Err(failure), _) => Some(Difference::Came(failure.number())),
     }
 }
 
 // The loop of check_cases, over rows: one for both would be passed how to read and how to count, and be no shorter.
-pub fn check_rows(bytes: &[u8]) -> Result<RowTally, BadRecord> {
+pub fn check_rows(file: &mut impl Read) -> io::Result<RowTally> {
     let mut tally = RowTally::default();
-    for record in Records::new(bytes) {
-        let row = Row::read(record)?;
-        tally.count(&row, difference(&row));
+    let mut buffer = [0; ROOM];
+    for _ in 0..MOST_RECORDS {
+        match next_record(file, &mut buffer)? {
+            None => break,
+            Some(record) => {
+                let row = Row::read(record);
+                tally.count(&row, difference(&row));
+            }
+        }
     }
     Ok(tally)
 }

@@ -17,9 +17,11 @@ const REASONS: [&str; 6] = [
 
 // Profile by profile, operation by operation.
 fn print_table(rt: &impl Print, tally: &CaseTally) -> io::Result<()> {
-    for profile in Profile::ALL {
-        for operation in Operation::ALL {
-            let counts = &tally.counts[profile as usize][operation as usize];
+    for (profile, lines) in Profile::ALL
+        .iter()
+        .zip(tally.counts.chunks_exact(Operation::ALL.len()))
+    {
+        for (operation, counts) in Operation::ALL.iter().zip(lines) {
             println!(rt; "{profile:<7}{operation:<21}{counts}")?;
         }
     }

@@ -1,5 +1,5 @@
 // A row of the refusals: a call, and the answer that the order of tests gives it (Specification, Order of tests). make_data.py has the layout in words.
-use crate::bad_record::BadRecord;
+use crate::comparison::Stored;
 use crate::hour::Hour;
 use crate::record::Record;
 use crate::refusal::Refusal;
@@ -45,13 +45,11 @@ impl Call {
     ];
 }
 
-// The file numbers them from 1 in the order of `ALL`.
-impl TryFrom<u8> for Call {
-    type Error = BadRecord;
-
-    fn try_from(number: u8) -> Result<Self, BadRecord> {
+// The file numbers them from 1 in the order of `ALL`; of what has another number the zone is tested.
+impl From<u8> for Call {
+    fn from(number: u8) -> Self {
         let call = Call::ALL.get(usize::from(number).wrapping_sub(1)).copied();
-        call.ok_or(BadRecord::Call(number))
+        call.unwrap_or(Call::ZoneTest)
     }
 }
 
@@ -80,21 +78,21 @@ impl fmt::Display for Call {
 #[derive(Clone, Copy, Debug, PartialEq, Eq)]
 pub enum Change {
     Count(u16),
-    FirstTreatments(u16),
+    FirstTreatments(u8),
     NoUsefulArea,
     NoSecondArea,
 }
 
 impl Change {
-    // A column of the file and the one behind it: the numbers are the file's, 0 for no change, and two changes take the value.
-    fn read(number: u8, value: u16) -> Result<Option<Self>, BadRecord> {
+    // A column of the file and the one behind it: the numbers are the file's, any other stands for no change. Two changes take the
+    // value, one of them its low byte.
+    fn read(number: u8, value: u16) -> Option<Self> {
         match number {
-            0 => Ok(None),
-            1 => Ok(Some(Change::Count(value))),
-            2 => Ok(Some(Change::FirstTreatments(value))),
-            3 => Ok(Some(Change::NoUsefulArea)),
-            4 => Ok(Some(Change::NoSecondArea)),
-            _ => Err(BadRecord::Change(number)),
+            1 => Some(Change::Count(value)),
+            2 => Some(Change::FirstTreatments((value % 256) as u8)),
+            3 => Some(Change::NoUsefulArea),
+            4 => Some(Change::NoSecondArea),
+            _ => None,
         }
     }
 
@@ -111,6 +109,8 @@ impl Change {
 
 #[derive(Drop)]
 pub struct Row<'a> {
+    // As the file has it.
+    pub call_number: u8,
     pub call: Call,
     // Of a take-up, a question and a conversion the whole book.
     pub head: &'a [u8],
@@ -123,37 +123,38 @@ pub struct Row<'a> {
     pub version: u64,
     last_version: u64,
     // The values of an accepted call.
-    pub answer: Result<&'a [u8], Refusal>,
+    pub answer: Result<Stored<'a>, Refusal>,
 }
 
 impl<'a> Row<'a> {
-    pub fn read(bytes: &'a [u8]) -> Result<Self, BadRecord> {
+    pub fn read(bytes: &'a [u8]) -> Self {
         let mut record = Record::new(bytes);
-        let call = Call::try_from(record.take_u8()?)?;
-        let number = u32::from(record.take_u8()?);
-        let index = usize::from(record.take_u16()?);
-        let head_length = record.take_u32()? as usize;
-        let head = record.take(head_length)?;
-        let change = Change::read(record.take_u8()?, record.take_u16()?)?;
-        let nodes = usize::from(record.take_u16()?);
+        let call_number = record.take_u8();
+        let number = u32::from(record.take_u8());
+        let index = usize::from(record.take_u16());
+        let head_length = record.take_u32() as usize;
+        let head = record.take(head_length);
+        let change = Change::read(record.take_u8(), record.take_u16());
+        let nodes = usize::from(record.take_u16());
         let hour = Hour {
             nodes,
-            ..Hour::read(&mut record)?
+            ..Hour::read(&mut record)
         };
-        let count = record.take_u32()? as usize;
-        let used = record.take_u32()? as usize;
-        let room = record.take_u32()? as usize;
-        let version = record.take_u64()?;
-        let last_version = record.take_u64()?;
-        let values = record.take_values()?;
-        // The data store acceptance as the number 0.
-        let answer = if number == 0 {
-            Ok(values)
+        let count = record.take_u32() as usize;
+        let used = record.take_u32() as usize;
+        let room = record.take_u32() as usize;
+        let version = record.take_u64();
+        let last_version = record.take_u64();
+        let stored = Stored::read(record);
+        // The data store acceptance as the number 0, with the index 0: with another no call answers so.
+        let answer = if number == 0 && index == 0 {
+            Ok(stored)
         } else {
             Err(Refusal { number, index })
         };
-        Ok(Row {
-            call,
+        Row {
+            call_number,
+            call: Call::from(call_number),
             head,
             change,
             hour,
@@ -163,7 +164,7 @@ impl<'a> Row<'a> {
             version,
             last_version,
             answer,
-        })
+        }
     }
 
     // What a call on a book is given.

@@ -1,6 +1,5 @@
 // Whether what a call hands back is what it was given, bit by bit. No derived equality: by that a NaN is unlike itself, and zeros
-// of either sign are equal. In book_torture too: `big_endian` knows no state, no crate of the engine compares two, and one
-// that knows them would be a line in crates.txt, a lib.rt and imports on both sides for two conjunctions.
+// of either sign are equal. In house_books too, of which this program would need two conjunctions and no house.
 use big_endian::same_floats;
 use book::BookState;
 use zone::State;
