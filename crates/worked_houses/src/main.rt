@@ -16,6 +16,7 @@ mod answers;
 mod bytes;
 mod chilled_ceiling;
 mod convection;
+mod failure;
 mod fixed_rate;
 mod house_p;
 mod limits;
@@ -35,7 +36,7 @@ use house_p::{
 use weather_lines::{fields, house, lines};
 use why::{bases, close, coarse, found, lost_load, order, reasons, refusals, temperatures};
 
-fn print_house_p(rt: &impl Print) -> anyhow::Result<()> {
+fn print_house_p(rt: &impl Print) -> failure::Result<()> {
     table::heading(rt, "House P")?;
     rows::print_zone(rt)?;
     surface_convection::print_h_ci(rt)?;
@@ -45,7 +46,7 @@ fn print_house_p(rt: &impl Print) -> anyhow::Result<()> {
     hours_asked::print_questions(rt)
 }
 
-fn print_chilled_ceiling(rt: &impl Print) -> anyhow::Result<()> {
+fn print_chilled_ceiling(rt: &impl Print) -> failure::Result<()> {
     let head = room::head();
     table::heading(rt, "\nA room with a chilled ceiling")?;
     let room = hours::print_start(rt, &head)?;
@@ -58,7 +59,7 @@ fn print_chilled_ceiling(rt: &impl Print) -> anyhow::Result<()> {
     questions::print_questions(rt, &room.zone)
 }
 
-fn print_convection(rt: &impl Print) -> anyhow::Result<()> {
+fn print_convection(rt: &impl Print) -> failure::Result<()> {
     table::heading(
         rt,
         "\nRooms of six surfaces, and what their air gives to them by direction of heat flow",
@@ -66,7 +67,7 @@ fn print_convection(rt: &impl Print) -> anyhow::Result<()> {
     surface_rows::print_rooms(rt)
 }
 
-fn print_why(rt: &impl Print) -> anyhow::Result<()> {
+fn print_why(rt: &impl Print) -> failure::Result<()> {
     table::heading(
         rt,
         "\nA room with windows, and why its hours have their rate and their load",
@@ -82,14 +83,14 @@ fn print_why(rt: &impl Print) -> anyhow::Result<()> {
     refusals::print_refusals(rt)
 }
 
-fn print_weather(rt: &impl Print) -> anyhow::Result<()> {
+fn print_weather(rt: &impl Print) -> failure::Result<()> {
     table::heading(rt, "\nThe weather of a file's line, and a house in it")?;
     fields::print_fields(rt)?;
     lines::print_lines(rt)?;
     house::print_house(rt)
 }
 
-fn print_fixed_rate(rt: &impl Print) -> anyhow::Result<()> {
+fn print_fixed_rate(rt: &impl Print) -> failure::Result<()> {
     table::heading(
         rt,
         "\nHours with the fixed rate, rate code 0: refused, taken up and converted",
@@ -102,7 +103,7 @@ fn print_fixed_rate(rt: &impl Print) -> anyhow::Result<()> {
     not_converted::print_not_converted(rt)
 }
 
-fn main(rt: HostRuntime) -> anyhow::Result<()> {
+fn main(rt: HostRuntime) -> failure::Result<()> {
     print_house_p(&rt)?;
     print_chilled_ceiling(&rt)?;
     print_convection(&rt)?;

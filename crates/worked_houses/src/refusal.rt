@@ -1,6 +1,5 @@
 // What the engine refuses.
 use book::BookError;
-use std::error::Error;
 use std::fmt::{self, Display};
 use tools::{ConvertError, QuestionError};
 use weather::WeatherError;
@@ -57,8 +56,6 @@ impl Display for Refusal {
         write!(f, "{:blanks$}refused {number} at {index}", "")
     }
 }
-
-impl Error for Refusal {}
 
 // One for each error, as of replay's `Failure`: `?` converts in one step. A shared type could not print in the rows' columns, and a type of the
 // program around it would need them again.

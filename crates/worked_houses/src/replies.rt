@@ -20,7 +20,7 @@ pub const MADE_UP: Counts = Counts {
     last_version: 77,
 };
 
-// As `made_up` of book_torture: for both there would be a crate that knows `BookState`, a line in crates.txt, a lib.rt and two imports, for one value.
+// As `made_up` of house_books, of which this program would need one value and no house.
 pub fn nothing() -> BookState {
     BookState {
         state: State {

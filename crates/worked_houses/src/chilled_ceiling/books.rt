@@ -1,6 +1,7 @@
 // The hours' entries in books: what differs between the versions, and that a book never passes back.
 use crate::chilled_ceiling::differing::{TEMPERATURES, differing, temperature_bytes};
 use crate::chilled_ceiling::room::{CONDITIONS, ENTRY, HEAD, Room, cold_hour, warm_hour};
+use crate::failure;
 use crate::limits::Meeting;
 use crate::refusal::Cause;
 use crate::replies::{Counts, taken_up};
@@ -124,7 +125,7 @@ fn print_order(rt: &impl Print, zone: &ZoneRead) -> io::Result<()> {
     counts_of(2, 2).accepted().print(rt, taken_up(&book))
 }
 
-pub fn print_books(rt: &impl Print, room: &Room) -> anyhow::Result<()> {
+pub fn print_books(rt: &impl Print, room: &Room) -> failure::Result<()> {
     print_warm(rt, room)?;
     print_cold(rt, room)?;
     print_order(rt, &room.zone)?;

@@ -2,6 +2,7 @@
 use crate::chilled_ceiling::room::{
     CONDITIONS, COOLING_SETPOINT, HEATING_SETPOINT, Room, cold_hour, warm_hour,
 };
+use crate::failure;
 use crate::limits::Meeting;
 use crate::refusal::Refusal;
 use crate::replies::number_of;
@@ -15,7 +16,7 @@ pub const KEPT: f64 = 1e-9;
 
 const MISSED: f64 = 0.1;
 
-pub fn print_start<'a>(rt: &impl Print, head: &'a [u8]) -> anyhow::Result<Room<'a>> {
+pub fn print_start<'a>(rt: &impl Print, head: &'a [u8]) -> failure::Result<Room<'a>> {
     let zone = ZoneRead::read(head)?;
     let start = zone.start_up();
     row(rt, "start-up, refusal", number_of(&start), 0)?;
@@ -38,7 +39,7 @@ impl<'a> Hour<'a> {
         rt: &impl Print,
         room: &'a Room<'a>,
         conditions: [u8; CONDITIONS],
-    ) -> anyhow::Result<Hour<'a>> {
+    ) -> failure::Result<Hour<'a>> {
         let asked = room.zone.demand(room.start, &conditions)?;
         shown(rt, "  heating, kWh", asked.space_heat_demand)?;
         shown(rt, "  cooling, kWh", asked.space_cool_demand)?;
@@ -72,7 +73,7 @@ impl Hour<'_> {
     }
 
     // The state after the hour.
-    pub fn meet(&self, rt: &impl Print, meeting: Meeting) -> anyhow::Result<State> {
+    pub fn meet(&self, rt: &impl Print, meeting: Meeting) -> failure::Result<State> {
         let Room { zone, start } = self.room;
         let step = zone.hour_step(*start, &self.conditions, meeting);
         let (demand, _) = step.answer.map_err(Refusal::from)?;
@@ -94,7 +95,7 @@ impl Hour<'_> {
     }
 
     // The temperature under control after the hour in this version, printed with its distance from a setpoint.
-    fn print_met(&self, rt: &impl Print, version: u64, setpoint: f64) -> anyhow::Result<f64> {
+    fn print_met(&self, rt: &impl Print, version: u64, setpoint: f64) -> failure::Result<f64> {
         println!(rt; "met in version {version}")?;
         let after = self.meet(rt, Meeting::unlimited(version))?;
         let temperature = self.room.zone.operative(after)?;
@@ -113,7 +114,7 @@ fn print_kept(rt: &impl Print, temperature: f64, setpoint: f64) -> io::Result<()
     holds(rt, "  the room keeps the setpoint", kept)
 }
 
-fn print_warm(rt: &impl Print, room: &Room) -> anyhow::Result<()> {
+fn print_warm(rt: &impl Print, room: &Room) -> failure::Result<()> {
     println!(rt;
         "a warm hour, cooling setpoint 24, heating fraction 0.3, cooling fraction 0.7: asked"
     )?;
@@ -129,7 +130,7 @@ fn print_warm(rt: &impl Print, room: &Room) -> anyhow::Result<()> {
     Ok(())
 }
 
-fn print_cold(rt: &impl Print, room: &Room) -> anyhow::Result<()> {
+fn print_cold(rt: &impl Print, room: &Room) -> failure::Result<()> {
     println!(rt; "a cold hour, heating setpoint 21: asked")?;
     let hour = Hour::ask(rt, room, cold_hour())?;
     let one = hour.print_met(rt, 1, HEATING_SETPOINT)?;
@@ -139,7 +140,7 @@ fn print_cold(rt: &impl Print, room: &Room) -> anyhow::Result<()> {
     Ok(())
 }
 
-pub fn print_hours(rt: &impl Print, room: &Room) -> anyhow::Result<()> {
+pub fn print_hours(rt: &impl Print, room: &Room) -> failure::Result<()> {
     print_warm(rt, room)?;
     print_cold(rt, room)
 }

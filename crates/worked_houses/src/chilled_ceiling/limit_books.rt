@@ -3,6 +3,7 @@
 use crate::chilled_ceiling::differing::differing;
 use crate::chilled_ceiling::limit_entries::{BOOK, COOLING, COUNTS, HEATING, print_entries};
 use crate::chilled_ceiling::room::{ENTRY, HEAD, LIMITED_ENTRY, Room, warm_hour};
+use crate::failure;
 use crate::limits::{MOST, Meeting};
 use crate::refusal::Cause;
 use crate::replies::{Counts, Expected, MADE_UP, taken_up};
@@ -111,7 +112,7 @@ fn print_behind(rt: &impl Print, zone: &ZoneRead) -> io::Result<()> {
     print_rests(rt, &book)
 }
 
-pub fn print_books(rt: &impl Print, room: &Room) -> anyhow::Result<()> {
+pub fn print_books(rt: &impl Print, room: &Room) -> failure::Result<()> {
     print_entries(rt, room)?;
     print_order(rt, &room.zone)?;
     print_behind(rt, &room.zone)?;

@@ -4,6 +4,7 @@ use crate::chilled_ceiling::books::counts_of;
 use crate::chilled_ceiling::differing::{differing, unlike};
 use crate::chilled_ceiling::limit_books::BUFFER;
 use crate::chilled_ceiling::room::{CONDITIONS, HEAD, Room, warm_hour};
+use crate::failure;
 use crate::limits::{MOST, Meeting};
 use crate::refusal::{Cause, Refusal};
 use crate::replies::{Counts, print_outcome};
@@ -166,7 +167,7 @@ fn print_appends(rt: &impl Print, zone: &ZoneRead) -> io::Result<()> {
     print_append(rt, zone, held, good, &mut short, Cause::BufferShort)
 }
 
-pub fn print_values(rt: &impl Print, room: &Room) -> anyhow::Result<()> {
+pub fn print_values(rt: &impl Print, room: &Room) -> failure::Result<()> {
     print_ranges(rt, room)?;
     print_order(rt, room)?;
     print_appends(rt, &room.zone)?;

@@ -7,6 +7,7 @@ use crate::chilled_ceiling::hours::{Hour, KEPT, distance};
 use crate::chilled_ceiling::room::{
     COOLING_FRACTION, HEATING_FRACTION, Room, cold_hour, warm_hour,
 };
+use crate::failure;
 use crate::limits::{MOST, Meeting};
 use crate::table::{holds, row, shown};
 use crate::zone_read::ZoneRead;
@@ -23,7 +24,7 @@ struct Powers {
 
 impl Powers {
     // The equations are linear in the power: with half of it the temperature lies midway.
-    fn print_midway(self, rt: &impl Print, zone: &ZoneRead) -> anyhow::Result<()> {
+    fn print_midway(self, rt: &impl Print, zone: &ZoneRead) -> failure::Result<()> {
         let none = zone.operative(self.none)?;
         let half = zone.operative(self.half)?;
         let all = zone.operative(self.all)?;
@@ -44,7 +45,7 @@ fn print_power(
     title: &str,
     meeting: Meeting,
     power: f64,
-) -> anyhow::Result<State> {
+) -> failure::Result<State> {
     println!(rt; "{title}")?;
     let after = hour.meet(rt, meeting)?;
     let fraction = if power < 0.0 {
@@ -68,7 +69,7 @@ fn print_not_held(
     hour: &Hour,
     rows: &[(&str, Meeting)],
     two: State,
-) -> anyhow::Result<()> {
+) -> failure::Result<()> {
     for (title, meeting) in rows {
         println!(rt; "{title}")?;
         let after = hour.meet(rt, *meeting)?;
@@ -77,7 +78,7 @@ fn print_not_held(
     Ok(())
 }
 
-fn print_two(rt: &impl Print, hour: &Hour) -> anyhow::Result<State> {
+fn print_two(rt: &impl Print, hour: &Hour) -> failure::Result<State> {
     println!(rt; "version 2, limits not looked at")?;
     hour.meet(rt, Meeting::unlimited(2))
 }
@@ -92,7 +93,7 @@ fn print_other_fraction(
     hour: &Hour,
     half: f64,
     halved: State,
-) -> anyhow::Result<()> {
+) -> failure::Result<()> {
     let by_heating = hour.update(half, HEATING_FRACTION)?;
     holds(
         rt,
@@ -103,7 +104,7 @@ fn print_other_fraction(
 }
 
 // The warm and the cold hour share their steps; in one function the rows that only the warm hour has would each need a test.
-fn print_warm(rt: &impl Print, room: &Room) -> anyhow::Result<()> {
+fn print_warm(rt: &impl Print, room: &Room) -> failure::Result<()> {
     println!(rt; "the warm hour with a limit: asked")?;
     let hour = Hour::ask(rt, room, warm_hour())?;
     let power = watts(hour.asked.space_cool_demand);
@@ -135,7 +136,7 @@ fn print_warm(rt: &impl Print, room: &Room) -> anyhow::Result<()> {
     print_not_held(rt, &hour, &rows, two)
 }
 
-fn print_cold(rt: &impl Print, room: &Room) -> anyhow::Result<()> {
+fn print_cold(rt: &impl Print, room: &Room) -> failure::Result<()> {
     println!(rt; "the cold hour with a limit: asked")?;
     let hour = Hour::ask(rt, room, cold_hour())?;
     let power = watts(hour.asked.space_heat_demand);
@@ -172,7 +173,7 @@ fn print_earlier(rt: &impl Print, room: &Room) -> io::Result<()> {
     Ok(())
 }
 
-pub fn print_limited(rt: &impl Print, room: &Room) -> anyhow::Result<()> {
+pub fn print_limited(rt: &impl Print, room: &Room) -> failure::Result<()> {
     print_warm(rt, room)?;
     print_cold(rt, room)?;
     print_earlier(rt, room)?;

@@ -7,6 +7,7 @@ use crate::chilled_ceiling::limit_entries::{COOLING, HEATING};
 use crate::chilled_ceiling::room::{
     COOLING_SETPOINT, ENTRY, HEAD, HEATING_SETPOINT, LIMITED_ENTRY, cold_hour, warm_hour,
 };
+use crate::failure;
 use crate::limits::Meeting;
 use crate::table::shown;
 use crate::zone_read::ZoneRead;
@@ -30,7 +31,7 @@ fn print_after(
     zone: &ZoneRead,
     said: &str,
     last: BookState,
-) -> anyhow::Result<f64> {
+) -> failure::Result<f64> {
     let temperature = zone.operative(last.state)?;
     shown(rt, said, temperature)?;
     Ok(temperature)
@@ -41,7 +42,7 @@ fn write_four(
     rt: &impl Print,
     zone: &ZoneRead,
     book: &mut [u8; BUFFER],
-) -> anyhow::Result<Temperatures> {
+) -> failure::Result<Temperatures> {
     // Row by row, since each state has a name of its own.
     let meeting = |version| Meeting::with(version, HEATING, COOLING);
     let warm = warm_hour();
@@ -113,7 +114,7 @@ fn print_setpoints(rt: &impl Print, book: &[u8]) -> io::Result<()> {
     )
 }
 
-pub fn print_questions(rt: &impl Print, zone: &ZoneRead) -> anyhow::Result<()> {
+pub fn print_questions(rt: &impl Print, zone: &ZoneRead) -> failure::Result<()> {
     let mut book = [0; BUFFER];
     println!(rt; "a book of four hours, operative temperature after each")?;
     let temperatures = write_four(rt, zone, &mut book)?;

@@ -2,6 +2,7 @@
 use crate::chilled_ceiling::books::{BUFFER, counts_of};
 use crate::chilled_ceiling::differing::{differing, unlike_anywhere};
 use crate::chilled_ceiling::room::{Room, warm_hour};
+use crate::failure;
 use crate::limits::Meeting;
 use crate::refusal::{Cause, Refusal};
 use crate::replies::print_outcome;
@@ -65,7 +66,7 @@ fn print_appends(rt: &impl Print, zone: &ZoneRead) -> io::Result<()> {
     Ok(())
 }
 
-pub fn print_unknown(rt: &impl Print, room: &Room) -> anyhow::Result<()> {
+pub fn print_unknown(rt: &impl Print, room: &Room) -> failure::Result<()> {
     print_steps(rt, room)?;
     print_appends(rt, &room.zone)?;
     Ok(())

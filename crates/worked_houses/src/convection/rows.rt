@@ -1,6 +1,7 @@
 // The rooms' hours: by an update with a given power, and by the hour step in each entry version.
 use crate::convection::room::{AIR, Room, conditions_of};
 use crate::convection::rooms::{self, Given};
+use crate::failure;
 use crate::limits::{MOST, Meeting};
 use crate::refusal::Refusal;
 use crate::table::{decimals, row};
@@ -56,7 +57,7 @@ fn print_update(
     power: f64,
     air: f64,
     given: Given,
-) -> anyhow::Result<()> {
+) -> failure::Result<()> {
     let head = room.head();
     let zone = ZoneRead::read(&head)?;
     let conditions = conditions_of(COLD, HOT);
@@ -67,7 +68,7 @@ fn print_update(
     Ok(())
 }
 
-fn print_updates(rt: &impl Print) -> anyhow::Result<()> {
+fn print_updates(rt: &impl Print) -> failure::Result<()> {
     let level = rooms::level();
     for (title, power, air, part) in [
         ("the room at 0: update with 2304 W", 2304.0, 16.0, 1.0),
@@ -119,7 +120,7 @@ fn print_hours(
     cool: f64,
     kilowatt_hours: f64,
     rows: &[(&str, Meeting, f64)],
-) -> anyhow::Result<()> {
+) -> failure::Result<()> {
     let room = rooms::level();
     let head = room.head();
     let zone = ZoneRead::read(&head)?;
@@ -136,7 +137,7 @@ fn print_hours(
     Ok(())
 }
 
-fn print_heated(rt: &impl Print) -> anyhow::Result<()> {
+fn print_heated(rt: &impl Print) -> failure::Result<()> {
     print_hours(
         rt,
         16.0,
@@ -169,7 +170,7 @@ fn print_heated(rt: &impl Print) -> anyhow::Result<()> {
 }
 
 // By the temperatures after the hour it would be upwards at the floor, and downwards at the ceilings.
-fn print_cooled(rt: &impl Print) -> anyhow::Result<()> {
+fn print_cooled(rt: &impl Print) -> failure::Result<()> {
     print_hours(
         rt,
         COLD,
@@ -196,7 +197,7 @@ fn print_cooled(rt: &impl Print) -> anyhow::Result<()> {
     )
 }
 
-pub fn print_rooms(rt: &impl Print) -> anyhow::Result<()> {
+pub fn print_rooms(rt: &impl Print) -> failure::Result<()> {
     print_updates(rt)?;
     print_heated(rt)?;
     print_cooled(rt)

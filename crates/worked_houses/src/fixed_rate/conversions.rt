@@ -3,6 +3,7 @@ use crate::bytes::CONDITIONS;
 use crate::chilled_ceiling::differing::differing;
 use crate::chilled_ceiling::room::CONDITIONS as CEILING;
 use crate::convection::room::CONDITIONS as SIX_SURFACES;
+use crate::failure;
 use crate::fixed_rate::conversion::Conversion;
 use crate::fixed_rate::houses::{Sample, ceiling, house_p, six_surfaces, windows};
 use crate::fixed_rate::stored::{CONDITIONS as CONDITIONS_FROM, RATE_CODE, behind};
@@ -35,7 +36,7 @@ fn print_why(
     book: &[u8],
     length: usize,
     sample: &Sample,
-) -> anyhow::Result<()> {
+) -> failure::Result<()> {
     let zone = ZoneRead::read(book)?;
     let start = zone.start_up()?;
     let from = zone.length.saturating_add(CONDITIONS_FROM);
@@ -51,7 +52,7 @@ fn print_conversion(
     house: &str,
     length: usize,
     sample: &Sample,
-) -> anyhow::Result<()> {
+) -> failure::Result<()> {
     let Sample {
         books,
         counts,
@@ -148,7 +149,7 @@ fn print_empty(rt: &impl Print) -> io::Result<()> {
     Ok(())
 }
 
-pub fn print_conversions(rt: &impl Print) -> anyhow::Result<()> {
+pub fn print_conversions(rt: &impl Print) -> failure::Result<()> {
     let five_hours = house_p()?;
     print_conversion(rt, "House P", CONDITIONS, &five_hours)?;
     print_rests(rt, &five_hours)?;

@@ -3,6 +3,7 @@
 // Specification, Fixed rate.
 use crate::bytes::CONDITIONS as CONDITIONS_LENGTH;
 use crate::chilled_ceiling::differing::differing;
+use crate::failure;
 use crate::fixed_rate::stored::{CONDITIONS, RATE_CODE};
 use crate::fixed_rate::taken_up::eight_fixed_hours;
 use crate::house_p::house::{ENTRY, HEAD, HOUSE_P};
@@ -125,7 +126,7 @@ impl Lost {
     }
 }
 
-pub fn print_cuts(rt: &impl Print) -> anyhow::Result<()> {
+pub fn print_cuts(rt: &impl Print) -> failure::Result<()> {
     let head = HOUSE_P.head();
     let zone = ZoneRead::read(&head)?;
     let book = eight_fixed_hours(&zone);

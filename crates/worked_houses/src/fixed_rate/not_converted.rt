@@ -1,5 +1,6 @@
 // Books with version 1 entries are not converted. Refused: 24, such a book, tested after it is accepted, then 16 for the output.
 // Specification, Conversion.
+use crate::failure;
 use crate::fixed_rate::conversion::Conversion;
 use crate::fixed_rate::houses::{Sample, ceiling_from_1, house_p, windows};
 use crate::fixed_rate::stored::{RATE_CODE, SECOND_RATE};
@@ -87,7 +88,7 @@ fn print_first(rt: &impl Print, house_p: &Sample) -> io::Result<()> {
     print_row(rt, title, &HOUSE_P.head(), HEAD - 1, short)
 }
 
-pub fn print_not_converted(rt: &impl Print) -> anyhow::Result<()> {
+pub fn print_not_converted(rt: &impl Print) -> failure::Result<()> {
     let head = HOUSE_P.head();
     let zone = ZoneRead::read(&head)?;
     print_version_1(rt, &zone)?;

@@ -1,6 +1,7 @@
 // The place of the 8 of code 0 among the other refusals: behind 4, 5, 17, 18, 6 and 7, before 9, 19 and all that follows.
 use crate::bytes::{CONDITIONS, Hour};
 use crate::chilled_ceiling::differing::differing;
+use crate::failure;
 use crate::fixed_rate::calls::Offered;
 use crate::fixed_rate::refused::{HEATED, REFUSED};
 use crate::house_p::house::{ENTRY, HEAD, HOUSE_P, SINGULAR, hour_of, start};
@@ -39,7 +40,7 @@ fn fixed(heat: f64, cool: f64) -> Hour {
 }
 
 // Of a zone as a record: 5, 4 and 6 come before the conditions.
-fn print_before(rt: &impl Print) -> anyhow::Result<()> {
+fn print_before(rt: &impl Print) -> failure::Result<()> {
     let head = HOUSE_P.head();
     let conditions = fixed(21.0, 24.0).conditions();
     for (title, useful_area, count, cause) in [
@@ -137,7 +138,7 @@ fn print_behind(rt: &impl Print, zone: &ZoneRead) -> io::Result<()> {
 }
 
 // No capacity, no loss.
-fn print_singular(rt: &impl Print) -> anyhow::Result<()> {
+fn print_singular(rt: &impl Print) -> failure::Result<()> {
     let head = SINGULAR.head();
     let zone = ZoneRead::read(&head)?;
     let conditions = fixed(20.0, 24.0).conditions();
@@ -285,7 +286,7 @@ fn print_appends(rt: &impl Print, zone: &ZoneRead) -> io::Result<()> {
     Ok(())
 }
 
-pub fn print_order(rt: &impl Print, zone: &ZoneRead) -> anyhow::Result<()> {
+pub fn print_order(rt: &impl Print, zone: &ZoneRead) -> failure::Result<()> {
     print_before(rt)?;
     print_short(rt, zone)?;
     print_behind(rt, zone)?;

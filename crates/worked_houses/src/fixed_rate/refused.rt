@@ -3,6 +3,7 @@
 use crate::bytes::{CONDITIONS, Hour};
 use crate::convection::room::{CONDITIONS as SIX_SURFACES, Room};
 use crate::convection::rooms;
+use crate::failure;
 use crate::fixed_rate::calls::Offered;
 use crate::fixed_rate::order;
 use crate::house_p::house::{HOUSE_P, hour_of, start};
@@ -79,7 +80,7 @@ fn print_bytes(rt: &impl Print, zone: &ZoneRead, fixed: Hour) -> io::Result<()> 
 }
 
 // A room whose update and hour step tell what its air gives to its surfaces (Specification, Heat balance): nothing, where the rate is fixed.
-fn print_surfaces(rt: &impl Print) -> anyhow::Result<()> {
+fn print_surfaces(rt: &impl Print) -> failure::Result<()> {
     let room: Room = rooms::level();
     let head = room.head();
     let zone = ZoneRead::read(&head)?;
@@ -101,7 +102,7 @@ fn print_surfaces(rt: &impl Print) -> anyhow::Result<()> {
     Ok(())
 }
 
-pub fn print_refused(rt: &impl Print) -> anyhow::Result<()> {
+pub fn print_refused(rt: &impl Print) -> failure::Result<()> {
     let head = HOUSE_P.head();
     let zone = ZoneRead::read(&head)?;
     let hour = hour_of(21.0, 24.0);

@@ -2,6 +2,7 @@
 // asked the same questions, and refused with 18 where an entry is false.
 // Specification, Fixed rate.
 use crate::chilled_ceiling::differing::{differing, unlike_anywhere};
+use crate::failure;
 use crate::fixed_rate::houses::{Sample, ceiling, ceiling_from_1, house_p, six_surfaces, windows};
 use crate::fixed_rate::stored::{CONDITIONS, RATE_CODE, SECOND_RATE, behind, put_fixed_rate};
 use crate::house_p::house::{ENTRY, HEAD, HOUSE_P};
@@ -83,7 +84,7 @@ fn print_sample(rt: &impl Print, title: &str, sample: &Sample) -> io::Result<()>
     )
 }
 
-pub fn print_taken_up(rt: &impl Print) -> anyhow::Result<()> {
+pub fn print_taken_up(rt: &impl Print) -> failure::Result<()> {
     let head = HOUSE_P.head();
     let zone = ZoneRead::read(&head)?;
     print_eight(rt, &zone)?;

@@ -1,5 +1,6 @@
 // The rows about a book of House P.
 // Specification, Entry versions.
+use crate::failure;
 use crate::house_p::house::{ENTRY, HEAD, HOUSE_P, hour_of};
 use crate::limits::Meeting;
 use crate::refusal::Refusal;
@@ -46,7 +47,7 @@ fn print_cuts(rt: &impl Print, book: &[u8; BOOK]) -> io::Result<()> {
 }
 
 // Begun, one hour appended, and taken up.
-pub fn print_book(rt: &impl Print) -> anyhow::Result<()> {
+pub fn print_book(rt: &impl Print) -> failure::Result<()> {
     let head = HOUSE_P.head();
     let zone = ZoneRead::read(&head)?;
     let conditions = hour_of(21.0, 24.0).conditions();

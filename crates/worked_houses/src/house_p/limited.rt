@@ -5,6 +5,7 @@
 // bridges. Inner surface: 4 x = 2.5 y + B. So 144 y = A + 0.625 B and x = 0.625 y + 0.25 B; the outer surface lies halfway
 // from 20 to the inner one. All power by convection: 144 W for a degree of the air.
 use crate::bytes::Hour;
+use crate::failure;
 use crate::house_p::house::{HOUSE_P, hour_of, start};
 use crate::house_p::met::{Detail, Met, print_hour};
 use crate::limits::{MOST, Meeting};
@@ -45,7 +46,7 @@ fn print_rows(
     heating: f64,
     cooling: f64,
     rows: &[(&str, Meeting, f64, Detail)],
-) -> anyhow::Result<()> {
+) -> failure::Result<()> {
     let conditions = hour.conditions();
     for (title, meeting, power, detail) in rows {
         println!(rt; "{title}")?;
@@ -56,7 +57,7 @@ fn print_rows(
 }
 
 // The float below 144 lets the temperatures be; the gains are its own.
-fn print_heated(rt: &impl Print, zone: &ZoneRead) -> anyhow::Result<()> {
+fn print_heated(rt: &impl Print, zone: &ZoneRead) -> failure::Result<()> {
     print_rows(
         rt,
         zone,
@@ -117,7 +118,7 @@ fn print_heated(rt: &impl Print, zone: &ZoneRead) -> anyhow::Result<()> {
 }
 
 // In the last two rows the power is -0.0, and the gains are 0.0 + -0.0.
-fn print_cooled(rt: &impl Print, zone: &ZoneRead) -> anyhow::Result<()> {
+fn print_cooled(rt: &impl Print, zone: &ZoneRead) -> failure::Result<()> {
     print_rows(
         rt,
         zone,
@@ -173,7 +174,7 @@ fn print_asked(
     zone: &ZoneRead,
     conditions: &[u8],
     sign: f64,
-) -> anyhow::Result<f64> {
+) -> failure::Result<f64> {
     let demand = zone.demand(start(), conditions)?;
     let asked = demand.space_heat_demand + demand.space_cool_demand;
     let off = asked - sign * 1.416 / 13.0;
@@ -184,7 +185,7 @@ fn print_asked(
 
 // Shares follow version 2, of the power after the limit: 54 of 72 W go to the air, where the demand's share would be
 // 0.61 and that of the other fraction 0.83.
-fn print_shares(rt: &impl Print, zone: &ZoneRead) -> anyhow::Result<()> {
+fn print_shares(rt: &impl Print, zone: &ZoneRead) -> failure::Result<()> {
     let heated = Hour {
         heating_fraction: 0.5,
         convective: 48.0,
@@ -225,7 +226,7 @@ fn print_shares(rt: &impl Print, zone: &ZoneRead) -> anyhow::Result<()> {
 
 // Nothing is delivered, and other gains of -0.0 twice show the sign of that zero: beside them the power 0.0 makes the
 // total 0.0. A delivered 0 is beyond no limit, so it does not become the limit -0.0, with which the total would be -0.0.
-fn print_no_power(rt: &impl Print, zone: &ZoneRead) -> anyhow::Result<()> {
+fn print_no_power(rt: &impl Print, zone: &ZoneRead) -> failure::Result<()> {
     let hour = Hour {
         convective: -0.0,
         radiative: -0.0,
@@ -237,7 +238,7 @@ fn print_no_power(rt: &impl Print, zone: &ZoneRead) -> anyhow::Result<()> {
 }
 
 // With versions 1 and 2 limits are not looked at: 0 would let nothing be delivered.
-fn print_earlier(rt: &impl Print, zone: &ZoneRead) -> anyhow::Result<()> {
+fn print_earlier(rt: &impl Print, zone: &ZoneRead) -> failure::Result<()> {
     print_rows(
         rt,
         zone,
@@ -267,7 +268,7 @@ fn print_earlier(rt: &impl Print, zone: &ZoneRead) -> anyhow::Result<()> {
     )
 }
 
-pub fn print_limited(rt: &impl Print) -> anyhow::Result<()> {
+pub fn print_limited(rt: &impl Print) -> failure::Result<()> {
     let head = HOUSE_P.head();
     let zone = ZoneRead::read(&head)?;
     print_heated(rt, &zone)?;

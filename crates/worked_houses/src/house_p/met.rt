@@ -1,5 +1,6 @@
 // What is expected of an hour of House P from balance, and what came, row by row.
 // Specification, House P; Limits of the plant.
+use crate::failure;
 use crate::house_p::house::start;
 use crate::limits::Meeting;
 use crate::refusal::Refusal;
@@ -88,7 +89,7 @@ pub fn print_hour(
     meeting: Meeting,
     expected: Met,
     detail: Detail,
-) -> anyhow::Result<()> {
+) -> failure::Result<()> {
     let step = zone.hour_step(start(), conditions, meeting);
     let (demand, balance) = step.answer.map_err(Refusal::from)?;
     expected.print_demand(rt, demand)?;

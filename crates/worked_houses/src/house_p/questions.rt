@@ -7,6 +7,7 @@
 // Specification, Questions over a book; House P.
 use crate::answers::{above, nearest, within};
 use crate::bytes::Hour;
+use crate::failure;
 use crate::house_p::house::{ENTRY, HEAD, HOUSE_P, hour_of};
 use crate::limits::{MOST as MOST_POWER, Meeting};
 use crate::refusal::{Cause, Refusal};
@@ -226,7 +227,7 @@ pub fn eight_hours(zone: &ZoneRead) -> [u8; ROOM] {
     book
 }
 
-pub fn print_questions(rt: &impl Print) -> anyhow::Result<()> {
+pub fn print_questions(rt: &impl Print) -> failure::Result<()> {
     let head = HOUSE_P.head();
     let zone = ZoneRead::read(&head)?;
     let mut book = eight_hours(&zone);

@@ -1,5 +1,6 @@
 // The rows of Specification, House P.
 use crate::bytes::Hour;
+use crate::failure;
 use crate::house_p::house::{HOUSE_P, SINGULAR, hour_of, start};
 use crate::refusal::Cause;
 use crate::replies::number_of;
@@ -14,14 +15,14 @@ fn print_temps(rt: &impl Print, state: State) -> io::Result<()> {
     value(rt, "  air", state.temps[2], 20.0, "20")
 }
 
-fn print_start_up(rt: &impl Print, zone: &ZoneRead) -> anyhow::Result<()> {
+fn print_start_up(rt: &impl Print, zone: &ZoneRead) -> failure::Result<()> {
     let start = zone.start_up();
     row(rt, "start-up, refusal", number_of(&start), 0)?;
     print_temps(rt, start?)?;
     Ok(())
 }
 
-fn print_free(rt: &impl Print, zone: &ZoneRead) -> anyhow::Result<()> {
+fn print_free(rt: &impl Print, zone: &ZoneRead) -> failure::Result<()> {
     let conditions = hour_of(20.0, 24.0).conditions();
     let (after, _) = zone.update(start(), &conditions, 0.0, 0.0, 0.0)?;
     row(rt, "free temperatures, nodes", after.nodes, 3)?;
@@ -39,7 +40,7 @@ fn print_demand(
     hour: Hour,
     heating: Expected,
     cooling: Expected,
-) -> anyhow::Result<()> {
+) -> failure::Result<()> {
     let demand = zone.demand(start(), &hour.conditions())?;
     let (asked, expected, words) = heating;
     value(rt, asked, demand.space_heat_demand, expected, words)?;
@@ -48,7 +49,7 @@ fn print_demand(
     Ok(())
 }
 
-fn print_demands(rt: &impl Print, zone: &ZoneRead) -> anyhow::Result<()> {
+fn print_demands(rt: &impl Print, zone: &ZoneRead) -> failure::Result<()> {
     print_demand(
         rt,
         zone,
@@ -83,7 +84,7 @@ fn print_refused(
     row(rt, asked, number_of(&demand), expected as u32)
 }
 
-pub fn print_zone(rt: &impl Print) -> anyhow::Result<()> {
+pub fn print_zone(rt: &impl Print) -> failure::Result<()> {
     let head = HOUSE_P.head();
     let read = ZoneRead::read(&head);
     row(rt, "head, refusal", number_of(&read), 0)?;

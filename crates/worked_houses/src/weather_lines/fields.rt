@@ -1,12 +1,13 @@
 // Single fields: decimals, what is missing, ranges, and the order of their tests. The other fields of a line are good.
 // Specification, Decimals of a weather file.
+use crate::failure;
 use crate::refusal::Cause;
 use crate::table::value;
 use crate::weather_lines::file::File;
 use crate::weather_lines::read::{print_refused, weather_of};
 use Cause::{WeatherAbsent, WeatherInvalid, WeatherMissing};
 
-fn print_dry_bulbs(rt: &impl Print) -> anyhow::Result<()> {
+fn print_dry_bulbs(rt: &impl Print) -> failure::Result<()> {
     println!(rt; "dry bulbs as they are written")?;
     for (written, expected) in [
         ("0.1", 0.1),
@@ -30,7 +31,7 @@ fn print_dry_bulbs(rt: &impl Print) -> anyhow::Result<()> {
     Ok(())
 }
 
-fn print_radiations(rt: &impl Print) -> anyhow::Result<()> {
+fn print_radiations(rt: &impl Print) -> failure::Result<()> {
     println!(rt; "direct normal as it is written, then diffuse horizontal")?;
     for (written, expected) in [
         ("0", 0.0),
@@ -51,7 +52,7 @@ fn print_radiations(rt: &impl Print) -> anyhow::Result<()> {
 }
 
 // Not a decimal, thirteen digits, missing, out of range.
-fn print_refused_dry_bulbs(rt: &impl Print) -> anyhow::Result<()> {
+fn print_refused_dry_bulbs(rt: &impl Print) -> failure::Result<()> {
     for (asked, written, cause) in [
         ("dry bulb, empty", "", WeatherInvalid),
         ("dry bulb -", "-", WeatherInvalid),
@@ -98,7 +99,7 @@ fn print_refused_dry_bulbs(rt: &impl Print) -> anyhow::Result<()> {
     Ok(())
 }
 
-fn print_refused_radiations(rt: &impl Print) -> anyhow::Result<()> {
+fn print_refused_radiations(rt: &impl Print) -> failure::Result<()> {
     for (asked, written, cause) in [
         ("direct normal 9999", "9999", WeatherMissing),
         ("direct normal 9999.00", "9999.00", WeatherMissing),
@@ -124,7 +125,7 @@ fn print_refused_radiations(rt: &impl Print) -> anyhow::Result<()> {
 }
 
 // tested one by one in file order, and 21 before them.
-fn print_order(rt: &impl Print) -> anyhow::Result<()> {
+fn print_order(rt: &impl Print) -> failure::Result<()> {
     for (asked, fields, cause) in [
         ("99.9, x, x", ["99.9", "x", "x"], WeatherMissing),
         ("x, 9999, 9999", ["x", "9999", "9999"], WeatherInvalid),
@@ -146,7 +147,7 @@ fn print_order(rt: &impl Print) -> anyhow::Result<()> {
     Ok(())
 }
 
-pub fn print_fields(rt: &impl Print) -> anyhow::Result<()> {
+pub fn print_fields(rt: &impl Print) -> failure::Result<()> {
     print_dry_bulbs(rt)?;
     print_radiations(rt)?;
     print_refused_dry_bulbs(rt)?;

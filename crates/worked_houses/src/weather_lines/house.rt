@@ -5,6 +5,7 @@
 // d + S to the inner one, and 4 x = 2.5 y + (d + S) / 2. So 144 y = A + 43.375 d + 0.3125 S. At 2 degrees with 96 W/m2 direct and 48 W/m2
 // diffuse d is -18 and S is 72: 144 y = A - 758.25.
 use crate::bytes::{Element, Hour, head_of};
+use crate::failure;
 use crate::house_p::house::{HEAD, hour_of, start};
 use crate::limits::{MOST, Meeting};
 use crate::refusal::{Answer, Refusal};
@@ -48,7 +49,7 @@ fn in_weather(hour: Hour, weather: Weather) -> Hour {
 }
 
 // The air is left at 20, or where the limit leaves it; the demand is the same.
-fn print_versions(rt: &impl Print, zone: &ZoneRead, conditions: &[u8]) -> anyhow::Result<()> {
+fn print_versions(rt: &impl Print, zone: &ZoneRead, conditions: &[u8]) -> failure::Result<()> {
     for (asked, meeting, above) in [
         ("  version 1, air", Meeting::unlimited(1), 0.0),
         ("  version 2, air", Meeting::unlimited(2), 0.0),
@@ -68,7 +69,7 @@ fn print_versions(rt: &impl Print, zone: &ZoneRead, conditions: &[u8]) -> anyhow
 }
 
 // The ends of the ranges (Specification, Ranges) are good weather, and a good hour.
-fn print_accepted(rt: &impl Print, zone: &ZoneRead) -> anyhow::Result<()> {
+fn print_accepted(rt: &impl Print, zone: &ZoneRead) -> failure::Result<()> {
     for (asked, fields) in [
         ("an hour at -100", ["-100", "0", "-0"]),
         ("an hour at 100, 2,000 and 2,000", ["100", "2000", "2000"]),
@@ -82,7 +83,7 @@ fn print_accepted(rt: &impl Print, zone: &ZoneRead) -> anyhow::Result<()> {
     Ok(())
 }
 
-pub fn print_house(rt: &impl Print) -> anyhow::Result<()> {
+pub fn print_house(rt: &impl Print) -> failure::Result<()> {
     let head = head();
     let zone = ZoneRead::read(&head)?;
     let weather = weather_of(File::of_fields(["2.0", "96", "48"]).bytes(), 1)?;

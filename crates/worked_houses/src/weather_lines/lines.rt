@@ -1,4 +1,5 @@
 // Lines of files: how they end, how they are counted, and headers.
+use crate::failure;
 use crate::refusal::Cause::{WeatherAbsent, WeatherInvalid};
 use crate::weather_lines::file::File;
 use crate::weather_lines::read::{print_refused, print_weather};
@@ -16,7 +17,7 @@ const FIRST_NUMBERS: [f64; 3] = [-4.5, 0.0, 0.0];
 const SECOND_NUMBERS: [f64; 3] = [20.25, 640.5, 95.0];
 
 // Each way of ending lines, and what stands at the end of the file.
-fn print_ends(rt: &impl Print) -> anyhow::Result<()> {
+fn print_ends(rt: &impl Print) -> failure::Result<()> {
     for (asked, end, last) in [
         ("line 2, LF", "\n", "\n"),
         ("line 2, CR LF", "\r\n", "\r\n"),
@@ -30,7 +31,7 @@ fn print_ends(rt: &impl Print) -> anyhow::Result<()> {
 }
 
 // A carriage return belongs to the end of a line only where a line feed follows, and only one.
-fn print_returns(rt: &impl Print) -> anyhow::Result<()> {
+fn print_returns(rt: &impl Print) -> failure::Result<()> {
     for (asked, end) in [
         ("CR and the end of the file", "\r"),
         ("CR CR LF", "\r\r\n"),
@@ -42,7 +43,7 @@ fn print_returns(rt: &impl Print) -> anyhow::Result<()> {
     Ok(())
 }
 
-fn print_counted(rt: &impl Print) -> anyhow::Result<()> {
+fn print_counted(rt: &impl Print) -> failure::Result<()> {
     let file = File::of(&[HEADERS, FIRST, "\n", SECOND, "\n"]);
     print_weather(rt, "line 1", file.bytes(), 1, FIRST_NUMBERS)?;
     for (asked, line) in [
@@ -57,7 +58,7 @@ fn print_counted(rt: &impl Print) -> anyhow::Result<()> {
 }
 
 // An empty file, headers alone, a header too few, and lines without enough fields.
-fn print_short(rt: &impl Print) -> anyhow::Result<()> {
+fn print_short(rt: &impl Print) -> failure::Result<()> {
     for (asked, file) in [
         ("an empty file", File::of(&[])),
         ("headers alone", File::of(&[HEADERS])),
@@ -81,7 +82,7 @@ fn print_short(rt: &impl Print) -> anyhow::Result<()> {
     )
 }
 
-pub fn print_lines(rt: &impl Print) -> anyhow::Result<()> {
+pub fn print_lines(rt: &impl Print) -> failure::Result<()> {
     print_ends(rt)?;
     print_returns(rt)?;
     print_counted(rt)?;

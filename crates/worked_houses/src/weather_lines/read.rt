@@ -1,4 +1,5 @@
 // A row for each number of a line, or for its refusal: what came, and what is expected.
+use crate::failure;
 use crate::refusal::{Cause, Refusal};
 use crate::replies::number_of;
 use crate::table::{row, value};
@@ -15,7 +16,7 @@ pub fn print_weather(
     file: &[u8],
     line: u64,
     expected: [f64; 3],
-) -> anyhow::Result<()> {
+) -> failure::Result<()> {
     let came = weather_of(file, line)?;
     let [dry_bulb, direct_normal, diffuse_horizontal] = expected;
     println!(rt; "{asked}")?;

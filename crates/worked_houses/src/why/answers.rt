@@ -1,5 +1,6 @@
 // A row for an hour of a room: its reason and its load, and those expected.
 use crate::bytes::Hour;
+use crate::failure;
 use crate::refusal::{Answer, Refusal};
 use crate::table::row;
 use crate::why::room::Room;
@@ -61,7 +62,7 @@ pub fn print_why(
     hour: Hour,
     reason: Reason,
     load: Load,
-) -> anyhow::Result<()> {
+) -> failure::Result<()> {
     let head = room.head();
     let zone = ZoneRead::read(&head)?;
     let expected = Ok(Because(reason, load));
@@ -82,7 +83,7 @@ pub fn print_hours(
     title: &str,
     room: Room,
     rows: &[(&str, Hour, Reason, Load)],
-) -> anyhow::Result<()> {
+) -> failure::Result<()> {
     println!(rt; "{title}")?;
     for (asked, hour, reason, load) in rows {
         print_why(rt, asked, room, *hour, *reason, *load)?;

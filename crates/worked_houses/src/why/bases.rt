@@ -1,4 +1,5 @@
 // Setpoints are held against the air's temperature or the operative one, the supply against the air's by either basis. Free air is 27.
+use crate::failure;
 use crate::why::answers::print_why;
 use crate::why::room::{Room, hour_of};
 use zone::Load::{Cooling, Neither};
@@ -8,7 +9,7 @@ use zone::Reason::{
 use zone::ZoneTemperatureControlBasis::{Air, Operative};
 
 // The operative temperature is (35 + 3 y) / 4: free 29, with one air change 26, with the windows open 23.
-fn print_warm_surface(rt: &impl Print) -> anyhow::Result<()> {
+fn print_warm_surface(rt: &impl Print) -> failure::Result<()> {
     let higher = hour_of(18.0, 30.0, 28.0);
     let lower = hour_of(18.0, 22.0, 20.0);
     let between = hour_of(18.0, 25.0, 26.0);
@@ -81,7 +82,7 @@ fn print_warm_surface(rt: &impl Print) -> anyhow::Result<()> {
 }
 
 // Free air is held against the supply by either basis: 27 here, where the operative temperature is 29, and 27 there, where it is 25.
-fn print_supply_between(rt: &impl Print) -> anyhow::Result<()> {
+fn print_supply_between(rt: &impl Print) -> failure::Result<()> {
     let here = hour_of(18.0, 30.0, 24.0).with_supply(28.0);
     let there = hour_of(18.0, 24.75, 24.0).with_supply(26.0);
     println!(rt; "the same, supply 28")?;
@@ -118,7 +119,7 @@ fn print_supply_between(rt: &impl Print) -> anyhow::Result<()> {
     Ok(())
 }
 
-pub fn print_bases(rt: &impl Print) -> anyhow::Result<()> {
+pub fn print_bases(rt: &impl Print) -> failure::Result<()> {
     print_warm_surface(rt)?;
     print_supply_between(rt)
 }

@@ -6,6 +6,7 @@
 // 32, with a supply at 0, it is free at 32, and with the windows open, rate 3, at 8. Half of the way is 20, for which the rate found is
 // 0.6: 1.6 units are counted as 2, and found is 16.
 use crate::bytes::Hour;
+use crate::failure;
 use crate::why::answers::print_hours;
 use crate::why::room::{Room, hour_of};
 use crate::why::temperatures::print_rows;
@@ -39,7 +40,7 @@ fn windows(heat: f64, cool: f64, vent: f64) -> Hour {
         .with_rates(0.0, 3.0)
 }
 
-pub fn print_coarse(rt: &impl Print) -> anyhow::Result<()> {
+pub fn print_coarse(rt: &impl Print) -> failure::Result<()> {
     let room = huge_surface(32.0);
     print_rows(
         rt,

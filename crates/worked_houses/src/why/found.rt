@@ -1,4 +1,5 @@
 // The last two reasons, which go by the temperature at the rate found. More of them: close.rt, coarse.rt.
+use crate::failure;
 use crate::why::answers::print_hours;
 use crate::why::room::{Room, hour_of};
 use zone::Load::{Cooling, Neither};
@@ -11,7 +12,7 @@ fn heated() -> Room {
 }
 
 // By the rate that triggers heating, at 21, the windows would be enough in the second row.
-fn print_still_above(rt: &impl Print) -> anyhow::Result<()> {
+fn print_still_above(rt: &impl Print) -> failure::Result<()> {
     print_hours(
         rt,
         "free 27, found 23",
@@ -45,7 +46,7 @@ fn print_still_above(rt: &impl Print) -> anyhow::Result<()> {
 }
 
 // Free is above each of these cooling setpoints but the last: the load is that of the demand.
-fn print_windows_enough(rt: &impl Print) -> anyhow::Result<()> {
+fn print_windows_enough(rt: &impl Print) -> failure::Result<()> {
     print_hours(
         rt,
         "free 27, found 23",
@@ -71,7 +72,7 @@ fn print_windows_enough(rt: &impl Print) -> anyhow::Result<()> {
 }
 
 // The gains are those of the demand: without them free would be 17, below the ventilation setpoint.
-fn print_gains(rt: &impl Print) -> anyhow::Result<()> {
+fn print_gains(rt: &impl Print) -> failure::Result<()> {
     print_hours(
         rt,
         "the room at 17, with 1600 W of other systems: free 27, found 23",
@@ -93,7 +94,7 @@ fn print_gains(rt: &impl Print) -> anyhow::Result<()> {
     )
 }
 
-pub fn print_found(rt: &impl Print) -> anyhow::Result<()> {
+pub fn print_found(rt: &impl Print) -> failure::Result<()> {
     print_still_above(rt)?;
     print_windows_enough(rt)?;
     print_gains(rt)

@@ -5,6 +5,7 @@
 // are lost among the gains, and what rounding leaves of the two temperatures' difference decides the sign of the demand. With twice the
 // useful area the same hours are cooled.
 use crate::bytes::Hour;
+use crate::failure;
 use crate::house_p::house::{HOUSE_P, House, hour_of};
 use crate::why::answers::{Because, why};
 use crate::why::room::NODES;
@@ -40,7 +41,7 @@ fn hour(supply: f64, target: f64, open: f64) -> Hour {
     }
 }
 
-fn print_loads(rt: &impl Print, title: &str, useful_area: f64, load: Load) -> anyhow::Result<()> {
+fn print_loads(rt: &impl Print, title: &str, useful_area: f64, load: Load) -> failure::Result<()> {
     let head = house(useful_area).head();
     let zone = ZoneRead::read(&head)?;
     let before = State {
@@ -71,7 +72,7 @@ fn print_loads(rt: &impl Print, title: &str, useful_area: f64, load: Load) -> an
     Ok(())
 }
 
-pub fn print_lost(rt: &impl Print) -> anyhow::Result<()> {
+pub fn print_lost(rt: &impl Print) -> failure::Result<()> {
     let title = "a load that is lost among gains of 10 MW, by rounding";
     print_loads(rt, title, USEFUL_AREA, Heating)?;
     let title = "the same with twice the useful area";

@@ -1,5 +1,6 @@
 // Hours of the room at 27 for which two reasons hold or more: the earliest is named. Free is 27 and with the windows open 19, if
 // nothing else is said.
+use crate::failure;
 use crate::why::answers::print_hours;
 use crate::why::room::{Room, hour_of};
 use crate::zone_read::NO_CONTROL;
@@ -7,7 +8,7 @@ use zone::Load::{Cooling, Neither};
 use zone::Reason::{NoChoice, NotAboveSupply, NotAboveVentilationSetpoint, WindowsDoNotCool};
 
 // With two air changes free is 21.
-fn print_no_choice_first(rt: &impl Print) -> anyhow::Result<()> {
+fn print_no_choice_first(rt: &impl Print) -> failure::Result<()> {
     print_hours(
         rt,
         "no choice of rates",
@@ -63,7 +64,7 @@ fn print_no_choice_first(rt: &impl Print) -> anyhow::Result<()> {
     )
 }
 
-fn print_setpoint_first(rt: &impl Print) -> anyhow::Result<()> {
+fn print_setpoint_first(rt: &impl Print) -> failure::Result<()> {
     print_hours(
         rt,
         "free not above ventilation setpoint",
@@ -98,7 +99,7 @@ fn print_setpoint_first(rt: &impl Print) -> anyhow::Result<()> {
 }
 
 // With a supply at 33 open is 31. With one at 39, target 4 and windows open 0 free is 35 and open 27, which would be cooler.
-fn print_supply_first(rt: &impl Print) -> anyhow::Result<()> {
+fn print_supply_first(rt: &impl Print) -> failure::Result<()> {
     print_hours(
         rt,
         "free air not above supply",
@@ -131,7 +132,7 @@ fn print_supply_first(rt: &impl Print) -> anyhow::Result<()> {
 }
 
 // Target 2 and windows open 1: free 21 and open 23. Where windows do not cool the rate found is the target.
-fn print_windows_first(rt: &impl Print) -> anyhow::Result<()> {
+fn print_windows_first(rt: &impl Print) -> failure::Result<()> {
     print_hours(
         rt,
         "windows do not cool",
@@ -159,7 +160,7 @@ fn print_windows_first(rt: &impl Print) -> anyhow::Result<()> {
     )
 }
 
-pub fn print_order(rt: &impl Print) -> anyhow::Result<()> {
+pub fn print_order(rt: &impl Print) -> failure::Result<()> {
     print_no_choice_first(rt)?;
     print_setpoint_first(rt)?;
     print_supply_first(rt)?;

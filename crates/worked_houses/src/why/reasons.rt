@@ -1,5 +1,6 @@
 // The first four reasons, which no rate has to be found for, with each load that can stand beside them.
 use crate::bytes::Hour;
+use crate::failure;
 use crate::why::answers::print_hours;
 use crate::why::room::{Room, hour_of};
 use crate::zone_read::NO_CONTROL;
@@ -13,7 +14,7 @@ const BELOW_27: f64 = 26.999999999999996;
 
 // Free is 27. No call takes a fixed rate any more, but why such an hour is what it is is still told, and is the same as where target and windows open both
 // are the rate.
-fn print_at_0(rt: &impl Print, title: &str, rates: Rates) -> anyhow::Result<()> {
+fn print_at_0(rt: &impl Print, title: &str, rates: Rates) -> failure::Result<()> {
     let hour = |heat, cool, vent| Hour {
         rates,
         ..hour_of(heat, cool, vent)
@@ -40,7 +41,7 @@ fn print_at_0(rt: &impl Print, title: &str, rates: Rates) -> anyhow::Result<()> 
     )
 }
 
-fn print_no_choice(rt: &impl Print) -> anyhow::Result<()> {
+fn print_no_choice(rt: &impl Print) -> failure::Result<()> {
     print_at_0(rt, "a fixed rate of 0: free 27", Rates::Cooling(0.0))?;
     let twice = Rates::TargetAndWindowsOpen(0.0, 0.0);
     print_at_0(rt, "target and windows open 0: free 27", twice)?;
@@ -72,7 +73,7 @@ fn print_no_choice(rt: &impl Print) -> anyhow::Result<()> {
 }
 
 // Zeros of either sign are equal, and a fixed rate may have either.
-fn print_zeros(rt: &impl Print) -> anyhow::Result<()> {
+fn print_zeros(rt: &impl Print) -> failure::Result<()> {
     print_hours(
         rt,
         "rates of 0: free 27",
@@ -106,7 +107,7 @@ fn print_zeros(rt: &impl Print) -> anyhow::Result<()> {
     )
 }
 
-fn print_not_above_setpoint(rt: &impl Print) -> anyhow::Result<()> {
+fn print_not_above_setpoint(rt: &impl Print) -> failure::Result<()> {
     print_hours(
         rt,
         "ventilation setpoint 27: free is not above it",
@@ -146,7 +147,7 @@ fn print_not_above_setpoint(rt: &impl Print) -> anyhow::Result<()> {
     )
 }
 
-fn print_not_above_supply(rt: &impl Print) -> anyhow::Result<()> {
+fn print_not_above_supply(rt: &impl Print) -> failure::Result<()> {
     print_hours(
         rt,
         "supply 27: free air is not above it",
@@ -188,7 +189,7 @@ fn print_not_above_supply(rt: &impl Print) -> anyhow::Result<()> {
 }
 
 // 5e-324 is the smallest rate: beside 80 W/K it is nothing.
-fn print_windows_do_not_cool(rt: &impl Print) -> anyhow::Result<()> {
+fn print_windows_do_not_cool(rt: &impl Print) -> failure::Result<()> {
     print_hours(
         rt,
         "target 4 and windows open 0: free 19, open 27",
@@ -229,7 +230,7 @@ fn print_windows_do_not_cool(rt: &impl Print) -> anyhow::Result<()> {
     )
 }
 
-pub fn print_reasons(rt: &impl Print) -> anyhow::Result<()> {
+pub fn print_reasons(rt: &impl Print) -> failure::Result<()> {
     print_no_choice(rt)?;
     print_zeros(rt)?;
     print_not_above_setpoint(rt)?;

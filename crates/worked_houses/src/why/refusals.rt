@@ -1,6 +1,7 @@
 // Hours that the demand refuses, each asked for its demand and for its reason: the same number and index, before any reason. A fixed rate the demand refuses
 // by itself, 8, and the reason's refusals are those that they were.
 use crate::bytes::{CONDITIONS, Hour};
+use crate::failure;
 use crate::refusal::{Answer, Cause, Refusal};
 use crate::table::row;
 use crate::why::answers::why;
@@ -65,7 +66,7 @@ fn print_conditions(
     room: Room,
     conditions: &[u8],
     expected: Refusal,
-) -> anyhow::Result<()> {
+) -> failure::Result<()> {
     let head = room.head();
     let zone = ZoneRead::read(&head)?;
     print_both(rt, title, &zone, room.before(), conditions, expected)?;
@@ -78,7 +79,7 @@ fn usual() -> Hour {
 
 // The room's zone with another useful area and so many elements, and a node too few. A zone that its record makes bad is
 // tested before the state.
-fn print_records(rt: &impl Print) -> anyhow::Result<()> {
+fn print_records(rt: &impl Print) -> failure::Result<()> {
     let room = Room::warm();
     let head = room.head();
     let conditions = usual().conditions();
@@ -109,7 +110,7 @@ fn print_records(rt: &impl Print) -> anyhow::Result<()> {
     Ok(())
 }
 
-fn print_hours(rt: &impl Print, rows: &[(&str, Room, Hour, Cause)]) -> anyhow::Result<()> {
+fn print_hours(rt: &impl Print, rows: &[(&str, Room, Hour, Cause)]) -> failure::Result<()> {
     for (title, room, hour, cause) in rows {
         print_conditions(rt, title, *room, &hour.conditions(), cause.at(0))?;
     }
@@ -125,7 +126,7 @@ fn with_hot_element(code: u8) -> [u8; CONDITIONS] {
 }
 
 // Bytes that no hour gives.
-fn print_bytes(rt: &impl Print) -> anyhow::Result<()> {
+fn print_bytes(rt: &impl Print) -> failure::Result<()> {
     let warm = Room::warm();
     let mut fixed = usual().with_fixed_rate(0.0).conditions();
     fixed[SECOND_RATE] = 128;
@@ -152,13 +153,13 @@ fn print_bytes(rt: &impl Print) -> anyhow::Result<()> {
     )
 }
 
-fn print_short(rt: &impl Print, conditions: &[u8; CONDITIONS]) -> anyhow::Result<()> {
+fn print_short(rt: &impl Print, conditions: &[u8; CONDITIONS]) -> failure::Result<()> {
     let short = &conditions[..CONDITIONS - 1];
     let expected = Cause::ConditionsSize.at(0);
     print_conditions(rt, "a byte too few", Room::warm(), short, expected)
 }
 
-fn print_state_and_conditions(rt: &impl Print) -> anyhow::Result<()> {
+fn print_state_and_conditions(rt: &impl Print) -> failure::Result<()> {
     let too_hot = Room::at(Air, 1000000.5, 27.0);
     let supply = usual().with_supply(101.0);
     print_hours(
@@ -191,7 +192,7 @@ fn print_no_choice(
     hour: Hour,
     rate: f64,
     cause: Cause,
-) -> anyhow::Result<()> {
+) -> failure::Result<()> {
     let twice = hour.with_rates(rate, rate).conditions();
     let fixed = hour.with_fixed_rate(rate).conditions();
     let reason = cause.at(0);
@@ -208,7 +209,7 @@ fn print_no_choice(
 }
 
 // Each with rates that leave no choice too, whatever the temperatures are.
-fn print_setpoints(rt: &impl Print) -> anyhow::Result<()> {
+fn print_setpoints(rt: &impl Print) -> failure::Result<()> {
     let warm = Room::warm();
     let same = "with target and windows open 0";
     for (title, hour, cause) in [
@@ -239,7 +240,7 @@ fn bare(useful_area: f64) -> Room {
     }
 }
 
-fn print_solves(rt: &impl Print) -> anyhow::Result<()> {
+fn print_solves(rt: &impl Print) -> failure::Result<()> {
     print_hours(
         rt,
         &[
@@ -255,7 +256,7 @@ fn print_solves(rt: &impl Print) -> anyhow::Result<()> {
 }
 
 // Hardly any useful area: the greatest heating and cooling do not move the temperature. With a rate of 1 free is 21.
-fn print_no_effect(rt: &impl Print) -> anyhow::Result<()> {
+fn print_no_effect(rt: &impl Print) -> failure::Result<()> {
     let room = Room {
         useful_area: 1e-12,
         ..Room::warm()
@@ -291,7 +292,7 @@ fn print_no_effect(rt: &impl Print) -> anyhow::Result<()> {
     )
 }
 
-pub fn print_refusals(rt: &impl Print) -> anyhow::Result<()> {
+pub fn print_refusals(rt: &impl Print) -> failure::Result<()> {
     print_records(rt)?;
     print_state_and_conditions(rt)?;
     print_setpoints(rt)?;

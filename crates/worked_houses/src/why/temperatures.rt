@@ -1,4 +1,5 @@
 // The room's temperatures by rate, and the rates of its demand: the rows of its hours go by them.
+use crate::failure::{self, Failure};
 use crate::table::decimals;
 use crate::why::room::{AIR, Room, hour_of};
 use crate::zone_read::ZoneRead;
@@ -14,7 +15,7 @@ pub fn print_rows(
     room: Room,
     supply: f64,
     rows: &[Row],
-) -> anyhow::Result<()> {
+) -> failure::Result<()> {
     let head = room.head();
     let zone = ZoneRead::read(&head)?;
     let conditions = hour_of(18.0, 25.0, 23.0).with_supply(supply).conditions();
@@ -31,13 +32,13 @@ pub fn print_rows(
 }
 
 // Half of the way from 27 to 19 is 23, three quarters of it are 21.
-fn print_rates(rt: &impl Print) -> anyhow::Result<()> {
+fn print_rates(rt: &impl Print) -> failure::Result<()> {
     let room = Room::warm();
     let head = room.head();
     let conditions = hour_of(21.0, 25.0, 23.0).conditions();
     let demand = ZoneRead::read(&head)?.demand(room.before(), &conditions)?;
     let Some(trigger) = demand.ach_to_trigger_heating else {
-        anyhow::bail!("no rate triggers heating");
+        return Err(Failure::NoTriggerRate);
     };
     println!(rt; "the room at 27, setpoints 21/25, ventilation 23")?;
     decimals(rt, "  rate found", demand.ach_cooling, 1.0)?;
@@ -45,7 +46,7 @@ fn print_rates(rt: &impl Print) -> anyhow::Result<()> {
     Ok(())
 }
 
-pub fn print_temperatures(rt: &impl Print) -> anyhow::Result<()> {
+pub fn print_temperatures(rt: &impl Print) -> failure::Result<()> {
     print_rows(
         rt,
         "the room at 27, supply 15, without demand",
