@@ -1,11 +1,8 @@
 // Appends behind hours of the small book: of versions that no hour has, with limits out of their range, and into little room.
-use crate::hours::limits_at;
-use crate::replies::{accepted, is_refused, same_book_states};
 use crate::small_book::{Book, HOURS, PLAN, ROOM};
 use crate::stored_limits::OUTSIDE;
-use crate::tally::Tally;
-use crate::version::Version;
 use book::{BookError, BookState, Reply};
+use house_books::{Tally, Version, accepted, is_refused, limits_at, same_book_states};
 use std::num::f64_from_bits_with_nan;
 use zone::{Limits, Refusal};
 

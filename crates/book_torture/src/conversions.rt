@@ -1,13 +1,10 @@
 // The converter over books of old hours: each hour with the fixed rate has target and windows open both that rate, and all else is as it was.
 use crate::expected::Expected;
-use crate::fixed_rate::{has_fixed_rate, put_rate_twice};
-use crate::house::House;
-use crate::layout::{HEAD, VERSION_PLACE};
 use crate::old_book::{HOURS, OldBook, ROOM};
-use crate::plan::{Entries, Plan};
-use crate::tally::Tally;
-use crate::version::Version;
 use big_endian::{byte_at, put_bytes};
+use house_books::{
+    Entries, HEAD, House, Plan, Tally, VERSION_PLACE, Version, has_fixed_rate, put_rate_twice,
+};
 use tools::{ConvertError, Converted};
 
 // What stands in the output before.

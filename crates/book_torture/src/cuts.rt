@@ -2,22 +2,18 @@
 ghost use Rattle.std.specs.Prelude.{◌^◌, ◌<◌, ◌≤◌};
 ghost use Rattle.std.specs.Iterator.{IsFinite};
 
-use crate::fill::append_hours;
-use crate::layout::HEAD;
-use crate::replies::{has_entries, is_refused, is_take_up_refused, same_book_states, taken_up};
-use crate::small_book::{Book, CUT_OFF, HOURS, ROOM};
-use crate::tally::Tally;
-use crate::version::Version;
+use crate::small_book::{Book, HOURS, ROOM};
 use big_endian::put_bytes;
 use book::{BookError, BookState};
+use house_books::{
+    CUT_OFF, HEAD, SPREAD, Tally, Version, append_hours, has_entries, is_refused,
+    is_take_up_refused, same_book_states, taken_up,
+};
 use std::iter::StepBy;
 use std::ops::Range;
 use zone::Refusal;
 
-// Cuts that are spread over a book.
-const SPREAD: usize = 2000;
-
-// Over so many bytes behind the head.
+// Cuts that are spread over so many bytes behind the head.
 pub fn spread(bytes: usize) -> StepBy<Range<usize>>
     requires reaches { SPREAD ≤ bytes }
     requires fits { bytes < 2 ^ 63 }

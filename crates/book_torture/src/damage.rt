@@ -1,12 +1,9 @@
 // A small book with one byte changed, and what take-up answers of it.
-use crate::changed::with_bytes;
 use crate::expected::{Expected, expected_at, is_answered};
-use crate::layout::{HEAD, LIMITS, LIMITS_PLACE};
 use crate::small_book::{Book, PLAN, USED};
-use crate::tally::{Tally, count_one};
-use crate::version::Version;
 use big_endian::byte_at;
 use book::BookError;
+use house_books::{HEAD, LIMITS, LIMITS_PLACE, Tally, Version, count_one, with_bytes};
 use std::ops::Range;
 use zone::Refusal;
 

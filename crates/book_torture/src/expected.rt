@@ -1,14 +1,12 @@
 // What take-up must answer of a small book that was changed. Of a changed byte it is worked out by reading the book entry by entry;
 // of a version byte alone by the plan of versions and by whether the hour was cooled; of a rest by its length and version byte.
-use crate::entry::Entry;
-use crate::house::House;
-use crate::layout::{FRONT, HEAD};
-use crate::plan::{Entries, Plan};
-use crate::replies::{has_entries, is_take_up_refused, same_states, taken_up};
 use crate::small_book::{HOURS, PLAN};
-use crate::version::Version;
 use crate::walk::{last_state, walk_on};
 use book::{BookError, BookState};
+use house_books::{
+    Entries, Entry, FRONT, HEAD, House, Plan, Version, has_entries, is_take_up_refused,
+    same_states, taken_up,
+};
 use zone::Refusal;
 
 // The head alone.

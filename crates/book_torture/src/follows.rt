@@ -1,12 +1,9 @@
 // True entries of each version behind each number of hours of the small book. An append that is given a made-up last version writes
 // them also where they may not follow; take-up holds them to the order.
 use crate::expected::is_answered;
-use crate::hours::limits_at;
-use crate::replies::accepted;
 use crate::small_book::{Book, HOURS, PLAN};
-use crate::tally::Tally;
-use crate::version::{VERSIONS, Version};
 use book::{BookError, BookState};
+use house_books::{Tally, VERSIONS, Version, accepted, limits_at};
 use zone::Refusal;
 
 // What an append takes for the last version where any version is to be written.

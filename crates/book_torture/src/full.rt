@@ -1,15 +1,11 @@
 // A whole year: 8,784 hours, the 8,785th refused, cuts and bytes behind it.
-use crate::cuts::spread;
 use crate::full_changes::print_damage;
 use crate::full_hours::print_hours;
 use crate::full_questions::print_questions;
 use crate::held::check_held;
-use crate::house::House;
-use crate::layout::{FRONT, HEAD, LONG_ENTRY, YEAR};
 use crate::old_year::print_old_year;
-use crate::tally::{Mark, Tally};
-use crate::version::{VERSION_BYTES, Version};
-use crate::year::{MOST, PLAN, THREE, TWO, USED, Year};
+use house_books::year::{MOST, PLAN, THREE, TWO, USED, Year};
+use house_books::{FRONT, HEAD, House, LONG_ENTRY, Mark, Tally, VERSION_BYTES, Version, YEAR};
 use std::alloc::Global;
 use std::io;
 
@@ -66,7 +62,7 @@ fn print_cuts(rt: &impl Print, year: &mut Year) -> io::Result<()> {
     Ok(())
 }
 
-// At every byte of the last three entries, and spread over them all.
+// At every byte of the last three entries.
 fn print_many_cuts(rt: &impl Print, year: &mut Year) -> io::Result<()> {
     println!(rt;
         "cuts of the year at every byte of its last three entries: {}",
@@ -74,10 +70,6 @@ fn print_many_cuts(rt: &impl Print, year: &mut Year) -> io::Result<()> {
             USED - 3 * LONG_ENTRY..USED + 1,
             |cut| year.is_continued(cut)
         )
-    )?;
-    println!(rt;
-        "cuts spread over the year: {}",
-        Tally::of(spread(USED - HEAD), |cut| year.is_continued(cut))
     )
 }
 

@@ -1,8 +1,7 @@
 // A byte of the year changed.
 use crate::held::Held;
-use crate::layout::{COOLING_LIMIT_PLACE, LIMITS_PLACE, VERSION_PLACE, YEAR};
-use crate::tally::Mark;
-use crate::year::{PLAN, THREE, TWO, Year};
+use house_books::year::{PLAN, THREE, TWO, Year};
+use house_books::{COOLING_LIMIT_PLACE, LIMITS_PLACE, Mark, VERSION_PLACE, YEAR};
 use std::io;
 
 // The second byte of a float has the lowest bits of its exponent: this one makes a limit of some hundred watts another one.

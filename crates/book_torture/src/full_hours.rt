@@ -1,9 +1,6 @@
 // What the hours of the year are, by version: heated, cooled, with windows open.
-use crate::entry::Entry;
-use crate::hours::ONE_RATE;
-use crate::layout::YEAR;
-use crate::version::{VERSIONS, Version};
-use crate::year::PLAN;
+use house_books::year::PLAN;
+use house_books::{Entry, ONE_RATE, VERSIONS, Version, YEAR};
 use std::io;
 
 // How many hours of a version are of a kind.

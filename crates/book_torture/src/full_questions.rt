@@ -1,8 +1,7 @@
 // The whole year asked the three questions, a short rest behind it.
-use crate::layout::{LENGTH, YEAR};
 use crate::questions::{Question, temperatures};
-use crate::tally::{Mark, Tally};
-use crate::year::{PLAN, USED, Year};
+use house_books::year::{PLAN, USED, Year};
+use house_books::{LENGTH, Mark, Tally, YEAR};
 use std::io;
 
 // Start-up's temperature and the hours'.

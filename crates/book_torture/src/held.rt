@@ -1,12 +1,7 @@
 // The power that the hours of a book deliver: how many of them a limit holds, and whether the update of the temperatures with that
 // power gives those that stand in the entry.
-use crate::entry::{Entry, Holding};
-use crate::house::House;
-use crate::plan::Plan;
-use crate::replies::same_states;
-use crate::tally::{Tally, count_one};
-use crate::version::Version;
 use crate::walk::state_after;
+use house_books::{Entry, Holding, House, Plan, Tally, Version, count_one, same_states};
 use std::fmt;
 use zone::State;
 

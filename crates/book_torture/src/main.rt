@@ -6,23 +6,16 @@
 #![tactic(auto)]
 
 mod appends;
-mod changed;
 mod conversions;
 mod cuts;
 mod damage;
-mod entry;
 mod expected;
-mod fill;
-mod fixed_rate;
 mod follows;
 mod full;
 mod full_changes;
 mod full_hours;
 mod full_questions;
 mod held;
-mod hours;
-mod house;
-mod layout;
 mod old;
 mod old_appends;
 mod old_book;
@@ -30,9 +23,7 @@ mod old_cuts;
 mod old_damage;
 mod old_year;
 mod passes;
-mod plan;
 mod questions;
-mod replies;
 mod rests;
 mod rooms;
 mod small;
@@ -40,18 +31,14 @@ mod small_book;
 mod small_changes;
 mod small_questions;
 mod stored_limits;
-mod tally;
-mod version;
 mod versions;
 mod walk;
-mod year;
 
-use house::House;
+use house_books::{House, Mark, head};
 use std::io;
-use tally::Mark;
 
 fn main(rt: HostRuntime) -> io::Result<()> {
-    let Ok(house) = House::read(&house::head()) else {
+    let Ok(house) = House::read(&head()) else {
         return println!(rt; "the head of the house: {}", Mark(false));
     };
     small::print_small(&rt, &house)?;

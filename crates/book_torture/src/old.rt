@@ -1,11 +1,9 @@
 // Old hours, with the fixed rate: a book of them cut, damaged, continued and converted.
 use crate::conversions::check_passing;
-use crate::house::House;
 use crate::old_appends::check_old_appends;
 use crate::old_book::{HOURS, LATER, OldBook, PLAN};
 use crate::old_damage::{check_old_damages, check_second_floats};
-use crate::plan::Plan;
-use crate::tally::{Mark, Tally};
+use house_books::{House, Mark, Plan, Tally};
 use std::io;
 
 // Books that pass from 1 to 2, from 1 to 3 and from 2 to 3 at each hour.

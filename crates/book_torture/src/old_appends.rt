@@ -1,10 +1,7 @@
 // Appends of hours with the fixed rate behind each number of hours of a book of old hours: refused with 8 in its place among the refusals.
-use crate::hours::limits_at;
-use crate::layout::ENTRY;
 use crate::old_book::{HOURS, OldBook, ROOM, old_conditions_of};
-use crate::replies::{is_refused, made_up, taken_up};
-use crate::tally::Tally;
 use book::{BookError, BookState};
+use house_books::{ENTRY, Tally, is_refused, limits_at, made_up, taken_up};
 use zone::{Limits, Refusal};
 
 // Of versions that may follow, with good limits, with one out of range, and into no room; of versions that may not follow or that no hour has.

@@ -1,14 +1,11 @@
 // A book of old hours: as it was written while calls still took the fixed rate, rate code 0. Beside it stands the book of the same hours as appends write them
 // now, with target and windows open both that rate. Demands and temperatures are the same in both.
-use crate::fixed_rate::put_fixed_rate;
-use crate::hours::{conditions, limits_at};
-use crate::house::{House, head};
-use crate::layout::{CONDITIONS, CONDITIONS_PLACE, ENTRY, HEAD, LONG_ENTRY};
-use crate::plan::Plan;
-use crate::replies::{accepted, made_up, same_book_states, taken_up};
-use crate::small_book::CUT_OFF;
 use big_endian::{bytes_at, put_bytes};
 use book::BookState;
+use house_books::{
+    CONDITIONS, CONDITIONS_PLACE, CUT_OFF, ENTRY, HEAD, House, LONG_ENTRY, Plan, accepted,
+    conditions, head, limits_at, made_up, put_fixed_rate, same_book_states, taken_up,
+};
 
 pub const HOURS: usize = 12;
 

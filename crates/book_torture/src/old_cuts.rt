@@ -1,15 +1,11 @@
 // A book of old hours cut at a byte: taken up, asked, and continued. The hour that the cut lost is refused as it was, and taken with target
 // and windows open both its rate.
 use crate::expected::is_answered;
-use crate::hours::limits_at;
-use crate::layout::HEAD;
 use crate::old_book::{HOURS, OldBook, ROOM, append_rest, is_old, old_conditions_of};
 use crate::questions::{Question, temperatures};
-use crate::replies::{is_refused, same_book_states, taken_up};
-use crate::small_book::CUT_OFF;
-use crate::tally::Tally;
 use big_endian::put_bytes;
 use book::{BookError, BookState};
+use house_books::{CUT_OFF, HEAD, Tally, is_refused, limits_at, same_book_states, taken_up};
 use zone::Refusal;
 
 // Start-up's temperature and the hours'.

@@ -1,14 +1,12 @@
 // A book of old hours with a byte or a bit changed: what take-up and the converter answer of it.
 // Specification, Where an entry ends.
-use crate::changed::with_bytes;
 use crate::conversions::is_converted;
 use crate::damage::CHANGES;
 use crate::expected::{expected_at, is_answered};
-use crate::layout::SECOND_RATE_PLACE;
 use crate::old_book::{HOURS, OldBook, is_old};
-use crate::tally::{Tally, count_one};
 use big_endian::byte_at;
 use book::BookError;
+use house_books::{SECOND_RATE_PLACE, Tally, count_one, with_bytes};
 use zone::Refusal;
 
 const BITS: [u8; 8] = [1, 2, 4, 8, 16, 32, 64, 128];

@@ -1,13 +1,9 @@
 // A whole year of old hours: every fifth has the fixed rate.
-use crate::fill::begin_and_append;
-use crate::fixed_rate::put_fixed_rate;
-use crate::hours::has_one_rate;
-use crate::house::House;
-use crate::layout::YEAR;
-use crate::plan::Plan;
-use crate::replies::{same_book_states, taken_up};
-use crate::tally::Mark;
-use crate::year::{PLAN, THREE, USED, Year};
+use house_books::year::{PLAN, THREE, USED, Year};
+use house_books::{
+    House, Mark, Plan, YEAR, begin_and_append, has_one_rate, put_fixed_rate, same_book_states,
+    taken_up,
+};
 use std::alloc::{AllocError, Global};
 use std::io;
 use tools::ConvertError;

@@ -1,8 +1,7 @@
 // The small book cut around its changes of version and continued in each version.
 use crate::cuts::Continuation;
 use crate::small_book::{Book, HOURS, PLAN, THREE, TWO};
-use crate::tally::Tally;
-use crate::version::Version;
+use house_books::{Tally, Version};
 
 // Cut within the entry with this index, which leaves as many: the entries around a change are the last two of the older version and
 // the first three of the newer.

@@ -1,9 +1,8 @@
 // The three questions over a book (Specification, Questions over a book) against a plain walk over its hours: their temperatures are read from the
 // bytes that end each entry, and made operative by the call on a state.
-use crate::house::House;
-use crate::plan::Plan;
 use crate::walk::state_after;
 use book::BookError;
+use house_books::{House, Plan};
 use std::cmp::OrderedFloat;
 use tools::QuestionError;
 use zone::Refusal;

@@ -1,10 +1,8 @@
 // Bytes behind a small book that are no entry: dropped where they are too few for their version byte, else a false entry.
 use crate::expected::{expected_of_rest, is_answered};
-use crate::layout::{FRONT, LONG_ENTRY, VERSION_PLACE};
-use crate::small_book::{Book, CUT_OFF, HOURS, ROOM, THREE, TWO};
-use crate::tally::Tally;
-use crate::version::{VERSION_BYTES, Version};
+use crate::small_book::{Book, HOURS, ROOM, THREE, TWO};
 use big_endian::{put_byte, put_bytes};
+use house_books::{CUT_OFF, FRONT, LONG_ENTRY, Tally, VERSION_BYTES, VERSION_PLACE, Version};
 
 // The longest rest is longer than any entry.
 const MOST: usize = LONG_ENTRY + 7;

@@ -1,11 +1,10 @@
 // The next hour appended into buffers that have room for so many bytes behind the book: refused with 16 up to one byte below its
 // own length.
-use crate::layout::{ENTRY, LONG_ENTRY};
-use crate::replies::{accepted, is_refused, same_book_states};
 use crate::small_book::{Book, ROOM, TWO};
-use crate::tally::{Tally, count_one};
-use crate::version::{VERSIONS, Version};
 use book::{BookError, BookState};
+use house_books::{
+    ENTRY, LONG_ENTRY, Tally, VERSIONS, Version, accepted, count_one, is_refused, same_book_states,
+};
 
 // The most room is more than any entry needs.
 const MOST: usize = LONG_ENTRY + 3;

@@ -1,14 +1,11 @@
 // The small book cut and continued.
 use crate::cuts::{Continuation, spread};
 use crate::held::check_held;
-use crate::house::House;
-use crate::layout::{ENTRY, HEAD, LONG_ENTRY};
 use crate::passes::check_pass;
 use crate::small_book::{Book, HOURS, PLAN, THREE, TWO, USED};
 use crate::small_changes::print_changes;
 use crate::small_questions::print_questions;
-use crate::tally::Mark;
-use crate::version::{VERSIONS, Version};
+use house_books::{ENTRY, HEAD, House, LONG_ENTRY, Mark, VERSIONS, Version};
 use std::io;
 
 // Where the entries of version 2 and of version 3 begin.

@@ -1,11 +1,9 @@
 // A small book: 40 hours that pass from version 1 to version 2 and from version 2 to version 3.
-use crate::fill::begin_and_append;
-use crate::house::House;
-use crate::layout::{ENTRY, HEAD, LIMITS, LONG_ENTRY};
-use crate::plan::Plan;
-use crate::replies::{made_up, same_book_states, taken_up};
-use crate::tally::Mark;
 use book::{BookState, Reply};
+use house_books::{
+    ENTRY, HEAD, House, LIMITS, LONG_ENTRY, Mark, Plan, begin_and_append, made_up,
+    same_book_states, taken_up,
+};
 use std::fmt;
 use zone::Limits;
 

@@ -2,12 +2,12 @@
 use crate::appends::check_appends;
 use crate::damage::check_damages;
 use crate::follows::check_follows;
-use crate::layout::HEAD;
 use crate::rests::check_rests;
 use crate::rooms::check_rooms;
 use crate::small_book::{Book, USED};
 use crate::stored_limits::check_stored_limits;
 use crate::versions::check_versions;
+use house_books::HEAD;
 use std::io;
 
 fn print_head(rt: &impl Print, whole: &mut Book) -> io::Result<()> {

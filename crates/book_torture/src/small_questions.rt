@@ -1,8 +1,7 @@
 // The small book cut at every byte, and asked the three questions.
-use crate::layout::HEAD;
 use crate::questions::{Question, temperatures};
 use crate::small_book::{Book, HOURS, PLAN, USED};
-use crate::tally::{Mark, Tally};
+use house_books::{HEAD, Mark, Tally};
 use std::io;
 
 // Start-up's temperature and the hours'.

@@ -1,11 +1,9 @@
 // Other limits in the entries of the small book's version 3: out of their range, and within it.
-use crate::changed::with_bytes;
 use crate::expected::{Expected, expected_at, is_answered};
-use crate::layout::{COOLING_LIMIT_PLACE, LIMITS_PLACE};
 use crate::small_book::{Book, HOURS, PLAN, THREE, USED};
-use crate::tally::{Tally, count_one};
 use big_endian::read_u64_be;
 use book::BookError;
+use house_books::{COOLING_LIMIT_PLACE, LIMITS_PLACE, Tally, count_one, with_bytes};
 use zone::Refusal;
 
 // Patterns of floats that no limit may be: -1, next above the highest limit (1e7 W), the NaN that a calculation gives and another,

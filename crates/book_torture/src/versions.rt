@@ -1,15 +1,12 @@
 // Small books that pass to a newer version at each of their hours in turn, with one version byte changed, and what take-up answers
 // of them.
-use crate::changed::with_bytes;
 use crate::expected::{Expected, expected_with_version, is_answered};
-use crate::house::House;
-use crate::layout::VERSION_PLACE;
-use crate::plan::Plan;
 use crate::small_book::{Book, HOURS};
-use crate::tally::{Tally, count_one};
-use crate::version::{VERSION_BYTES, Version};
 use big_endian::byte_at;
 use book::BookError;
+use house_books::{
+    House, Plan, Tally, VERSION_BYTES, VERSION_PLACE, Version, count_one, with_bytes,
+};
 use zone::Refusal;
 
 // The books, how many of the answers to changed bytes were as expected, and which answers were expected: `held` counts acceptances.

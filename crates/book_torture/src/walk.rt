@@ -2,15 +2,12 @@
 // start-up and hour step give what it holds.
 ghost use Rattle.std.specs.Prelude.{◌<◌, length, IfOk, IfSome};
 
-use crate::entry::Entry;
-use crate::house::House;
-use crate::layout::{
-    NODES, RESULT_TEMPERATURES, RESULTS, TEMPERATURES, TRIGGER, TRIGGER_RATE, VERSION_PLACE,
-};
-use crate::plan::Entries;
-use crate::version::Version;
 use big_endian::{put_byte, read_f64s_be, write_f64_be, write_f64s_be};
 use book::BookError;
+use house_books::{
+    Entries, Entry, House, NODES, RESULT_TEMPERATURES, RESULTS, TEMPERATURES, TRIGGER,
+    TRIGGER_RATE, VERSION_PLACE, Version,
+};
 use zone::{Demand, Refusal, State};
 
 // The results of an hour as an entry holds them.

@@ -5,6 +5,7 @@ ghost use Rattle.big_endian.specs.Bytes.{written};
 
 use big_endian::{bytes_at, put_bytes};
 
+// What is answered of these bytes with some of them changed.
 #[tactic(auto, using(crate::proofs::Laws::PutBack::put_back))]
 pub fn with_bytes<const N: usize, R, F: FnOnce(&[u8]) -> R>(
     b: &mut [u8],

@@ -14,8 +14,7 @@ pub struct Tally {
 #[derive(Clone, Copy)]
 pub struct Mark(pub bool);
 
-// One more of what is counted. In replay too: to share one line, a crate with a line in crates.txt, a lib.rt and two imports, since
-// `big_endian` counts nothing.
+// One more of what is counted. In replay too, which would need this line and no house.
 pub fn count_one(n: &mut u64) {
     *n = n.saturating_add(1);
 }

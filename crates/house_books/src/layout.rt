@@ -52,3 +52,6 @@ pub const LONG_ENTRY: usize = ENTRY + LIMITS;
 
 // The entries that a book may have.
 pub const YEAR: usize = 8784;
+
+// What stands behind a cut, and behind a book.
+pub const CUT_OFF: u8 = 170;

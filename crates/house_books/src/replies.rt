@@ -22,9 +22,8 @@ pub fn accepted(reply: Reply) -> Option<BookState> {
     reply.answer.ok().map(|()| reply.values)
 }
 
-// No derived equality: by that a NaN is unlike itself, and zeros of either sign are equal. In replay too: `big_endian`
-// knows no state, no crate of the engine compares two, and one that knows them would be a line in crates.txt, a lib.rt and imports on
-// both sides for two conjunctions.
+// No derived equality: by that a NaN is unlike itself, and zeros of either sign are equal. In replay too, which would need
+// two conjunctions and no house.
 pub fn same_states(a: &State, b: &State) -> bool {
     a.nodes == b.nodes && same_floats(&a.temps, &b.temps)
 }

@@ -2,13 +2,12 @@
 use crate::changed::with_bytes;
 use crate::fill::{append_hours, begin_and_append};
 use crate::house::House;
-use crate::layout::{ENTRY, HEAD, LIMITS, LONG_ENTRY, VERSION_PLACE, YEAR};
+use crate::layout::{CUT_OFF, ENTRY, HEAD, LIMITS, LONG_ENTRY, VERSION_PLACE, YEAR};
 use crate::plan::Plan;
 use crate::replies::{
     accepted, has_entries, is_refused, is_take_up_refused, made_up, same_book_states, taken_up,
 };
-use crate::small_book::CUT_OFF;
-use big_endian::byte_at;
+use big_endian::{byte_at, read_u64_be};
 use book::{BookError, BookState, Reply};
 use std::alloc::{AllocError, Global};
 use zone::Refusal;
@@ -30,13 +29,23 @@ pub const MOST: usize = LONG_ENTRY + 1;
 
 const WIDE: usize = USED + MOST;
 
-// The bytes, which each check leaves as it found them, a copy of them, and what the last append handed back.
+// The bytes, which each check leaves as it found them, their hash, since a copy of them would double what a program needs of memory, and
+// what the last append handed back.
 #[derive(Drop)]
 pub struct Year<'a> {
     pub house: &'a House,
     pub bytes: Vec<u8>,
-    whole: Vec<u8>,
+    hash: u64,
     pub end: BookState,
+}
+
+// A number by which two years are told apart: where they differ within one word of eight bytes alone, it always differs.
+fn hash(bytes: &[u8]) -> u64 {
+    let mut hash = 0_u64;
+    for word in bytes.chunks(8) {
+        hash = hash.rotate_left(7).wrapping_mul(11_400_714_819_323_198_485) ^ read_u64_be(word, 0);
+    }
+    hash
 }
 
 fn fill_from(b: &mut [u8], at: usize, x: u8) {
@@ -52,11 +61,11 @@ impl<'a> Year<'a> {
         let Some(end) = begin_and_append(house, YEAR, PLAN, &mut bytes) else {
             return Ok(None);
         };
-        let whole = bytes.clone()?;
+        let hash = hash(&bytes);
         Ok(Some(Year {
             house,
             bytes,
-            whole,
+            hash,
             end,
         }))
     }
@@ -66,7 +75,7 @@ impl<'a> Year<'a> {
     }
 
     fn is_unchanged(&self) -> bool {
-        self.bytes.as_slice() == self.whole.as_slice()
+        hash(&self.bytes) == self.hash
     }
 
     // One hour more is refused in a version, which may be one that no hour has, and changes nothing.
