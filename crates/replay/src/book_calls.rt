@@ -14,6 +14,9 @@ const ROOM: usize = 1024;
 // So is the converter's output.
 const OUTPUT_ROOM: usize = 2048;
 
+// So many bytes of an entry are compared as one value.
+const WORD: usize = 4;
+
 // Every byte of a buffer before a call.
 pub const FILLED: u8 = 85;
 
@@ -50,7 +53,7 @@ fn bytes_from(bytes: &[u8; ROOM], place: usize) -> [u8; ROOM] {
     taken
 }
 
-// With the entry that it writes. What a row gives as more room than there is, the entry is looked for before its place.
+// With the whole words of the entry that it writes. What a row gives as more room than there is, the entry is looked for before its place.
 pub fn append(row: &Row<'_>, zone: &Zone, seen: &mut Comparison<'_>) -> Result<(), Failure> {
     let given = row.book_state();
     let mut buffer = [FILLED; ROOM];
@@ -66,7 +69,7 @@ pub fn append(row: &Row<'_>, zone: &Zone, seen: &mut Comparison<'_>) -> Result<(
     let after = accepted(&given, &reply, &buffer)?;
     seen.book_state(&after);
     let place = ROOM.wrapping_sub(row.room).wrapping_add(given.used);
-    let length = after.used.saturating_sub(given.used);
+    let length = after.used.saturating_sub(given.used) / WORD * WORD;
     seen.words(bytes_from(&buffer, place).get(..length).unwrap_or(&[]));
     Ok(())
 }

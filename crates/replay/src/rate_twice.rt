@@ -1,5 +1,5 @@
 // An hour with the fixed rate, code 0, and the same hour with code 1 and its rate twice: as target and with windows open.
-use big_endian::{bytes_at, put_byte, put_bytes};
+use big_endian::{bytes_at, put_byte, put_bytes, read_u64_be};
 
 // In an hour's conditions.
 const RATE_CODE: usize = 96;
@@ -14,8 +14,10 @@ const MOST: usize = 113 + 24 * 41;
 // In an entry: where its conditions begin.
 const CONDITIONS: usize = 5;
 
+// Behind the rate stand zeros; with other bytes there an hour is none.
 pub fn has_fixed_rate(conditions: &[u8]) -> bool {
     conditions.get(RATE_CODE).is_some_and(|code| *code == 0)
+        && read_u64_be(conditions, SECOND_RATE) == 0
 }
 
 // The conditions that have the rate twice.
@@ -26,7 +28,7 @@ pub struct RateTwice {
 }
 
 impl RateTwice {
-    // None of conditions with another code.
+    // None of conditions without the fixed rate.
     pub fn of(conditions: &[u8]) -> Option<Self> {
         if !has_fixed_rate(conditions) {
             return None;
