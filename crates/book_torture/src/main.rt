@@ -1,6 +1,7 @@
 // Books cut and damaged. A small book and a whole year, which both pass from version 1 to version 2 and on to version 3, are cut at
-// every byte of some entries and at 2,000 places spread over them, taken up, continued and compared with the book that was never
-// cut; single bytes are changed, versions and limits among them, and bytes stand behind the books.
+// every byte of some entries, the small one at 2,000 places spread over it too (those of the year are early_cuts and late_cuts), taken
+// up, continued and compared with the book that was never cut; single bytes are changed, versions and limits among them, and bytes
+// stand behind the books.
 // What is left of a cut book, and the whole year, is asked when it got warm. Books of old hours, with the fixed rate, are cut, damaged,
 // continued and converted.
 #![tactic(auto)]

@@ -1,7 +1,7 @@
 // A small book: 40 hours that pass from version 1 to version 2 and from version 2 to version 3.
 use book::{BookState, Reply};
 use house_books::{
-    ENTRY, HEAD, House, LIMITS, LONG_ENTRY, Mark, Plan, begin_and_append, made_up,
+    CUT_OFF, ENTRY, HEAD, House, LIMITS, LONG_ENTRY, Mark, Plan, begin_and_append, made_up,
     same_book_states, taken_up,
 };
 use std::fmt;
@@ -23,9 +23,6 @@ pub const PLAN: Plan = Plan {
 pub const USED: usize = HEAD + ENTRY * HOURS + LIMITS * (HOURS - THREE);
 
 pub const ROOM: usize = HEAD + LONG_ENTRY * HOURS;
-
-// What stands behind a cut, and behind a book.
-pub const CUT_OFF: u8 = 170;
 
 // The hours of the small book in the versions of a plan, and what the last append handed back.
 #[derive(Clone, Copy)]
